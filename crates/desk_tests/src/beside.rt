@@ -91,7 +91,7 @@ struct Row {
 }
 
 /// Each after a trade of ten lots that are given up, which are eight entries, six of which touch the group.
-const ROWS: [Row; 11] = [
+const ROWS: &[Row] = &[
     Row {
         lines: "CLAIM C1 1",
         tries: Tries::Once,
@@ -313,7 +313,7 @@ fn try_row<
 #[test]
 fn lines_are_answered_while_a_sweep_is_proposed(rt: HostRuntime) {
     let alloc = rt.alloc();
-    for row in ROWS {
+    for &row in ROWS {
         let book = book_of(alloc).expect(&rt, "a book");
         let annals = annals_of(&rt, alloc, &book);
         try_row::<Brand, Brand, HostRuntime>(

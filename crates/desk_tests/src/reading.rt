@@ -58,7 +58,7 @@ fn reader_after<E: EntryLedger, S: LotLedger, R: Wait + Abort>(
 }
 
 /// A line that is entered from another seat, at most how many entries are read then, and how many there are.
-const PIECES: [(&str, usize, usize); 7] = [
+const PIECES: &[(&str, usize, usize)] = &[
     ("LIMIT G1 EXEC E1 1", 0, 0),
     ("LIMIT G1 EXEC E1 2", 1, 1),
     ("LIMIT G1 EXEC E1 3", 1, 1),
@@ -87,7 +87,7 @@ fn read_in_pieces<E: EntryLedger, S: LotLedger, R: Wait + Abort>(
     let mut seat = seats.pop().expect(rt, "a seat");
     let mut other = seats.pop().expect(rt, "another seat");
     let mut reader = reader_after(rt, alloc, &desk, &mut seat, "DAY 20260105");
-    for (line, most, count) in PIECES {
+    for &(line, most, count) in PIECES {
         let next = after(rt, alloc, &desk, &mut other, line);
         assert_eq!(rt; next_of(rt, &desk, &mut seat), next, "{line}");
         assert_eq!(rt; next_of(rt, &desk, &mut other), next, "{line}");

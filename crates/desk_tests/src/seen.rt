@@ -16,7 +16,7 @@ use std::sync::ledger::Blank;
 
 /// What is said from a seat, what is answered, and how many entries the seat has seen then. What is entered from one seat, the other sees
 /// with its next answer, and not before.
-const FIRST: [(&str, &str, u64); 4] = [
+const FIRST: &[(&str, &str, u64)] = &[
     ("VIEW G9", "UnknownGroup", 2),
     ("SWEEP G9", "UnknownGroup", 2),
     ("SEE 0 G9", "UnknownGroup", 2),
@@ -24,7 +24,7 @@ const FIRST: [(&str, &str, u64); 4] = [
 ];
 
 /// What is said from the other seat after that, which has seen two entries until then.
-const SECOND: [(&str, &str, u64); 5] = [
+const SECOND: &[(&str, &str, u64)] = &[
     ("SWEEP G9", "UnknownGroup", 2),
     ("POSITION A1 XF6", "LONG 0 SHORT 0", 3),
     ("SWEEP G1", "4 SWEPT 0", 4),
@@ -33,7 +33,7 @@ const SECOND: [(&str, &str, u64); 5] = [
 ];
 
 /// What is said from the first seat then, one line after each of which the other enters a command.
-const IN_TURN: [(&str, &str, u64); 6] = [
+const IN_TURN: &[(&str, &str, u64)] = &[
     ("VIEW G1", "VERSION 4", 5),
     ("SEE 0 G1", "VERSION 4", 6),
     ("HELD C1 A1", "ROWS 0", 7),
@@ -118,14 +118,14 @@ fn say_all<E: EntryLedger, S: LotLedger, R: Wait + Abort>(
     let mut seat = seats.pop().expect(rt, "a seat");
     let mut other = seats.pop().expect(rt, "another seat");
     assert_eq!(rt; (seat.seen(), other.seen()), (2, 2));
-    for row in FIRST {
+    for &row in FIRST {
         say(rt, alloc, &desk, &mut seat, row);
     }
-    for row in SECOND {
+    for &row in SECOND {
         say(rt, alloc, &desk, &mut other, row);
     }
     assert_eq!(rt; seat.seen(), 3);
-    for row in IN_TURN {
+    for &row in IN_TURN {
         say(rt, alloc, &desk, &mut seat, row);
         enter(rt, alloc, &desk, &mut other);
     }

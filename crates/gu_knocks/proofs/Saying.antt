@@ -1,10 +1,13 @@
 -- All that was said, and what an intake keeps of it.
-use Rattle.std.proofs.Common.{◌≡◌, List, ℕ, [], ◌∷◌, ◌++◌, Option, None, IfNone, IfSome, MatchOption, Some, subst, sym, ◌∙◌, ap}
+use Rattle.std.proofs.Common.{◌≡◌, List, ℕ, [], ◌∷◌, ◌++◌, Option, None, IfNone, IfSome, MatchOption, Some, subst, inl}
 use Rattle.gu_fix.specs.Stream.{AreFrames, HasNoFrameYet, IsFirstFrame, LeadsOn}
 use Rattle.gu_fix.proofs.StreamLaws.{frames_exist, leads_on_then}
 use Rattle.gu_secrets.specs.declared.row.SecretRow.{SecretRow}
 use Rattle.gu_terms.specs.declared.firm.FirmId.{FirmId}
+use Rattle.gu_knocks.specs.Hearing.{AdmitsFirst, AnswersFirst, EntersAs, IsTurnedAway}
 use Rattle.gu_knocks.specs.Knocks.{Judges, JudgesFirst}
+use Rattle.gu_knocks.specs.declared.guard.Judged.TheVariants as judged
+use Rattle.gu_knocks.specs.declared.heard.Glance.{Glance}
 
 -- what an intake that had this took
 pub kept_so : {A : Type 0} (next : Option A) (P : Type 0) → next ≡ None → IfNone next P → P
@@ -32,3 +35,20 @@ judged_first rows firms said kept piece taken message rest answer leads is first
     let begun : IsFirstFrame (kept ++ piece) message rest = subst (λ (s : List ℕ). IsFirstFrame s message rest) is first in
     let are : AreFrames (said ++ piece) (message ∷ later.0) = leads piece (message ∷ later.0) (rest, begun, later.1) in
     record { message = message; rest = are.0; first = are.1; judged = judged }
+
+-- who is let in by the first frame is let in by all that was said
+pub enters : (rows : Option (List SecretRow)) (firms : List FirmId) (said kept piece taken message rest : List ℕ) (firm : Option FirmId)
+    → LeadsOn said [] kept → taken ≡ kept ++ piece → IsFirstFrame taken message rest → AdmitsFirst rows firms message firm → EntersAs rows firms (said ++ piece) firm
+enters (Some rows) firms said kept piece taken message rest (Some firm) leads is first admits =
+    judged_first rows firms said kept piece taken message rest (Some firm) leads is first admits
+enters (Some rows) firms said kept piece taken message rest None leads is first admits = absurd admits
+enters None firms said kept piece taken message rest (Some firm) leads is first admits = absurd admits
+enters None firms said kept piece taken message rest None leads is first admits = tt
+
+-- and so is who is turned away
+pub turned_away : (rows : Option (List SecretRow)) (firms : List FirmId) (said kept piece taken message rest : List ℕ) (glance : Glance)
+    → LeadsOn said [] kept → taken ≡ kept ++ piece → IsFirstFrame taken message rest → AnswersFirst rows firms message (judged.Refuses glance)
+    → IsTurnedAway rows firms (said ++ piece)
+turned_away (Some rows) firms said kept piece taken message rest glance leads is first answers =
+    inl (judged_first rows firms said kept piece taken message rest None leads is first answers)
+turned_away None firms said kept piece taken message rest glance leads is first answers = absurd answers

@@ -1,32 +1,45 @@
-//! What is known of a connection by all that it has said.
+//! What is known about a connection from all that it has sent.
 
-ghost use Rattle.std.specs.Prelude.{◌≡◌, ◌++◌, IfOk};
+ghost use Rattle.std.specs.Prelude.{◌≡◌, ◌<◌, ◌++◌, length, IfOk};
+ghost use Rattle.std.specs.Option.{option_map};
+ghost use Rattle.gu_fix.specs.Stream.{HasNoFrameYet};
 ghost use Rattle.gu_knocks.specs.Hearing.{IsHeard};
+ghost use Rattle.gu_knocks.specs.declared.heard.TheConstants.{MOST_SAID};
 
-use crate::guard::Guard;
+use crate::guard::{Guard, Judged};
 use crate::knock::Knock;
 use gu_fix::FeedError;
+use gu_log::LogonFault;
 use gu_terms::FirmId;
 use std::alloc::{AllocError, Global};
 
-/// With more bytes than this before its first message is whole, nobody is let in.
+/// If there are secrets, a connection that sends more bytes than this without a whole message is turned away.
 const MOST_SAID: usize = 16_384;
 
-/// What is known once more bytes have come.
+/// What a first message shows.
+#[derive(Clone, Copy, Debug)]
+pub struct Glance {
+    /// The firm whose secret fits; if the connection is turned away, the firm that it names, if that may come in here.
+    pub firm: Option<FirmId>,
+    /// Its fault, or what its fault is if its session refuses it.
+    pub fault: LogonFault,
+}
+
+/// What is known after more bytes have come.
 #[derive(Drop)]
 pub enum Heard {
     /// The first message isn't whole yet.
     Waits(Knock),
-    /// The first message lets this firm in. `said` is all that has come, the message among it: a session is to read it again.
-    LetsIn { firm: FirmId, said: Vec<u8> },
-    /// Nobody is let in.
-    Refuses,
+    /// The connection is let in. `said` is all that has come, for its session to read.
+    LetsIn { glance: Glance, said: Vec<u8> },
+    /// The connection is turned away.
+    Refuses(Glance),
 }
 
 impl Knock {
-    /// Takes the bytes that come next, and says what is known with them. Where an allocation fails, all is lost.
+    /// Takes the next bytes, and returns what is known with them. If an allocation fails, the connection is lost.
     pub fn hear(self, alloc: Global, guard: Guard<'_>, piece: &[u8]) -> Result<Heard, AllocError>
-        ensures { IfOk result (IsHeard guard.entry.secrets.now guard.entry.firms.now (self ++ piece.now)) }
+        ensures { IfOk result (IsHeard (option_map (λ secrets. secrets.now) guard.entry.secrets) guard.entry.firms.now (self ++ piece.now)) }
     {
         let Knock {
             mut said,
@@ -40,11 +53,25 @@ impl Knock {
         match intake.next_frame() {
             Err(FeedError::Memory) => Err(AllocError),
             Ok(Some(frame)) => match guard.judge(alloc, frame)? {
-                Some(firm) => Ok(Heard::LetsIn { firm, said }),
-                None => Ok(Heard::Refuses),
+                Judged::LetsIn(glance) => Ok(Heard::LetsIn { glance, said }),
+                Judged::Refuses(glance) => Ok(Heard::Refuses(glance)),
             },
-            Ok(None) if said.len() > MOST_SAID => Ok(Heard::Refuses),
-            Ok(None) => Ok(Heard::Waits(Knock { said, intake })),
+            Ok(None) if said.len() <= MOST_SAID => Ok(Heard::Waits(Knock { said, intake })),
+            Ok(None) => Ok(after_too_much(guard, said)),
         }
+    }
+}
+
+/// Returns what is known about a connection that has sent too much before its first message is whole.
+fn after_too_much(guard: Guard<'_>, said: Vec<u8>) -> Heard
+    ensures { HasNoFrameYet said.items → MOST_SAID < length said.items → IsHeard (option_map (λ secrets. secrets.now) guard.entry.secrets) guard.entry.firms.now said.items result }
+{
+    let glance = Glance {
+        firm: None,
+        fault: LogonFault::TooLong,
+    };
+    match guard.secrets {
+        Some(_) => Heard::Refuses(glance),
+        None => Heard::LetsIn { glance, said },
     }
 }

@@ -1,4 +1,4 @@
-//! A connection that hasn't said its first message whole.
+//! A connection whose first message isn't whole yet.
 
 ghost use Rattle.std.specs.Prelude.{◌≡◌, [], length};
 
@@ -6,7 +6,7 @@ use gu_fix::Intake;
 use std::alloc::Global;
 use std::marker::Model;
 
-/// A connection that hasn't said its first message whole. To a contract it is the bytes that have come.
+/// A connection whose first message isn't whole yet. To a contract it is the bytes that have come.
 #[derive(Drop)]
 pub struct Knock {
     pub(crate) said: Vec<u8>,
@@ -25,7 +25,7 @@ impl Model for Knock {
 }
 
 impl Knock {
-    /// Creates that of a connection from which nothing has come.
+    /// Creates it for a connection that has sent nothing yet.
     pub fn new(alloc: Global) -> Self
         ensures { result ≡ [] }
     {

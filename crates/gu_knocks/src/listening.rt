@@ -1,46 +1,51 @@
 //! A connection that is listened to before there is a session.
 
 ghost use Rattle.std.specs.Prelude.{◌≡◌, ◌<◌, [], length, IfOk};
+ghost use Rattle.std.specs.Option.{option_map};
 ghost use Rattle.gu_knocks.specs.Listening.{Hears, Listens};
 
 use crate::guard::Guard;
-use crate::heard::Heard;
+use crate::heard::{Glance, Heard};
 use crate::knock::Knock;
-use gu_terms::FirmId;
 use std::alloc::{AllocError, Global};
 use std::io;
 use std::io::{ErrorKind, Read};
 
-/// A connection that is listened to before there is a session: its stream, and what it has said.
+/// A connection that is listened to before there is a session: its stream, and what it has sent.
 #[derive(Drop)]
 pub struct Listening<T> {
     stream: T,
     knock: Knock,
     /// Whether bytes may have come.
     is_readable: bool,
-    /// Whether its peer sends no more: it is readable until it says so.
+    /// Whether its peer sends no more: it stays readable until its end is read.
     is_ending: bool,
 }
 
-/// What became of a connection that was listened to once more.
+/// What became of a connection after it was listened to once more.
 #[derive(Drop)]
 pub enum Listened<T> {
-    /// It hasn't said its first message whole.
+    /// Its first message isn't whole yet.
     Waits(Listening<T>),
-    /// Its first message lets this firm in. `said` is all that was read, the message among it: a session is to read it again.
+    /// It is let in. `said` is all that was read, for its session to read.
     LetsIn {
-        firm: FirmId,
+        glance: Glance,
         said: Vec<u8>,
         stream: T,
     },
-    /// Nobody is let in.
-    Refuses,
-    /// Its peer has ended before it said anything whole, or its stream failed.
+    /// It is turned away: nothing more is to be read from its stream.
+    Refuses {
+        glance: Glance,
+        stream: T,
+    },
+    /// Its peer ended before its first message was whole.
     Ends,
+    /// Its stream failed.
+    Fails,
 }
 
 impl<T> Listening<T> {
-    /// Creates that of a connection that was accepted.
+    /// Creates it for a connection that was accepted.
     pub fn new(alloc: Global, stream: T) -> Self
         ensures said { result.knock ≡ [] }
         ensures stream { result.stream ≡ stream }
@@ -67,7 +72,7 @@ impl<T> Listening<T> {
         self.is_readable
     }
 
-    /// Returns how many bytes it has said.
+    /// Returns how many bytes it has sent.
     pub fn len(&self) -> usize
         ensures { result ≡ length self.now.knock }
     {
@@ -84,8 +89,8 @@ fn is_wait(error: &io::Error) -> bool {
 }
 
 impl<T: Read + Drop> Listening<T> {
-    /// Listens once: reads what has come, as much as the buffer takes, and looks whether the first message is whole with it. Where an allocation
-    /// fails, the connection is lost.
+    /// Listens once: reads as much as the buffer takes, and tests whether the first message is whole with it. If an allocation fails, the
+    /// connection is lost.
     pub fn listen(
         mut self,
         alloc: Global,
@@ -93,7 +98,7 @@ impl<T: Read + Drop> Listening<T> {
         buffer: &mut [u8],
     ) -> Result<Listened<T>, AllocError>
         requires { 0 < length buffer.old }
-        ensures { IfOk result (Listens T.remaining guard.entry.secrets.now guard.entry.firms.now self) }
+        ensures { IfOk result (Listens T.remaining (option_map (λ secrets. secrets.now) guard.entry.secrets) guard.entry.firms.now self) }
     {
         let count = match self.stream.read(buffer) {
             Ok(0) => return Ok(Listened::Ends),
@@ -102,7 +107,7 @@ impl<T: Read + Drop> Listening<T> {
                 self.is_readable = error.kind() == ErrorKind::Interrupted;
                 return Ok(Listened::Waits(self));
             }
-            Err(_) => return Ok(Listened::Ends),
+            Err(_) => return Ok(Listened::Fails),
         };
         let is_readable = count == buffer.len() || self.is_ending;
         self.hear(alloc, guard, &buffer[..count], is_readable)
@@ -116,7 +121,7 @@ impl<T: Read + Drop> Listening<T> {
         piece: &[u8],
         is_readable: bool,
     ) -> Result<Listened<T>, AllocError>
-        ensures { IfOk result (Hears guard.entry.secrets.now guard.entry.firms.now self piece.now) }
+        ensures { IfOk result (Hears (option_map (λ secrets. secrets.now) guard.entry.secrets) guard.entry.firms.now self piece.now) }
     {
         let Listening {
             stream,
@@ -131,8 +136,12 @@ impl<T: Read + Drop> Listening<T> {
                 is_readable,
                 is_ending,
             })),
-            Heard::LetsIn { firm, said } => Ok(Listened::LetsIn { firm, said, stream }),
-            Heard::Refuses => Ok(Listened::Refuses),
+            Heard::LetsIn { glance, said } => Ok(Listened::LetsIn {
+                glance,
+                said,
+                stream,
+            }),
+            Heard::Refuses(glance) => Ok(Listened::Refuses { glance, stream }),
         }
     }
 }

@@ -2,7 +2,7 @@
 
 use crate::crew::Crew;
 use crate::floor::Floor;
-use crate::informer::Informer;
+use crate::informer::OperatorInformer;
 use crate::talking::talk;
 use crossbeam_channel::{Receiver, Sender};
 use gu_console::{Console, Operator, Said};
@@ -18,7 +18,7 @@ use std::thread::{Scope, Threads};
 /// How many operators wait for a thread at most.
 const MOST_WAITING: usize = 16;
 
-/// Where the operators of one socket go, and where they come from.
+/// The two ends of the queue of one socket's operators.
 #[derive(Drop)]
 pub struct OperatorEnds {
     pub to: Sender<UnixStream>,
@@ -28,13 +28,13 @@ pub struct OperatorEnds {
 }
 
 impl OperatorEnds {
-    /// Creates those of a socket.
+    /// Creates the ends for one socket.
     pub fn new(alloc: Global, is_watch: bool) -> Result<Self, AllocError> {
         let (to, from) = crossbeam_channel::bounded(alloc, MOST_WAITING)?;
         Ok(OperatorEnds { to, from, is_watch })
     }
 
-    /// Returns where they go.
+    /// Returns the end to which operators are sent.
     pub fn into_sender(self) -> Sender<UnixStream> {
         let OperatorEnds {
             to,
@@ -46,24 +46,24 @@ impl OperatorEnds {
     }
 }
 
-/// Returns what the operators of one socket have in common.
+/// Returns what all operators of one socket share.
 fn console_of<'s, E: EntryLedger, S: LotLedger, R: Wait + Clock>(
     floor: &'s Floor<'s, E, S, R>,
     is_watch: bool,
-) -> Console<'s, E, S, R, Floor<'s, E, S, R>, Informer<'s, R>> {
+) -> Console<'s, E, S, R, Floor<'s, E, S, R>, OperatorInformer<'s, R>> {
     Console {
         alloc: floor.alloc,
         rt: floor.rt,
         desk: floor.desk,
         office: floor,
         tally: floor.tally,
-        informs: floor.informer,
+        informs: floor.operator_informer,
         is_watch,
     }
 }
 
-/// Waits for a seat, and answers one operator after another from it, until no more come. An operator that closed the day is kept, since it
-/// waits for the last lines.
+/// Waits for a seat, and answers one operator after another from it until no more come. The connection of an operator that closed the day
+/// is kept, since it waits for the day's last lines.
 fn attend_all<'s, E: EntryLedger, S: LotLedger, R: Wait + Clock>(
     floor: &'s Floor<'s, E, S, R>,
     is_watch: bool,

@@ -2,6 +2,7 @@
 
 ghost use Rattle.std.specs.Prelude.{◌≡◌};
 
+use gu_log::AcceptFault;
 use gu_streams::StreamError;
 use std::alloc::AllocError;
 use std::{fmt, io};
@@ -11,19 +12,28 @@ use std::{fmt, io};
 pub enum Cause {
     /// An allocation failed.
     Memory,
-    /// The system starts no thread.
+    /// The system can't start a thread.
     NoThread,
-    /// The system accepts no connection.
+    /// The system can't accept a connection.
     Accept(io::Error),
 }
 
 impl Cause {
-    /// Says on standard error why no connection is accepted until one has ended. If it can't be written, it is lost.
+    /// Returns the reason that the log gives.
+    pub fn fault(&self) -> AcceptFault {
+        match self {
+            Cause::Memory => AcceptFault::Memory,
+            Cause::NoThread => AcceptFault::Threads,
+            Cause::Accept(error) => AcceptFault::of(error),
+        }
+    }
+
+    /// Prints on standard error why no connection is accepted until one has ended. A line that can't be written is lost.
     pub fn tell_pause<R: Eprint>(&self, rt: &R) {
         let _ = eprintln!(rt; "giveup: no connection is accepted until one has ended: {self}");
     }
 
-    /// Says on standard error why no connection is accepted for now. If it can't be written, it is lost.
+    /// Prints on standard error why no connection is accepted for now. A line that can't be written is lost.
     pub fn tell_retry<R: Eprint>(&self, rt: &R) {
         let _ = eprintln!(rt; "giveup: no connection is accepted for now: {self}");
     }

@@ -1,4 +1,4 @@
-//! The end of a day: the seats come back, the desk is closed, and there are as many receipts as entries.
+//! The end of a day: the seats come back, the desk is closed, and there is one receipt for each entry.
 
 ghost use Rattle.std.specs.Prelude.{◌≡◌, ◌++◌, ◌≤◌, [], length, IfOk, List, OnOk, Option, codes, decimal, is_none, string_bytes};
 ghost use Rattle.gu_terms.specs.Histories.{lots_swept};
@@ -15,7 +15,7 @@ use gu_streams::StreamError;
 use gu_terms::Receipt;
 use std::alloc::{AllocError, Global};
 
-/// The book of a day that has ended, with its receipts, and why not every connection was accepted, where that is so.
+/// The book of a day that has ended, its receipts, and the fault that kept connections from being accepted, if there was one.
 #[derive(Drop)]
 pub struct Closed {
     pub book: Book,
@@ -23,10 +23,10 @@ pub struct Closed {
     pub fault: Option<StreamError>,
 }
 
-/// The three lines of a day's end, and whether the audit found nothing wrong.
+/// The three lines printed at the end of a day, and whether the audit passed.
 pub type DayEnd = Result<(String, bool), AllocError>;
 
-/// What an audit found, in words.
+/// Returns the finding of an audit in words.
 fn audit_text(alloc: Global, found: Option<AuditFault>) -> Result<String, AllocError>
     ensures { IfOk result (λ text. string_bytes text ≡ audit_text found) }
 {
@@ -40,7 +40,7 @@ fn audit_text(alloc: Global, found: Option<AuditFault>) -> Result<String, AllocE
     }
 }
 
-/// What an audit of receipts finds. That it lacked memory is no finding.
+/// Returns what an audit of these receipts finds. Running out of memory is an error and no finding.
 fn finding_of(
     alloc: Global,
     book: &Book,
@@ -55,7 +55,7 @@ fn finding_of(
     }
 }
 
-/// The three lines of a day's end.
+/// Returns the three lines printed at the end of a day.
 fn lines(alloc: Global, entries: usize, swept: u64, audit: &str) -> Result<String, AllocError>
     ensures { IfOk result (λ text. string_bytes text ≡ codes "ENTRIES " ++ (decimal entries
         ++ (codes "\nSWEPT " ++ (decimal swept ++ (codes "\nAUDIT " ++ (audit.now ++ codes "\n")))))) }
@@ -63,8 +63,8 @@ fn lines(alloc: Global, entries: usize, swept: u64, audit: &str) -> Result<Strin
     format!(in alloc; "ENTRIES {entries}\nSWEPT {swept}\nAUDIT {audit}\n")
 }
 
-/// The three lines of the end of a day with this book and these receipts, and whether the audit found nothing wrong: each entry has its
-/// receipt, once, and there are no others.
+/// Returns the three lines printed at the end of a day with this book and these receipts, and whether the audit passed: each entry has
+/// exactly one receipt, and there are no others.
 fn end_of(alloc: Global, book: &Book, receipts: DayReceipts) -> DayEnd
     ensures { IfOk result (λ r. (found : Option FaultOf) × Finds book.now.history receipts found
         × (string_bytes r.0 ≡ day_text book.now.history found) × (r.1 ≡ is_none found)) }
@@ -79,8 +79,8 @@ fn end_of(alloc: Global, book: &Book, receipts: DayReceipts) -> DayEnd
 }
 
 impl Closed {
-    /// The end of the day, its book, and why not every connection was accepted, where that is so. The book comes back also where
-    /// memory doesn't suffice for the audit, and the receipts are gone by then.
+    /// Returns the end of the day, its book, and the fault that kept connections from being accepted, if there was one. If the audit runs
+    /// out of memory, the book still comes back, but the receipts are gone.
     pub fn end(self, alloc: Global) -> (DayEnd, Book, Option<StreamError>)
         ensures text { IfOk result.0 (λ r. (found : Option FaultOf) × Finds self.book.history self.receipts found
             × (string_bytes r.0 ≡ day_text self.book.history found) × (r.1 ≡ is_none found)) }
@@ -97,8 +97,8 @@ impl Closed {
     }
 }
 
-/// Room for what the threads of a day hand back, made before they begin: where there is room enough, the end of the day allocates
-/// nothing until the audit, so it isn't lost where memory has run out.
+/// Room for what the threads of a day hand back, made before they begin: the end of the day then allocates nothing before the audit, so the
+/// day isn't lost if memory has run out.
 #[derive(Drop)]
 pub struct Ending<E: EntryLedger, S: LotLedger> {
     seats: Vec<Seat<E, S>>,
@@ -107,7 +107,7 @@ pub struct Ending<E: EntryLedger, S: LotLedger> {
 }
 
 impl<E: EntryLedger, S: LotLedger> Ending<E, S> {
-    /// Room for the seats, this many, and for their receipts after those that there are.
+    /// Creates room for this many seats, and for their receipts after the existing ones.
     pub fn new(alloc: Global, seats: usize, receipts: Vec<Receipt>) -> Result<Self, AllocError>
         ensures { IfOk result (λ ending. ending.receipts ≡ receipts.items) }
     {
@@ -117,7 +117,7 @@ impl<E: EntryLedger, S: LotLedger> Ending<E, S> {
         })
     }
 
-    /// The room for seats, and the receipts.
+    /// Returns the room for seats, and the receipts.
     fn into_parts(self) -> (Vec<Seat<E, S>>, DayReceipts)
         ensures seats { result.0.items ≡ [] }
         ensures receipts { result.1 ≡ self.receipts }
@@ -127,7 +127,7 @@ impl<E: EntryLedger, S: LotLedger> Ending<E, S> {
     }
 }
 
-/// Adds a seat and its receipts to seats and to receipts, of which the last are theirs.
+/// Adds a seat to the seats, and its receipts after the others.
 fn gather<E: EntryLedger, S: LotLedger>(
     seats: &mut Vec<Seat<E, S>>,
     receipts: &mut DayReceipts,
@@ -142,7 +142,7 @@ fn gather<E: EntryLedger, S: LotLedger>(
     Ok(())
 }
 
-/// The seats; all their receipts come after those that there were.
+/// Returns the seats, and adds all their receipts after the existing ones.
 fn apart<E: EntryLedger, S: LotLedger>(
     keeping: Vec<SeatReceipts<E, S>>,
     mut seats: Vec<Seat<E, S>>,
@@ -157,7 +157,7 @@ fn apart<E: EntryLedger, S: LotLedger>(
     Ok(seats)
 }
 
-/// Closes a desk with what its threads handed back. The receipts come after those that there were before.
+/// Closes a desk, given the seats that its threads handed back. Their receipts come after those that the day began with.
 pub fn close<E: EntryLedger, S: LotLedger>(
     desk: Desk<E, S>,
     keeping: Vec<SeatReceipts<E, S>>,

@@ -1,4 +1,4 @@
-//! The seats of a day, and the threads that have some of them.
+//! The seats of a day, and the threads that hold some of them.
 
 ghost use Rattle.std.specs.Prelude.{◌≡◌, ◌↔◌, ◌+◌, ◌<◌, ◌≤◌, [], ◌∷◌, ◌++◌, vec_capacity, vec_len, IfSome, IfNone, IsSome, OnOk};
 
@@ -9,10 +9,10 @@ use std::alloc::{AllocError, Global};
 use std::sync::Wait;
 use std::thread::{JoinHandle, Threads};
 
-/// A thread that hands back its seat, or nothing where it was given none.
+/// A thread that hands back its seat, or nothing if it was never given one.
 pub type Seated<E, S> = JoinHandle<Option<SeatReceipts<E, S>>>;
 
-/// The seats that no thread has, and the threads. There is room for the seats of all threads beside those that none has.
+/// The seats that no thread holds, and the threads. There is room to take back the seat of every thread.
 #[derive(Drop)]
 pub struct Crew<E: EntryLedger, S: LotLedger> {
     seats: Vec<SeatReceipts<E, S>>,
@@ -21,7 +21,7 @@ pub struct Crew<E: EntryLedger, S: LotLedger> {
 }
 
 impl<E: EntryLedger, S: LotLedger> Crew<E, S> {
-    /// These seats, and no thread yet.
+    /// Creates a crew with these seats and no thread.
     pub fn new(alloc: Global, seats: Vec<SeatReceipts<E, S>>) -> Self
         ensures seats { result.seats.items ≡ seats.items }
         ensures threads { result.threads.items ≡ [] }
@@ -32,7 +32,7 @@ impl<E: EntryLedger, S: LotLedger> Crew<E, S> {
         }
     }
 
-    /// How many seats no thread has.
+    /// Returns how many seats no thread holds.
     pub fn idle(&self) -> usize
         ensures { result ≡ vec_len self.now.seats }
     {
@@ -50,7 +50,7 @@ impl<E: EntryLedger, S: LotLedger> Crew<E, S> {
         self.seats.reserve(self.threads.len() + 1)
     }
 
-    /// Adds a thread, for which there is room.
+    /// Adds a thread. Room for it was made by `reserve`.
     pub fn add(&mut self, thread: Seated<E, S>)
         requires thread { vec_len self.old.threads < vec_capacity self.old.threads }
         requires seat { vec_len self.old.seats + vec_len self.old.threads < vec_capacity self.old.seats }
@@ -60,7 +60,7 @@ impl<E: EntryLedger, S: LotLedger> Crew<E, S> {
         self.threads.push_reserved(thread);
     }
 
-    /// Takes a seat for a thread. There is room for it here, should it come back at once.
+    /// Takes a seat for a thread. There is room here to take it back.
     pub fn take_seat(&mut self) -> Option<SeatReceipts<E, S>>
         ensures some { IsSome result ↔ (0 < vec_len self.old.seats) }
         ensures seat { IfSome result (λ seat. self.old.seats.items ≡ self.new.seats.items ++ seat ∷ []) }
@@ -71,7 +71,7 @@ impl<E: EntryLedger, S: LotLedger> Crew<E, S> {
         self.seats.pop()
     }
 
-    /// Puts back a seat that no thread got.
+    /// Puts back a seat that no thread was given.
     pub fn put_back(&mut self, seat: SeatReceipts<E, S>)
         requires { vec_len self.old.seats + vec_len self.old.threads < vec_capacity self.old.seats }
         ensures seats { self.new.seats.items ≡ self.old.seats.items ++ seat ∷ [] }
@@ -80,7 +80,7 @@ impl<E: EntryLedger, S: LotLedger> Crew<E, S> {
         self.seats.push_reserved(seat);
     }
 
-    /// Gives a seat that no thread has, if there is one, to a thread that waits for it. Where it can't be given, it is put back.
+    /// Gives a free seat, if there is one, to a thread that waits for it. A seat that can't be given is put back.
     pub fn give_seat<R: Wait>(
         &mut self,
         rt: &R,
@@ -100,7 +100,7 @@ impl<E: EntryLedger, S: LotLedger> Crew<E, S> {
         }
     }
 
-    /// Waits for the threads. All seats are back then.
+    /// Waits for the threads to end, and returns all seats.
     pub fn join<R: Threads>(self, rt: &R) -> Vec<SeatReceipts<E, S>> {
         let Crew {
             mut seats,

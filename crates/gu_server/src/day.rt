@@ -1,6 +1,6 @@
 //! A day of the server.
 
-ghost use Rattle.std.specs.Prelude.{◌≡◌, ◌+◌, ◌≤◌, All, length, IfOk, IfSome};
+ghost use Rattle.std.specs.Prelude.{◌≡◌, ◌+◌, ◌≤◌, All, length, is_some, nat_lt, IfOk, IfSome};
 ghost use Rattle.std.proofs.Props.{props};
 ghost use Rattle.gu_terms.specs.Histories.{lots_swept};
 ghost use Rattle.gu_desk.specs.Seats.{IsNew};
@@ -10,9 +10,9 @@ ghost use Rattle.gu_server.specs.Receipts.{AddsReceipts};
 use crate::closers::Closers;
 use crate::closing::{Closed, Ending, close};
 use crate::entrance::LetsIn;
-use crate::firm_places::FirmPlaces;
+use crate::firm_places::{FirmPlaces, Hearers};
 use crate::floor::Floor;
-use crate::informer::Informer;
+use crate::informer::{Informer, OperatorInformer};
 use crate::journal_end::{JournalEnd, journal_end};
 use crate::keeping::News;
 use crate::kept_bell::KeptBell;
@@ -21,9 +21,10 @@ use crate::serving::{Posting, Shift, Writing, shift_at};
 use crossbeam_channel::Sender;
 use gu_book::Book;
 use gu_desk::{BlankAnnals, Desk, EntryLedger, Front as Beginning, LotLedger, Seat};
-use gu_houses::{OpenOrders, SeatReceipts, Tally};
+use gu_houses::{OpenOrders, Quota, SeatReceipts, Shares, Tally};
 use gu_journal::Sink;
 use gu_keeping::{Chain, Keeper};
+use gu_log::EventLog;
 use gu_posts::Posts;
 use gu_secrets::Secrets;
 use gu_sockets::{PollBell, SocketPoller};
@@ -38,15 +39,15 @@ use std::sync::ledger::Blank;
 use std::sync::{Mutex, Wait};
 use std::thread::Threads;
 
-/// How many milliseconds answers to a connection are held of which none goes out.
+/// How many milliseconds a connection may take none of its answers.
 pub const WRITE_WAIT_MS: u64 = 10_000;
 
-/// The journal of a day, which has the lines of each entry that the day begins with.
+/// The journal of a day, which already has the lines of the entries that the day begins with.
 #[derive(Drop)]
 pub struct DayJournal<K: Sink> {
     /// Where its text is kept.
     pub sink: K,
-    /// These entries in short.
+    /// The digest of those entries.
     pub chain: Chain,
 }
 
@@ -54,19 +55,22 @@ pub struct DayJournal<K: Sink> {
 #[derive(Drop)]
 pub struct Opening<K: Sink> {
     pub book: Book,
-    /// The book's history, as it will go on.
+    /// The book's history, which the day extends.
     pub annals: BlankAnnals,
     /// The receipts of the entries that the book has.
     pub receipts: Vec<Receipt>,
-    /// The journal that is written while the day goes on, if there is one.
+    /// The journal to be written during the day, if there is one.
     pub journal: Option<DayJournal<K>>,
     /// How firms are served.
     pub service: Service,
-    /// The secrets by which they are let in, if there are any.
+    /// The secrets that firms need to log on, if there are any.
     pub secrets: Option<Secrets>,
-    /// The order of every K-th accepted give-up of a connection, K being this, is sent to the sweepers; with 0, none is.
+    /// Every so many accepted give-ups of a connection, a sweep of the group is ordered; with 0, none is.
     pub every: u64,
-    /// How many milliseconds answers to a connection are held of which none goes out, after which it ends. `WRITE_WAIT_MS` is the desk's.
+    /// The share, in percent, that the sessions of one firm may have of the entries for which the book has room, and of a group's open
+    /// offers. 100 is no bound.
+    pub share: u16,
+    /// How many milliseconds a connection may take none of its answers before it is closed. `WRITE_WAIT_MS` is what the desk uses.
     pub write_wait_ms: u64,
     /// The blanks of the ledgers of entries and of swept lots.
     pub entries: Blank,
@@ -78,7 +82,8 @@ pub struct Opening<K: Sink> {
 }
 
 impl<K: Sink + Drop> Opening<K> {
-    /// Returns what a day begins with that has no secrets and no orders of sweeps, until `secrets` and `every` say otherwise.
+    /// Creates what a day begins with. It has no secrets, orders no sweeps and bounds no shares until `secrets`, `every` and `share` are
+    /// set.
     pub fn new(
         alloc: Global,
         book: Book,
@@ -89,7 +94,8 @@ impl<K: Sink + Drop> Opening<K> {
         requires { IfSome journal (λ j. IsChainOf j.chain book.history) }
         ensures book { IfOk result (λ opening. (opening.book ≡ book) × (opening.receipts ≡ receipts)) }
         ensures journal { IfOk result (λ opening. opening.journal ≡ journal) }
-        ensures served { IfOk result (λ opening. (opening.service ≡ service) × (opening.every ≡ 0) × (opening.write_wait_ms ≡ 10000)) }
+        ensures served { IfOk result (λ opening. (opening.service ≡ service) × (opening.every ≡ 0) × (opening.share ≡ 100)
+            × (opening.write_wait_ms ≡ 10000)) }
     {
         let annals = BlankAnnals::of(alloc, &book)?;
         let parts = service.seats() as u64 + 1;
@@ -101,6 +107,7 @@ impl<K: Sink + Drop> Opening<K> {
             service,
             secrets: None,
             every: 0,
+            share: 100,
             write_wait_ms: WRITE_WAIT_MS,
             entries: Blank::new(parts),
             swept: Blank::new(parts),
@@ -108,7 +115,7 @@ impl<K: Sink + Drop> Opening<K> {
     }
 }
 
-/// A desk over a book, with its seats.
+/// Opens a desk over a book, and returns it with its seats.
 fn opened<E: EntryLedger, S: LotLedger>(
     alloc: Global,
     book: Book,
@@ -134,14 +141,26 @@ fn opened<E: EntryLedger, S: LotLedger>(
     }
 }
 
-/// How the day is written: what is told of entries, and what keeps them.
+/// Returns the shares of the firms of a book, if one firm may make less than all.
+fn shares_of(alloc: Global, book: &Book, percent: u16) -> Result<Option<Shares>, AllocError>
+    ensures { IfOk result (λ shares. is_some shares ≡ nat_lt percent 100) }
+{
+    if percent < 100 {
+        let quota = Quota::of(percent, book);
+        Ok(Some(Shares::new(alloc, book.reference().firms(), quota)?))
+    } else {
+        Ok(None)
+    }
+}
+
+/// The journal's thread as it is set up: where entries are reported, and what writes them.
 #[derive(Drop)]
 struct Pen<E: EntryLedger, K: Sink> {
     news: Option<Sender<News>>,
     writing: Option<Writing<E, K>>,
 }
 
-/// Returns the beginning of a desk's history that its last seat has seen, if it has a seat. The seats stay as they are.
+/// Returns the part of the desk's history that its last seat has seen, if there is a seat. The seats stay as they are.
 fn front_of<E: EntryLedger, S: LotLedger, R: Wait>(
     rt: &R,
     desk: &Desk<E, S>,
@@ -157,7 +176,7 @@ fn front_of<E: EntryLedger, S: LotLedger, R: Wait>(
     Some(front)
 }
 
-/// Returns how a day is written whose journal has the entries of this front.
+/// Returns how a day is written if its journal has the entries up to this point.
 fn pen_of<E: EntryLedger, K: Sink + Drop>(
     alloc: Global,
     front: Option<Beginning<E>>,
@@ -181,7 +200,7 @@ fn pen_of<E: EntryLedger, K: Sink + Drop>(
     })
 }
 
-/// Seats that keep their receipts.
+/// Returns the seats as seats that keep their receipts.
 fn with_receipts<E: EntryLedger, S: LotLedger>(
     alloc: Global,
     seats: Vec<Seat<E, S>>,
@@ -195,7 +214,7 @@ fn with_receipts<E: EntryLedger, S: LotLedger>(
     Ok(keeping)
 }
 
-/// What watches the connections of each worker, and the bells that wake them.
+/// A poller for each worker's connections, and the bells that wake the workers.
 #[derive(Drop)]
 struct Watches {
     pollers: Vec<SocketPoller>,
@@ -203,7 +222,7 @@ struct Watches {
 }
 
 impl Watches {
-    /// Creates those of workers that aren't there yet, with room for this many.
+    /// Creates none yet, with room for this many workers.
     fn new(alloc: Global, workers: usize) -> Result<Self, AllocError> {
         Ok(Watches {
             pollers: Vec::with_capacity(alloc, workers)?,
@@ -211,7 +230,7 @@ impl Watches {
         })
     }
 
-    /// Adds what watches the connections of one more worker.
+    /// Adds the poller and the bell of one more worker.
     fn add(&mut self, poller: SocketPoller, bell: PollBell) -> Result<(), AllocError> {
         self.pollers.push(poller)?;
         self.bells.push(bell)?;
@@ -219,7 +238,7 @@ impl Watches {
     }
 }
 
-/// Creates what watches the connections of this many workers.
+/// Creates the pollers and bells of this many workers.
 fn watches_of<R: Net>(rt: &R, alloc: Global, workers: usize) -> Result<Watches, StreamError> {
     let mut watches = Watches::new(alloc, workers)?;
     for _worker in 0..workers {
@@ -231,7 +250,8 @@ fn watches_of<R: Net>(rt: &R, alloc: Global, workers: usize) -> Result<Watches, 
     Ok(watches)
 }
 
-/// Returns how many entries are kept as a day begins, whose book has this many: all of them. A day without a journal keeps each at once.
+/// Returns how many entries count as kept when a day begins with this many: all of them. Without a journal every later entry counts as kept
+/// at once.
 fn kept_at_first<K: Sink>(journal: &Option<DayJournal<K>>, entries: usize) -> u64 {
     match journal {
         Some(_) => entries as u64,
@@ -243,24 +263,25 @@ fn kept_at_first<K: Sink>(journal: &Option<DayJournal<K>>, entries: usize) -> u6
 #[derive(Drop)]
 pub struct Served<K: Sink> {
     pub closed: Closed,
-    /// The operators that closed the day, and wait for its last lines.
+    /// The operators that closed the day and wait for its last lines.
     pub closers: Closers,
     /// What became of its journal, if it has one.
     pub journal: Option<JournalEnd<K>>,
 }
 
-/// By what connections come in on a day, and what wakes who waits there. If firms have doors of their own, each firm of the book's reference
-/// has one, and their numbers are the firms' places there.
+/// Where connections come in, and the bell that wakes the thread that waits there. If firms have doors, each firm of the book's reference
+/// has one, numbered by the firm's place in it.
 #[derive(Drop)]
 pub struct Front<D> {
     pub door: D,
     pub bell: PollBell,
 }
 
-/// Opens a desk over a book, serves the connections that come in, and closes the desk after the last one. The port and the doors of firms are
-/// closed once the last connection was accepted, or an operator closes the day. Where none can be accepted, standard error says so at once: it is tried again each time that one
-/// has ended, or, where the day goes on until it is closed, soon after. What is done is printed at a terminal, where there is one. A day that
-/// has a journal shows nothing before it is kept there, and ends where nothing more can be kept.
+/// Opens a desk over a book, serves the connections that come in, and closes the desk after the last one. The port and the firms' doors are
+/// closed once the last connection was accepted or an operator closes the day. If connections can't be accepted, standard error or the log
+/// says so at once, and the desk tries again whenever one has ended or, on a day that goes on until it is closed, soon after. Progress is
+/// printed at a terminal, if there is one. A day with a journal shows nothing before the journal has it, and ends if the journal can't be
+/// written. Events are noted in the log.
 pub fn serve_day<
     E: EntryLedger + Send + Sync,
     S: LotLedger + Send + Sync,
@@ -273,6 +294,7 @@ pub fn serve_day<
     alloc: Global,
     opening: Opening<K>,
     front: Front<D>,
+    log: &EventLog,
     terminal: Option<T>,
 ) -> Result<Served<K>, StreamError>
 where
@@ -296,14 +318,21 @@ where
         service,
         secrets,
         every,
+        share,
         write_wait_ms,
         entries,
         swept,
     } = opening;
+    let shares = shares_of(alloc, &book, share)?;
     let open_orders = OpenOrders::new(alloc, book.reference().groups())?;
     let firms = Vec::from_slice(alloc, book.reference().firms())?;
     let tally = Tally::new();
-    let firm_places = FirmPlaces::new(alloc, firms.as_slice(), &tally, service)?;
+    let hearers = Hearers {
+        rt,
+        tally: &tally,
+        log,
+    };
+    let firm_places = FirmPlaces::new(alloc, firms.as_slice(), hearers, service)?;
     let Watches { pollers, bells } = watches_of(rt, alloc, service.workers)?;
     let Front { door, bell } = front;
     let kept = kept_at_first(&journal, book.history().len());
@@ -314,7 +343,10 @@ where
     let (desk, mut seats) = opened::<E, S>(alloc, book, annals, service.seats(), entries, swept)?;
     let front = front_of(rt, &desk, &mut seats);
     let Pen { news, writing } = pen_of(alloc, front, journal)?;
-    let informer = Informer::new(rt, &posts, news);
+    let informer = Informer::new(rt, &posts, news, log);
+    let operator_informer = OperatorInformer {
+        informer: &informer,
+    };
     let seats = with_receipts(alloc, seats)?;
     let ending = Ending::new(alloc, seats.len(), receipts)?;
     let floor = Floor {
@@ -323,12 +355,15 @@ where
         desk: &desk,
         firms: firms.as_slice(),
         secrets: secrets.as_ref(),
+        shares: shares.as_ref(),
         firm_places: &firm_places,
         posts: &posts,
         informer: &informer,
+        operator_informer: &operator_informer,
         kept_bell: &kept_bell,
         open_orders: &open_orders,
         tally: &tally,
+        log,
         service,
         every,
         write_wait_ms,

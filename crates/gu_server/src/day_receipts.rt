@@ -1,4 +1,4 @@
-//! The receipts of a day, as the threads hand them back.
+//! The receipts of a day, in the parts that its threads hand back.
 
 ghost use Rattle.std.specs.Prelude.{◌≡◌, ◌++◌, IfErr, IfOk, OnOk};
 ghost use Rattle.gu_desk.specs.Audits.{AreReceiptsOf, IsFirstFault};
@@ -10,7 +10,7 @@ use gu_terms::Receipt;
 use std::alloc::{AllocError, Global};
 use std::marker::Model;
 
-/// Receipts in parts, one for each thread that kept some. To a contract it is the list of all of them.
+/// Receipts in parts, one for each thread that kept some. To a contract it is the list of all receipts.
 ///
 /// A part is added as it is: no receipt is moved, and where there is room for the part nothing is allocated.
 #[derive(Drop)]
@@ -30,7 +30,7 @@ impl Model for DayReceipts {
 }
 
 impl DayReceipts {
-    /// These receipts, with room for this many parts more.
+    /// Creates one with these receipts, and room for this many more parts.
     pub fn new(alloc: Global, first: Vec<Receipt>, more: usize) -> Result<Self, AllocError>
         ensures { IfOk result (λ receipts. receipts ≡ first.items) }
     {
@@ -48,7 +48,7 @@ impl DayReceipts {
         Ok(())
     }
 
-    /// Whether they are those of a book, one for each entry; else their first fault.
+    /// Audits them: each entry of the book has exactly one of them, and there are no others. Otherwise the first fault is the error.
     pub fn audit(&self, alloc: Global, book: &Book) -> Result<(), AuditFault>
         ensures ok { OnOk result (AreReceiptsOf book.now.history self.now) }
         ensures fault { IfErr result (IsFirstFault book.now.history self.now) }

@@ -1,4 +1,4 @@
-//! Accepting connections, each for the worker that has the fewest.
+//! Accepts connections, and gives each to the worker that has the fewest.
 
 ghost use Rattle.std.specs.Prelude.{◌≡◌, None, Some, IfSome, IsSomeAnd, slice_get};
 ghost use Rattle.std.specs.Option.{option_map};
@@ -8,22 +8,24 @@ use crate::floor::Floor;
 use crate::working::{Calls, SocketCall};
 use crossbeam_channel::Sender;
 use gu_desk::{EntryLedger, LotLedger};
+use gu_log::{Event, Refusal, Way};
 use gu_posts::{Call, Failure};
 use gu_sockets::{Caller, Doorway, OperatorDoor};
 use gu_streams::StreamError;
 use gu_terms::FirmId;
 use std::io;
 use std::os::unix::net::UnixStream;
+use std::rt::Clock;
 use std::sync::Wait;
 use std::time::Duration;
 
-/// How many connections are accepted in one go at most.
+/// How many connections are accepted in one go.
 const MOST_AT_ONCE: u32 = 64;
 
-/// After how many milliseconds it is tried again to accept, where that failed.
+/// After how many milliseconds accepting is tried again if it failed.
 const RETRY_MS: u64 = 100;
 
-/// Returns the fault of a day one of whose workers couldn't go on.
+/// Returns the fault of a day if one of its workers failed.
 fn error_of(failure: Failure) -> StreamError {
     match failure {
         Failure::Memory => StreamError::Memory,
@@ -31,22 +33,37 @@ fn error_of(failure: Failure) -> StreamError {
     }
 }
 
-/// By what connections come in.
+/// Reports why no connection is accepted for now: in the log, if there is one, and otherwise on standard error.
+fn tell_pause<E: EntryLedger, S: LotLedger, R: Wait + Clock + Eprint>(
+    floor: &Floor<'_, E, S, R>,
+    cause: &Cause,
+) {
+    if !floor.log.is_silent() {
+        let reason = cause.fault();
+        floor.note(Event::AcceptingPaused { reason });
+    } else if floor.service.is_until_closed {
+        cause.tell_retry(floor.rt);
+    } else {
+        cause.tell_pause(floor.rt);
+    }
+}
+
+/// Where connections come in.
 pub trait LetsIn {
-    /// Waits until a connection comes, the bell is rung or this time has passed. With no time it waits as long as it takes.
+    /// Waits until a connection comes, the bell is rung or this time has passed. Without a time it waits as long as it takes.
     fn wait(&mut self, most: Option<Duration>) -> io::Result<()>;
 
     /// Returns whether a connection may be waiting.
     fn is_due(&self) -> bool;
 
-    /// Accepts a connection of a firm, if one is waiting. The number of the door by which it came, if it came by one, is the place of the door's
-    /// firm among the firms of the book's reference.
+    /// Accepts a firm's connection, if one is waiting. If it came by a door, the door's number is the firm's place among the firms of the
+    /// book's reference.
     fn accept(&mut self) -> io::Result<Option<Caller>>;
 
-    /// Accepts a connection of an operator, if one is waiting.
+    /// Accepts an operator's connection, if one is waiting.
     fn accept_operator(&mut self, which: OperatorDoor) -> io::Result<Option<UnixStream>>;
 
-    /// Closes the port and the doors of firms: from now on they refuse.
+    /// Closes the port and the firms' doors: connections are refused from now on.
     fn close_firms(&mut self);
 }
 
@@ -72,8 +89,8 @@ impl LetsIn for Doorway {
     }
 }
 
-/// Returns the call of a firm that came in. One that came by a door is of the firm at the place in the list that is the door's number; if
-/// there is none, there is no call.
+/// Returns the call of a connection that was accepted. One that came by a door belongs to the firm at the door's number in the list; if
+/// there is no such firm, there is no call.
 fn call_of(firms: &[FirmId], caller: Caller, number: u64) -> Option<Call<SocketCall>>
     ensures port { caller.door ≡ None → IsSomeAnd result (λ call. call.door ≡ None) }
     ensures door { IfSome caller.door (λ place. option_map (λ call. call.door) result ≡ option_map Some (slice_get firms.now place)) }
@@ -95,7 +112,15 @@ fn call_of(firms: &[FirmId], caller: Caller, number: u64) -> Option<Call<SocketC
     })
 }
 
-/// Where operators go that come in.
+/// Returns whether a call came by the port or by a door.
+fn way_of(call: &Call<SocketCall>) -> Way {
+    match call.door {
+        Some(firm) => Way::Door(firm),
+        None => Way::Port(u16::try_from(call.port).unwrap_or(0)),
+    }
+}
+
+/// The queues of operators that were accepted.
 #[derive(Drop)]
 pub struct OperatorWays {
     pub console: Sender<UnixStream>,
@@ -103,7 +128,7 @@ pub struct OperatorWays {
 }
 
 impl OperatorWays {
-    /// Sends an operator to the threads that answer at its socket. Where too many wait already, the connection is closed.
+    /// Sends an operator to the threads that answer at its socket. If too many wait already, the connection is closed.
     fn send<R: Wait>(&self, rt: &R, which: OperatorDoor, stream: UnixStream) {
         let to = match which {
             OperatorDoor::Console => &self.console,
@@ -119,21 +144,21 @@ impl OperatorWays {
 #[derive(Drop)]
 pub struct Entrance<'a, D> {
     door: D,
-    /// The ways to the workers, while connections come.
+    /// The workers' queues, as long as connections are accepted.
     calls: Vec<Calls<'a>>,
     operators: OperatorWays,
     /// Whether connections are accepted.
     is_open: bool,
-    /// How many were accepted.
+    /// How many connections were accepted.
     accepted: u64,
-    /// How many were under way when accepting failed, as long as none was accepted since.
+    /// How many were under way when accepting failed, if none was accepted since.
     paused: Option<u64>,
     /// Whether more may wait to be accepted at once.
     has_more: bool,
 }
 
 impl<'a, D: LetsIn + Drop> Entrance<'a, D> {
-    /// Creates an entrance through which nobody has come yet.
+    /// Creates an entrance that has accepted no connection yet.
     pub fn new(door: D, calls: Vec<Calls<'a>>, operators: OperatorWays) -> Self {
         Entrance {
             door,
@@ -146,21 +171,20 @@ impl<'a, D: LetsIn + Drop> Entrance<'a, D> {
         }
     }
 
-    /// Closes the port and the doors of firms. No more connections come to the workers.
+    /// Closes the port and the firms' doors. The workers get no more connections.
     fn close(&mut self) {
         self.door.close_firms();
         self.calls.clear();
         self.is_open = false;
     }
 
-    /// Returns whether all connections have come that are to come.
+    /// Returns whether no more connections are to be accepted.
     fn has_all<E: EntryLedger, S: LotLedger, R>(&self, floor: &Floor<'_, E, S, R>) -> bool {
         let service = floor.service;
         !service.is_until_closed && self.accepted >= service.connections as u64
     }
 
-    /// Returns whether accepting is to be tried, though it may have failed: where each connection has a worker of its own, once one has
-    /// ended since.
+    /// Returns whether to try to accept. After a failure, if each connection has a worker of its own, one has to end first.
     fn may_try<E: EntryLedger, S: LotLedger, R>(&self, floor: &Floor<'_, E, S, R>) -> bool {
         match self.paused {
             Some(busy) => floor.service.is_until_closed || floor.posts.connections() < busy,
@@ -168,8 +192,8 @@ impl<'a, D: LetsIn + Drop> Entrance<'a, D> {
         }
     }
 
-    /// Gives a connection to the worker that has the fewest. Where all places are taken, it is closed without a byte.
-    fn give<E: EntryLedger, S: LotLedger, R: Wait>(
+    /// Gives a connection to the worker that has the fewest. If all places are taken, it is closed silently.
+    fn give<E: EntryLedger, S: LotLedger, R: Wait + Clock>(
         &mut self,
         floor: &Floor<'_, E, S, R>,
         caller: Caller,
@@ -180,14 +204,22 @@ impl<'a, D: LetsIn + Drop> Entrance<'a, D> {
         let Some(call) = call_of(floor.firms, caller, self.accepted) else {
             return;
         };
+        let number = call.number;
+        let way = way_of(&call);
+        floor.note(Event::Accepted { number, way });
         match self.calls.get(worker) {
             Some(calls) if has_place => calls.send(floor.rt, call),
-            _ => drop(call),
+            _ => {
+                drop(call);
+                let reason = Refusal::Full;
+                floor.note(Event::Refused { number, reason });
+            }
         }
     }
 
-    /// Accepts a connection, and returns whether one was waiting. Where each has a worker of its own, none is accepted while all serve one.
-    fn accept_one<E: EntryLedger, S: LotLedger, R: Wait>(
+    /// Accepts a connection, and returns whether one was waiting. If each connection has a worker of its own, none is accepted while every
+    /// worker serves one.
+    fn accept_one<E: EntryLedger, S: LotLedger, R: Wait + Clock>(
         &mut self,
         floor: &Floor<'_, E, S, R>,
     ) -> Result<bool, Cause> {
@@ -199,7 +231,10 @@ impl<'a, D: LetsIn + Drop> Entrance<'a, D> {
         }
         match self.door.accept() {
             Ok(Some(caller)) => {
-                self.paused = None;
+                if self.paused.is_some() {
+                    self.paused = None;
+                    floor.note(Event::AcceptingResumed);
+                }
                 self.give(floor, caller);
                 Ok(true)
             }
@@ -208,8 +243,8 @@ impl<'a, D: LetsIn + Drop> Entrance<'a, D> {
         }
     }
 
-    /// Accepts the connections that wait, as long as more are to come: not too many in one go.
-    fn accept_some<E: EntryLedger, S: LotLedger, R: Wait>(
+    /// Accepts connections that wait, up to a bound, as long as more are to be accepted.
+    fn accept_some<E: EntryLedger, S: LotLedger, R: Wait + Clock>(
         &mut self,
         floor: &Floor<'_, E, S, R>,
     ) -> Result<(), Cause> {
@@ -223,29 +258,27 @@ impl<'a, D: LetsIn + Drop> Entrance<'a, D> {
         Ok(())
     }
 
-    /// Notes that accepting failed, and says so. Where none is under way whose end could change that, the day ends, unless it goes on until
+    /// Notes and reports that accepting failed. If no connection is under way whose end could help, the day ends, unless it goes on until
     /// it is closed.
-    fn pause<E: EntryLedger, S: LotLedger, R: Wait + Eprint>(
+    fn pause<E: EntryLedger, S: LotLedger, R: Wait + Clock + Eprint>(
         &mut self,
         floor: &Floor<'_, E, S, R>,
         cause: Cause,
     ) -> Result<(), StreamError> {
         let busy = floor.posts.connections();
-        if floor.service.is_until_closed {
-            if self.paused.is_none() {
-                cause.tell_retry(floor.rt);
-            }
-        } else if busy == 0 {
+        let goes_on = floor.service.is_until_closed;
+        if !goes_on && busy == 0 {
             return Err(StreamError::from(cause));
-        } else {
-            cause.tell_pause(floor.rt);
+        }
+        if !goes_on || self.paused.is_none() {
+            tell_pause(floor, &cause);
         }
         self.paused = Some(busy);
         drop(cause);
         Ok(())
     }
 
-    /// Accepts the operators that wait. One that can't be accepted is left to a later try.
+    /// Accepts the operators that wait. One that can't be accepted is left for a later try.
     fn accept_operators<E: EntryLedger, S: LotLedger, R: Wait>(
         &mut self,
         floor: &Floor<'_, E, S, R>,
@@ -260,7 +293,7 @@ impl<'a, D: LetsIn + Drop> Entrance<'a, D> {
         }
     }
 
-    /// Returns how long it may wait: not at all where more may wait to be accepted, and not long where accepting failed.
+    /// Returns how long to wait: not at all if more connections may be waiting, and a short time if accepting failed.
     fn longest_wait(&self) -> Option<Duration> {
         if self.is_open && self.has_more {
             return Some(Duration::from_millis(0));
@@ -271,8 +304,8 @@ impl<'a, D: LetsIn + Drop> Entrance<'a, D> {
         None
     }
 
-    /// Waits once, and accepts who has come.
-    fn round<E: EntryLedger, S: LotLedger, R: Wait + Eprint>(
+    /// Waits once, and accepts the connections that have come.
+    fn round<E: EntryLedger, S: LotLedger, R: Wait + Clock + Eprint>(
         &mut self,
         floor: &Floor<'_, E, S, R>,
     ) -> Result<(), StreamError> {
@@ -296,8 +329,8 @@ impl<'a, D: LetsIn + Drop> Entrance<'a, D> {
         }
     }
 
-    /// Accepts who comes, until no more connections are to come and the last has ended.
-    fn accept_all<E: EntryLedger, S: LotLedger, R: Wait + Eprint>(
+    /// Accepts connections until no more are to be accepted and the last has ended.
+    fn accept_all<E: EntryLedger, S: LotLedger, R: Wait + Clock + Eprint>(
         &mut self,
         floor: &Floor<'_, E, S, R>,
     ) -> Result<(), StreamError> {
@@ -313,15 +346,15 @@ impl<'a, D: LetsIn + Drop> Entrance<'a, D> {
         Ok(())
     }
 
-    /// Accepts who comes, until no more connections are to come and the last has ended. On a fault the day is closed. No more connections come
-    /// to the workers then, and no more operators to their threads.
-    pub fn run<E: EntryLedger, S: LotLedger, R: Wait + Eprint>(
+    /// Accepts connections until no more are to be accepted and the last has ended. A fault closes the day. After that the workers get no
+    /// more connections, and the operators' threads no more operators.
+    pub fn run<E: EntryLedger, S: LotLedger, R: Wait + Clock + Eprint>(
         mut self,
         floor: &Floor<'_, E, S, R>,
     ) -> Result<(), StreamError> {
         let accepted = self.accept_all(floor);
         if accepted.is_err() {
-            floor.posts.close();
+            floor.close();
         }
         accepted
     }

@@ -4,11 +4,12 @@ ghost use Rattle.std.specs.Option.{option_map};
 ghost use Rattle.std.specs.Prelude.{◌≡◌};
 
 use crate::firm_places::FirmPlaces;
-use crate::informer::Informer;
+use crate::informer::{Informer, OperatorInformer};
 use crate::kept_bell::KeptBell;
 use crate::service::Service;
 use gu_desk::{Desk, EntryLedger, LotLedger};
-use gu_houses::{OpenOrders, Tally};
+use gu_houses::{OpenOrders, Shares, Tally};
+use gu_log::{Event, EventLog};
 use gu_posts::Posts;
 use gu_secrets::Secrets;
 use gu_sockets::PollBell;
@@ -16,6 +17,7 @@ use gu_terms::FirmId;
 use gu_workers::Shared;
 use std::alloc::Global;
 use std::os::unix::net::UnixStream;
+use std::rt::Clock;
 use std::sync::atomic::{AtomicBool, Ordering};
 use std::sync::{Mutex, Wait};
 
@@ -27,40 +29,47 @@ pub struct Floor<'a, E: EntryLedger, S: LotLedger, R> {
     pub desk: &'a Desk<E, S>,
     /// The firms of the desk's reference, each of which may log on. A firm's place in this list is the number of its door, if it has one.
     pub firms: &'a [FirmId],
-    /// The secrets by which they are let in, if there are any.
+    /// The secrets that firms need to log on, if there are any.
     pub secrets: Option<&'a Secrets>,
-    /// How many places each of them has.
-    pub firm_places: &'a FirmPlaces<'a>,
-    /// How the workers are reached.
+    /// The share that each firm's sessions may have, if there is a bound.
+    pub shares: Option<&'a Shares>,
+    /// The places that each firm's sessions hold.
+    pub firm_places: &'a FirmPlaces<'a, R>,
+    /// The workers' posts.
     pub posts: &'a Posts<PollBell>,
-    /// Who tells the workers of entries.
+    /// What informs the workers of entries.
     pub informer: &'a Informer<'a, R>,
+    /// What informs them of operators' entries.
+    pub operator_informer: &'a OperatorInformer<'a, R>,
     /// What wakes the threads that wait until entries are kept.
     pub kept_bell: &'a KeptBell,
     /// The orders of sweeps that wait.
     pub open_orders: &'a OpenOrders,
     pub tally: &'a Tally,
+    /// The day's log.
+    pub log: &'a EventLog,
     pub service: Service,
-    /// The order of every K-th accepted give-up of a connection, K being this, is sent to the sweepers; with 0, none is.
+    /// Every so many accepted give-ups of a connection, a sweep of the group is ordered; with 0, none is.
     pub every: u64,
     /// How many milliseconds answers to a connection are held of which none goes out, after which it ends.
     pub write_wait_ms: u64,
-    /// Whether all connections have ended, so that no operator is answered any more.
+    /// Whether all connections have ended: no operator is answered after that.
     pub is_over: &'a AtomicBool,
-    /// The operators that closed the day, and wait for its last lines.
+    /// The operators that closed the day and wait for its last lines.
     pub closers: &'a Mutex<Vec<UnixStream>>,
     ghost all_firms: { firms.now ≡ E.reference.firms },
 }
 
 impl<'a, E: EntryLedger, S: LotLedger, R> Floor<'a, E, S, R> {
-    /// Returns what the workers share: each firm of the desk's reference may log on, and no other.
-    pub fn shared(&self) -> Shared<'a, FirmPlaces<'a>, PollBell>
+    /// Returns what the workers share: exactly the firms of the desk's reference may log on.
+    pub fn shared(&self) -> Shared<'a, FirmPlaces<'a, R>, PollBell>
         ensures firms { result.firms.now ≡ E.reference.firms }
         ensures secrets { option_map (λ secrets. secrets.now) result.secrets ≡ option_map (λ secrets. secrets.now) self.now.secrets }
     {
         Shared {
             firms: self.firms,
             secrets: self.secrets,
+            looks: !self.log.is_silent(),
             admission: self.firm_places,
             posts: self.posts,
         }
@@ -71,26 +80,43 @@ impl<'a, E: EntryLedger, S: LotLedger, R> Floor<'a, E, S, R> {
         self.is_over.load(Ordering::SeqCst)
     }
 
-    /// Says that this many entries are kept, so that what shows no more may go out.
+    /// Publishes that this many entries are kept: answers that show no later entry may go out.
     pub fn show_kept(&self, kept: u64) {
         self.posts.keep(kept);
         self.kept_bell.ring();
     }
 
-    /// Says that no more entries are ever kept.
+    /// Publishes that no more entries will be kept.
     pub fn lose_journal(&self) {
         self.posts.stop();
         self.kept_bell.ring();
     }
 }
 
+impl<E: EntryLedger, S: LotLedger, R: Wait + Clock> Floor<'_, E, S, R> {
+    /// Notes an event in the log.
+    pub fn note(&self, event: Event) {
+        self.log.note(self.rt, event);
+    }
+
+    /// Closes the day, and returns whether it was open.
+    pub fn close(&self) -> bool {
+        let was_open = !self.posts.is_closing();
+        self.posts.close();
+        if was_open {
+            self.note(Event::DayClosing);
+        }
+        was_open
+    }
+}
+
 impl<E: EntryLedger, S: LotLedger, R: Wait> Floor<'_, E, S, R> {
-    /// Waits until this many entries are kept. Returns whether they are.
+    /// Waits until this many entries are kept, and returns whether they are.
     pub fn await_kept(&self, number: u64) -> bool {
         self.kept_bell.wait(self.rt, self.posts, number)
     }
 
-    /// Keeps the stream of an operator that waits for the last lines of the day. If an allocation fails, it is closed.
+    /// Keeps the connection of an operator that waits for the day's last lines. If memory runs out, the connection is closed.
     pub fn keep_closer(&self, stream: UnixStream) {
         let _ = self.closers.lock(self.rt).push(stream);
     }

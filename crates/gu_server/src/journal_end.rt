@@ -4,36 +4,36 @@ use crate::keeping::Kept;
 use gu_desk::EntryLedger;
 use gu_journal::{Sink, SinkError, Stopped};
 
-/// Why a journal couldn't be written on.
+/// Why a journal couldn't go on.
 #[derive(Drop)]
 pub enum LostBy<P> {
-    /// No memory was left, and nothing was written after what is kept.
+    /// Memory ran out; nothing was written after what is kept.
     Memory,
-    /// The lines of an entry were no batch, and nothing was written after what is kept.
+    /// The lines of an entry were no valid batch; nothing was written after what is kept.
     Length,
-    /// Its place stopped: what was written last may be found, or a beginning of it.
+    /// Its file failed: the last batch may be found in it, or a beginning of that batch.
     Place(Stopped<P, SinkError>),
 }
 
-/// A journal that couldn't be written on.
+/// A journal that couldn't go on.
 #[derive(Drop)]
 pub struct LostJournal<P> {
     /// How many entries are kept.
     pub kept: u64,
-    /// Why it has no more.
+    /// Why it has no more entries.
     pub by: LostBy<P>,
 }
 
 /// What became of the journal of a day.
 #[derive(Drop)]
 pub enum JournalEnd<K: Sink> {
-    /// Each entry of the day is kept by it.
+    /// It has each entry of the day.
     Whole(K),
-    /// It couldn't be written on.
+    /// It couldn't go on.
     Lost(LostJournal<K::Place>),
 }
 
-/// Returns what became of the journal of a day that has this many entries, by what its thread handed back.
+/// Returns what became of the journal of a day with this many entries, given what its thread handed back.
 pub fn journal_end<E: EntryLedger, K: Sink + Drop>(
     kept: Option<Kept<E, K>>,
     entries: usize,

@@ -5,15 +5,21 @@ use crate::journal_end::{LostBy, LostJournal};
 use crate::origins::Origins;
 use crossbeam_channel::Receiver;
 use gu_desk::{EntryLedger, LotLedger, Origin};
+use gu_engine::{Clock as MomentClock, SystemClock};
 use gu_journal::Sink;
 use gu_keeping::{Keeper, Unkept};
+use gu_log::Event;
 use std::alloc::{AllocError, Global};
+use std::rt::Clock;
 use std::sync::{Wait, WaitMethods};
 
-/// How many entries are kept at once at most.
+/// How many entries a batch may have.
 const MOST_AT_ONCE: usize = 1_024;
 
-/// What the thread that writes the journal is told.
+/// If an entry is kept more than this many milliseconds after it was made, the log says so.
+const LONG_MS: u64 = 1_000;
+
+/// News for the thread that writes the journal.
 #[derive(Drop)]
 pub enum News {
     /// The entry of this number was made.
@@ -22,7 +28,7 @@ pub enum News {
     Over,
 }
 
-/// What the thread that writes the journal knows of entries that aren't kept yet.
+/// What the thread that writes the journal knows about entries that aren't kept yet.
 #[derive(Drop)]
 struct Unwritten {
     origins: Origins,
@@ -31,7 +37,7 @@ struct Unwritten {
 }
 
 impl Unwritten {
-    /// Creates that of a day of which this many entries are kept.
+    /// Creates it for a day with this many entries kept.
     fn after(alloc: Global, kept: usize) -> Self {
         Unwritten {
             origins: Origins::after(alloc, kept as u64),
@@ -39,7 +45,7 @@ impl Unwritten {
         }
     }
 
-    /// Notes a piece of news.
+    /// Notes one piece of news.
     fn note(&mut self, news: News) -> Result<(), AllocError> {
         match news {
             News::Made { number, origin } => self.origins.note(number, origin),
@@ -63,8 +69,28 @@ impl Unwritten {
     }
 }
 
-/// Keeps the next entries, as far as it is known who made them, and says so to who holds something back.
-fn keep_known<E: EntryLedger, S: LotLedger, R: Wait, K: Sink>(
+/// Logs how long it took to keep these entries, if that was long. Without a log the clock isn't read.
+fn note_delay<E: EntryLedger, S: LotLedger, R: Wait + Clock>(
+    floor: &Floor<'_, E, S, R>,
+    kept: &[Origin],
+) {
+    let Some(first) = kept.first().filter(|_| !floor.log.is_silent()) else {
+        return;
+    };
+    let Ok(now) = SystemClock::new(floor.rt).now() else {
+        return;
+    };
+    let ms = now.get().saturating_sub(first.moment.get());
+    if ms > LONG_MS {
+        floor.note(Event::JournalBehind {
+            ms,
+            entries: kept.len() as u64,
+        });
+    }
+}
+
+/// Keeps the next entries, up to the first whose origin isn't known yet, and publishes how many are kept.
+fn keep_known<E: EntryLedger, S: LotLedger, R: Wait + Clock, K: Sink>(
     floor: &Floor<'_, E, S, R>,
     mut keeper: Keeper<E, K>,
     unwritten: &mut Unwritten,
@@ -81,12 +107,13 @@ fn keep_known<E: EntryLedger, S: LotLedger, R: Wait, K: Sink>(
         let kept = keeper.count() as u64;
         unwritten.origins.forget(kept);
         floor.show_kept(kept);
+        note_delay(floor, &ready);
     }
     Ok(keeper)
 }
 
 /// Keeps each entry of the day, until no more are made.
-fn keep_day<E: EntryLedger, S: LotLedger, R: Wait, K: Sink>(
+fn keep_day<E: EntryLedger, S: LotLedger, R: Wait + Clock, K: Sink>(
     floor: &Floor<'_, E, S, R>,
     mut keeper: Keeper<E, K>,
     news: &Receiver<News>,
@@ -104,7 +131,7 @@ fn keep_day<E: EntryLedger, S: LotLedger, R: Wait, K: Sink>(
     Ok(keeper)
 }
 
-/// Returns why the journal couldn't be written on.
+/// Returns why the journal couldn't go on.
 fn lost_by<E: EntryLedger, K: Sink + Drop>(
     unkept: Unkept<Keeper<E, K>, K::Place>,
 ) -> LostBy<K::Place> {
@@ -121,12 +148,12 @@ fn lost_by<E: EntryLedger, K: Sink + Drop>(
     }
 }
 
-/// What the thread that writes the journal hands back: what kept the day, if it kept all that it was told of.
+/// What the thread that writes the journal hands back: the keeper, if it kept every entry.
 pub type Kept<E, K> = Result<Keeper<E, K>, LostJournal<<K as Sink>::Place>>;
 
-/// Writes the journal of a day, until no more entries are made. Where it can't be written on, the day ends: what was kept is still shown,
-/// and nothing else.
-pub fn keep_all<E: EntryLedger, S: LotLedger, R: Wait, K: Sink + Drop>(
+/// Writes the journal of a day until no more entries are made. If the journal can't go on, the day ends: answers that show kept entries
+/// alone still go out.
+pub fn keep_all<E: EntryLedger, S: LotLedger, R: Wait + Clock, K: Sink + Drop>(
     floor: &Floor<'_, E, S, R>,
     keeper: Keeper<E, K>,
     news: Receiver<News>,
@@ -137,8 +164,10 @@ pub fn keep_all<E: EntryLedger, S: LotLedger, R: Wait, K: Sink + Drop>(
         Ok(keeper) => Ok(keeper),
         Err(unkept) => {
             floor.lose_journal();
+            let kept = floor.posts.kept();
+            floor.note(Event::JournalLost { kept });
             Err(LostJournal {
-                kept: floor.posts.kept(),
+                kept,
                 by: lost_by(unkept),
             })
         }

@@ -14,19 +14,19 @@ pub struct KeptBell {
 }
 
 impl KeptBell {
-    /// Creates one for which nobody waits.
+    /// Creates a bell that nobody waits for.
     pub fn new() -> Self {
         KeptBell {
             changed: Condvar::new(),
         }
     }
 
-    /// Wakes whoever waits, to look again.
+    /// Wakes every waiting thread to look again.
     pub fn ring(&self) {
         self.changed.notify_all();
     }
 
-    /// Waits until this many entries are kept. Returns whether they are: once the journal is lost, no more ever are.
+    /// Waits until this many entries are kept, and returns whether they are: once the journal is lost, no more will be.
     pub fn wait<R: Wait, B>(&self, rt: &R, posts: &Posts<B>, number: u64) -> bool {
         for _look in rt.forever() {
             let seen = self.changed.notifications();

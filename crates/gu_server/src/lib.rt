@@ -5,6 +5,7 @@ mod attending;
 mod cause;
 mod closers;
 mod closing;
+mod counting_gate;
 mod crew;
 mod day;
 mod day_receipts;

@@ -1,15 +1,17 @@
-//! What operators ask of a server besides its book.
+//! What operators ask a server apart from its book.
 
 use crate::floor::Floor;
 use gu_console::{Office, Places};
 use gu_desk::{EntryLedger, LotLedger};
 use gu_engine::{Clock, SystemClock};
+use gu_log::Event;
 use gu_posts::ConnectionStatus;
 use gu_terms::{FirmId, Moment};
 use std::alloc::{AllocError, Global};
 use std::rt;
+use std::sync::Wait;
 
-impl<E: EntryLedger, S: LotLedger, R: rt::Clock> Office for Floor<'_, E, S, R> {
+impl<E: EntryLedger, S: LotLedger, R: Wait + rt::Clock> Office for Floor<'_, E, S, R> {
     fn connections(&self, alloc: Global) -> Result<Vec<ConnectionStatus>, AllocError> {
         self.posts.status(alloc)
     }
@@ -31,13 +33,15 @@ impl<E: EntryLedger, S: LotLedger, R: rt::Clock> Office for Floor<'_, E, S, R> {
     }
 
     fn cut(&self, number: u64) -> bool {
-        self.posts.cut(number)
+        let is_there = self.posts.cut(number);
+        if is_there {
+            self.note(Event::OperatorCut { number });
+        }
+        is_there
     }
 
     fn close(&self) -> bool {
-        let was_open = !self.posts.is_closing();
-        self.posts.close();
-        was_open
+        Floor::close(self)
     }
 
     fn is_closing(&self) -> bool {

@@ -4,17 +4,17 @@ use gu_desk::Origin;
 use std::alloc::{AllocError, Global};
 use std::collections::VecDeque;
 
-/// The origins of entries that aren't kept yet. They are told of out of turn now and then, since an entry is made before it is told of.
+/// The origins of entries that aren't kept yet. They may arrive out of order, since an entry is made before it is reported.
 #[derive(Drop)]
 pub struct Origins {
-    /// The number of the entry that is kept next.
+    /// The number of the next entry to be kept.
     next: u64,
-    /// What is known of that entry and of those after it.
+    /// The origins of that entry and of those after it, as far as they are known.
     known: VecDeque<Option<Origin>>,
 }
 
 impl Origins {
-    /// Creates those of a day of which this many entries are kept.
+    /// Creates it for a day with this many entries kept.
     pub fn after(alloc: Global, kept: u64) -> Self {
         Origins {
             next: kept.saturating_add(1),
@@ -22,7 +22,7 @@ impl Origins {
         }
     }
 
-    /// Notes who made the entry of a number. Of an entry that is kept nothing is noted.
+    /// Notes the origin of an entry by its number, unless the entry is kept already.
     pub fn note(&mut self, number: u64, origin: Origin) -> Result<(), AllocError> {
         let Some(place) = number.checked_sub(self.next) else {
             return Ok(());
@@ -37,7 +37,7 @@ impl Origins {
         Ok(())
     }
 
-    /// Puts the origins of the next entries into an empty list, this many at most, up to the first that isn't known.
+    /// Puts the origins of the next entries into an empty list: at most this many, up to the first that isn't known.
     pub fn ready(&self, most: usize, origins: &mut Vec<Origin>) -> Result<(), AllocError> {
         for known in self.known.iter().take(most) {
             match known {
@@ -48,7 +48,7 @@ impl Origins {
         Ok(())
     }
 
-    /// Forgets those of the entries that are kept: this many in all.
+    /// Forgets the origins of kept entries, now that this many are kept in all.
     pub fn forget(&mut self, kept: u64) {
         let more = kept.saturating_add(1).saturating_sub(self.next);
         for _entry in 0..more {

@@ -26,14 +26,14 @@ use std::sync::atomic::Ordering;
 use std::thread;
 use std::thread::{JoinHandle, Scope, Threads};
 
-/// What keeps a day, and the news that it is told.
+/// What writes the journal, and the news it receives.
 #[derive(Drop)]
 pub struct Writing<E: EntryLedger, K: Sink> {
     pub keeper: Keeper<E, K>,
     pub news: Receiver<News>,
 }
 
-/// What a shift begins with: by what connections come in, what watches those of each worker, and what keeps the day, if it is kept.
+/// What a shift begins with: where connections come in, each worker's poller, and what writes the journal, if the day has one.
 #[derive(Drop)]
 pub struct Posting<D, E: EntryLedger, K: Sink> {
     pub door: D,
@@ -41,7 +41,8 @@ pub struct Posting<D, E: EntryLedger, K: Sink> {
     pub writing: Option<Writing<E, K>>,
 }
 
-/// The seats after a shift, why not every connection was accepted, where that is so, and what kept the day, if it was kept.
+/// The seats after a shift, the fault that kept connections from being accepted, if there was one, and what wrote the journal, if the day
+/// has one.
 #[derive(Drop)]
 pub struct Shift<E: EntryLedger, S: LotLedger, K: Sink> {
     pub seats: Vec<SeatReceipts<E, S>>,
@@ -49,7 +50,7 @@ pub struct Shift<E: EntryLedger, S: LotLedger, K: Sink> {
     pub kept: Option<Kept<E, K>>,
 }
 
-/// The thread that prints the counts at a terminal, until its channel's end here is gone.
+/// The thread that prints counts at a terminal until this end of its channel is dropped.
 #[derive(Drop)]
 struct Teller {
     until: Sender<()>,
@@ -57,7 +58,7 @@ struct Teller {
 }
 
 impl Teller {
-    /// Waits until the last counts were printed.
+    /// Waits until the last counts are printed.
     fn end<R: Threads>(self, rt: &R) {
         let Teller { until, thread } = self;
         drop(until);
@@ -65,7 +66,7 @@ impl Teller {
     }
 }
 
-/// Starts the thread that prints the counts at a terminal, where there is one. Where it can't be started, they aren't printed.
+/// Starts the thread that prints counts at a terminal, if there is one. If it can't be started, they aren't printed.
 fn start_teller<
     's,
     X,
@@ -84,7 +85,7 @@ fn start_teller<
     Some(Teller { until, thread })
 }
 
-/// Starts the threads that answer operators. Returns where operators go.
+/// Starts the threads that answer operators, and returns the queues to them.
 fn start_answering<
     's,
     X,
@@ -109,7 +110,7 @@ fn start_answering<
 /// The thread that writes the journal, or why there is none.
 type Writer<E, K> = Result<JoinHandle<Kept<E, K>>, LostJournal<<K as Sink>::Place>>;
 
-/// Starts the thread that writes the journal, if the day has one. Where it can't be started, the day ends.
+/// Starts the thread that writes the journal, if the day has one. If it can't be started, the day ends.
 fn start_writer<
     's,
     X,
@@ -138,7 +139,7 @@ where
     }
 }
 
-/// Waits until each entry of the day is kept, where it is kept at all.
+/// Waits until the journal's thread has ended.
 fn end_writer<E: EntryLedger, K: Sink, R: Threads>(rt: &R, writer: Writer<E, K>) -> Kept<E, K> {
     match writer {
         Ok(thread) => thread.join(rt),
@@ -146,8 +147,8 @@ fn end_writer<E: EntryLedger, K: Sink, R: Threads>(rt: &R, writer: Writer<E, K>)
     }
 }
 
-/// Starts the threads, and lets connections in until the last has ended. When it returns, no firm can come in, and its ends of the channels are
-/// gone: so each worker ends with its last connection, the sweepers with the last worker, and who answers operators at once.
+/// Starts the threads, and accepts connections until the last has ended. When it returns, no firm can connect, and its ends of the channels
+/// are dropped: each worker then ends with its last connection, the sweepers with the last worker, and the operators' threads at once.
 fn serve_calls<
     's,
     X,
@@ -170,7 +171,7 @@ fn serve_calls<
     Entrance::new(door, calls, operators).run(floor)
 }
 
-/// Serves from these seats, one for each thread. Each seat comes back.
+/// Serves from these seats, one for each thread, and returns every seat.
 fn run_all<
     's,
     X,
@@ -212,7 +213,7 @@ where
     Shift { seats, fault, kept }
 }
 
-/// Serves connections that come in by a door, until the last has ended and each entry is kept.
+/// Serves the connections that come in until the last has ended and each entry is kept.
 pub fn shift_at<
     E: EntryLedger + Send + Sync,
     S: LotLedger + Send + Sync,

@@ -1,18 +1,20 @@
 //! The threads of sweepers.
 
+use crate::counting_gate::CountingGate;
 use crate::crew::Crew;
 use crate::floor::Floor;
 use crate::service::SWEEPERS;
 use crossbeam_channel::{Receiver, Sender};
-use gu_desk::{Direct, EntryLedger, LotLedger, Origin, SweepOrder};
+use gu_desk::{EntryLedger, LotLedger, Origin, SweepError, SweepOrder};
 use gu_engine::{Clock as MomentClock, SystemClock};
 use gu_houses::{Informs, SeatReceipts};
+use gu_log::{CommittedSweep, Event, SweepFault};
 use gu_streams::StreamError;
 use std::rt::Clock;
 use std::sync::Wait;
 use std::thread::{Scope, Threads};
 
-/// The ends of the channels by which sweepers are reached: where their seats go, where these come from, and where orders come from.
+/// The sweepers' channels: both ends of the one that hands out seats, and the receiving end of the orders.
 #[derive(Drop)]
 pub struct SweeperEnds<E: EntryLedger, S: LotLedger> {
     pub to: Sender<SeatReceipts<E, S>>,
@@ -20,32 +22,58 @@ pub struct SweeperEnds<E: EntryLedger, S: LotLedger> {
     pub orders: Receiver<SweepOrder>,
 }
 
-/// Sweeps the group of an order, and tells the firms that it informs. The order doesn't wait from now on, so a give-up that is entered after
-/// the look has an order of its own. A sweep that is refused is not made up for: an order that comes later may sweep what was left. Once
-/// the day is being closed or its journal is lost, no order is followed, and none while the clock fails.
+/// Returns why a sweep was left out.
+fn fault_of(error: &SweepError) -> SweepFault {
+    match error {
+        SweepError::Memory => SweepFault::Memory,
+        SweepError::UnknownGroup => SweepFault::UnknownGroup,
+        SweepError::Full => SweepFault::Full,
+        SweepError::Stale { .. } => SweepFault::Stale,
+    }
+}
+
+/// Sweeps the group of an order, and informs the firms concerned. The order no longer waits, so a give-up entered after the look gets an
+/// order of its own. A refused sweep isn't repeated: a later order may sweep what was left. Orders are dropped once the day is closing or
+/// its journal is lost, and while the clock fails.
 fn sweep<E: EntryLedger, S: LotLedger, R: Wait + Clock>(
     floor: &Floor<'_, E, S, R>,
     seat: &mut SeatReceipts<E, S>,
     order: &SweepOrder,
 ) {
-    floor.open_orders.close(&order.group());
+    let group = order.group();
+    floor.open_orders.close(&group);
     if floor.posts.is_closing() || floor.posts.is_stopped() {
         return;
     }
     let Ok(moment) = SystemClock::new(floor.rt).now() else {
+        let reason = SweepFault::Clock;
+        floor.note(Event::SweepLeft { group, reason });
         return;
     };
-    if let Ok(swept) = seat.sweep(floor.rt, floor.desk, order.group(), &Direct) {
-        let origin = Origin {
-            moment,
-            message: None,
-        };
-        floor.tally.add_sweep(swept.lots);
-        floor.informer.inform(swept.number, swept.informs, origin);
+    let gate = CountingGate::new();
+    match seat.sweep(floor.rt, floor.desk, group, &gate) {
+        Ok(swept) => {
+            let origin = Origin {
+                moment,
+                message: None,
+            };
+            floor.tally.add_sweep(swept.lots);
+            floor.informer.inform(swept.number, swept.informs, origin);
+            floor.note(Event::Swept(CommittedSweep {
+                group,
+                entry: swept.number,
+                lots: swept.lots,
+                tries: gate.tries(),
+            }));
+        }
+        Err(error) => {
+            let reason = fault_of(&error);
+            floor.note(Event::SweepLeft { group, reason });
+        }
     }
 }
 
-/// Sweeps the group of each order, until no worker is left that could send one.
+/// Sweeps the group of each order until no worker is left that could send one.
 fn sweep_all<E: EntryLedger, S: LotLedger, R: Wait + Clock>(
     floor: &Floor<'_, E, S, R>,
     mut seat: SeatReceipts<E, S>,
@@ -93,7 +121,7 @@ fn start_sweeper<
     }
 }
 
-/// Starts the sweepers. A seat is given away only once there is a thread for it.
+/// Starts the sweepers. A seat is handed out only once its thread has started.
 pub fn start_sweepers<
     's,
     X,

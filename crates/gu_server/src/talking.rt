@@ -12,7 +12,7 @@ use std::rt::Clock;
 use std::sync::Wait;
 use std::time::{Duration, Instant};
 
-/// How many milliseconds a read or a write waits at most.
+/// How many milliseconds a read or a write may wait.
 const WAIT_MS: u64 = 200;
 
 /// How many seconds an operator may be silent.
@@ -24,10 +24,10 @@ const MOST_SENDING_S: u64 = 10;
 /// How many bytes of answers are held before they go out.
 const MOST_HELD: usize = 65_536;
 
-/// How many bytes are read at once at most.
+/// How many bytes a read may bring.
 const LONGEST_READ: usize = 4_096;
 
-/// Returns whether an error of a stream means that it has nothing for now, or takes nothing for now.
+/// Returns whether an error means that the stream has nothing, or takes nothing, for now.
 fn is_pause(error: &io::Error) -> bool {
     matches!(
         error.kind(),
@@ -35,7 +35,7 @@ fn is_pause(error: &io::Error) -> bool {
     )
 }
 
-/// Returns whether so many seconds have passed since then. A clock that fails gives no more time.
+/// Returns whether this many seconds have passed since a moment. If the clock fails, they have.
 fn have_passed<R: Clock>(rt: &R, since: Instant, seconds: u64) -> bool {
     match since.elapsed(rt) {
         Ok(elapsed) => elapsed >= Duration::from_secs(seconds),
@@ -43,7 +43,7 @@ fn have_passed<R: Clock>(rt: &R, since: Instant, seconds: u64) -> bool {
     }
 }
 
-/// Writes a text, in ten seconds at most and only until the day is over. Returns whether all of it went out.
+/// Writes a text within ten seconds and before the day is over, and returns whether all of it went out.
 fn send<E: EntryLedger, S: LotLedger, R: Wait + Clock>(
     floor: &Floor<'_, E, S, R>,
     mut stream: &UnixStream,
@@ -70,7 +70,7 @@ fn send<E: EntryLedger, S: LotLedger, R: Wait + Clock>(
     false
 }
 
-/// Returns the first line of some bytes, with its LF, and what comes after it; all of them where none ends.
+/// Returns the first line of some bytes, with its LF, and what follows it; if no line ends, all of them.
 fn first_line(bytes: &[u8]) -> (&[u8], &[u8]) {
     match split_at_line_feed(bytes) {
         Some((_, after)) => bytes.split_at(bytes.len().saturating_sub(after.len())),
@@ -78,7 +78,7 @@ fn first_line(bytes: &[u8]) -> (&[u8], &[u8]) {
     }
 }
 
-/// What an operator has sent of its next line, and the answers that didn't go out yet.
+/// What an operator has sent of its next line, and the answers that haven't gone out yet.
 #[derive(Drop)]
 struct Exchange<'s> {
     stream: &'s UnixStream,
@@ -87,7 +87,7 @@ struct Exchange<'s> {
 }
 
 impl Exchange<'_> {
-    /// Sends the answers once what they show is kept: this many entries. Returns whether all went out.
+    /// Sends the answers once this many entries, all that they show, are kept, and returns whether all went out.
     fn send<E: EntryLedger, S: LotLedger, R: Wait + Clock>(
         &mut self,
         floor: &Floor<'_, E, S, R>,
@@ -98,7 +98,7 @@ impl Exchange<'_> {
         is_sent
     }
 
-    /// Answers what came, line by line, and sends the answers: so little is held, however much is asked. Returns nothing where the
+    /// Answers what came, line by line, and sends the answers as it goes, so that few are held however much is asked. Returns `None` if the
     /// connection is to be closed.
     fn answer<'a, 'f, E: EntryLedger, S: LotLedger, R: Wait + Clock, O: Office, I: Informs>(
         &mut self,
@@ -123,14 +123,14 @@ impl Exchange<'_> {
     }
 }
 
-/// Sets how long the reads and the writes of a stream wait.
+/// Sets how long reads and writes of a stream wait.
 fn set_waits(stream: &UnixStream) -> io::Result<()> {
     stream.set_read_timeout(Some(Duration::from_millis(WAIT_MS)))?;
     stream.set_write_timeout(Some(Duration::from_millis(WAIT_MS)))
 }
 
-/// Answers an operator until it has closed the day, its connection ends, it was silent for a minute, or the day is over. Returns whether it has
-/// closed the day and waits for its last lines.
+/// Answers an operator until it closes the day, its connection ends, it has been silent for a minute, or the day is over. Returns whether
+/// it closed the day and waits for the last lines.
 pub fn talk<'a, 'f, E: EntryLedger, S: LotLedger, R: Wait + Clock, O: Office, I: Informs>(
     floor: &Floor<'f, E, S, R>,
     operator: &mut Operator<'a, E, S, R, O, I>,

@@ -1,4 +1,4 @@
-//! What a server says while it runs: its progress, at a terminal.
+//! The progress that a server prints at a terminal.
 
 use crossbeam_channel::{Receiver, RecvTimeoutError};
 use gu_houses::{Counts, Tally};
@@ -8,10 +8,10 @@ use std::rt::Clock;
 use std::sync::{Wait, WaitMethods};
 use std::time::Duration;
 
-/// How many seconds there are at least from one line to the next.
+/// How many seconds lie between two lines at least.
 const PAUSE_S: u64 = 1;
 
-/// Writes the counts over the line before.
+/// Writes the counts over the previous line.
 fn tell<T: Write>(terminal: &mut T, counts: Counts) -> io::Result<()> {
     let Counts {
         begun,
@@ -27,8 +27,8 @@ fn tell<T: Write>(terminal: &mut T, counts: Counts) -> io::Result<()> {
     terminal.flush()
 }
 
-/// Prints the counts once a second, where they changed, until the other end of the channel is gone, and ends the line then. What can't
-/// be written is lost.
+/// Prints the counts once a second if they changed, until the other end of the channel is dropped, and then ends the line. What can't be
+/// written is lost.
 pub fn tell_all<R: Wait + Clock, T: Write>(
     rt: &R,
     tally: &Tally,

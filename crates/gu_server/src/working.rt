@@ -6,7 +6,7 @@ use crate::floor::Floor;
 use crate::informer::Informer;
 use crossbeam_channel::{Receiver, Sender};
 use gu_desk::{EntryLedger, LotLedger, SweepOrder};
-use gu_houses::{AtDesk, Orders, SeatReceipts};
+use gu_houses::{AtDesk, Orders, SeatReceipts, WithinShares};
 use gu_posts::{Call, CallSender, Failure, calls};
 use gu_sockets::{PollBell, SocketPoller};
 use gu_talks::Poller;
@@ -19,11 +19,11 @@ use std::thread::{Scope, Threads};
 /// A connection that was accepted.
 pub type SocketCall = <SocketPoller as Poller>::Call;
 
-/// Where a connection goes that was accepted.
+/// A worker's queue of connections.
 pub type Calls<'a> = CallSender<'a, SocketCall, PollBell>;
 
-/// What the thread of a worker begins with: its number, where its seat and its connections come from, what watches them, and where orders to
-/// sweepers go.
+/// What a worker's thread begins with: its number, the channels of its seat and its connections, its poller, and the queue of the sweepers'
+/// orders.
 #[derive(Drop)]
 struct WorkerEnds<E: EntryLedger, S: LotLedger> {
     number: usize,
@@ -33,14 +33,14 @@ struct WorkerEnds<E: EntryLedger, S: LotLedger> {
     orders: Sender<SweepOrder>,
 }
 
-/// What a worker turns connections by.
+/// A worker's queue of connections, its poller and its settings.
 struct Bench {
     calls: Receiver<Call<SocketCall>>,
     poller: SocketPoller,
     settings: WorkerSettings,
 }
 
-/// Returns how the worker of a number serves its connections.
+/// Returns how the worker with this number serves its connections.
 fn settings_of<E: EntryLedger, S: LotLedger, R>(
     floor: &Floor<'_, E, S, R>,
     number: usize,
@@ -53,8 +53,8 @@ fn settings_of<E: EntryLedger, S: LotLedger, R>(
     }
 }
 
-/// Turns connections from a house, until no more come and the last has ended. The house comes back. Where the worker can't go on, the
-/// thread that accepts connections hears of it.
+/// Serves connections from a house until no more come and the last has ended, and returns the house. If the worker can't go on, the thread
+/// that accepts connections is informed.
 fn turn_all<'a, 'o, E: EntryLedger, S: LotLedger, R: Wait + Clock>(
     floor: &Floor<'a, E, S, R>,
     house: DeskHouse<'a, 'o, E, S, R, Informer<'a, R>>,
@@ -90,7 +90,7 @@ fn turn_all<'a, 'o, E: EntryLedger, S: LotLedger, R: Wait + Clock>(
     }
 }
 
-/// Waits for a seat, and turns connections from it.
+/// Waits for a seat, and serves connections from it.
 fn work<E: EntryLedger, S: LotLedger, R: Wait + Clock>(
     floor: &Floor<'_, E, S, R>,
     ends: WorkerEnds<E, S>,
@@ -111,11 +111,12 @@ fn work<E: EntryLedger, S: LotLedger, R: Wait + Clock>(
     };
     let due = Orders::new(&orders, floor.open_orders, floor.every);
     let desk = AtDesk::new(floor.rt, floor.desk, floor.tally, floor.informer, seat, due);
-    let house = turn_all(floor, DeskHouse::new(desk), bench);
-    Some(house.into_seat())
+    let shared = WithinShares::new(desk, floor.shares);
+    let house = DeskHouse::new(shared, floor.rt, floor.log);
+    Some(turn_all(floor, house, bench).into_seat())
 }
 
-/// Starts the thread of a worker, and gives it a seat. Returns where its connections go, or nothing where the thread can't be started.
+/// Starts a worker's thread and gives it a seat. Returns the queue of its connections, or `None` if the thread can't be started.
 fn start_worker<
     's,
     X,
@@ -148,7 +149,7 @@ fn start_worker<
     Ok(Some(sender))
 }
 
-/// Starts a worker for each poller, as long as threads can be started. Returns where their connections go.
+/// Starts a worker for each poller, as long as threads can be started, and returns the queues of their connections.
 pub fn start_workers<
     's,
     X,

@@ -1,4 +1,4 @@
-//! A writer to which nothing goes.
+//! A writer that takes nothing.
 
 use std::io;
 use std::io::{ErrorKind, Write};

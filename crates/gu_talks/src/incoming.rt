@@ -1,25 +1,29 @@
-//! The half of a connection that is read, and what is known of it.
+//! The half of a connection that is read, and what is known about it.
 
-ghost use Rattle.std.specs.Prelude.{◌≡◌};
+ghost use Rattle.std.specs.Prelude.{◌≡◌, Some};
+ghost use Rattle.std.specs.Fmt.{option_append};
 ghost use Rattle.std.specs.Io.{ReadsAtMost};
 ghost use Rattle.std.specs.Io.KnownBytes.{ReadConsumes};
+ghost use Rattle.gu_talks.specs.Sources.{left_incoming};
 
 use std::io;
-use std::io::{ErrorKind, Read};
+use std::io::{Chain, Cursor, ErrorKind, Read};
 
-/// How often a read or a write that a signal cut short is made again at most.
+/// How often a read or a write that a signal interrupts is repeated.
 pub const MOST_INTERRUPTS: u32 = 1_000;
 
-/// How many reads are made at once at most of a stream whose bytes are dropped.
+/// How many reads are made in one go of a stream whose bytes are dropped.
 const MOST_DRAINS: u32 = 16;
 
-/// The half of a connection that is read. Where it is known that nothing has come, it isn't asked.
-#[derive(Drop)]
+/// The half of a connection that is read. It isn't read while it is known that nothing has come.
 pub struct Incoming<T> {
-    stream: T,
+    /// What was read before and is to be read again, and then the stream.
+    stream: Chain<Cursor<Vec<u8>>, T>,
+    /// How many bytes are to be read again.
+    again: usize,
     /// Whether bytes may have come.
     is_readable: bool,
-    /// Whether its peer sends no more: it is readable until it says so.
+    /// Whether its peer sends no more: it stays readable until its end is read.
     is_ending: bool,
     /// Whether nothing more is read, whatever comes.
     is_stopped: bool,
@@ -27,12 +31,26 @@ pub struct Incoming<T> {
     bytes: u64,
 }
 
+impl<T: Drop> Drop for Incoming<T> {
+    fn drop(self) {
+        let Incoming {
+            stream,
+            again: _,
+            is_readable: _,
+            is_ending: _,
+            is_stopped: _,
+            bytes: _,
+        } = self;
+        drop(stream);
+    }
+}
+
 /// Returns the error of a stream on which nothing has come.
 fn nothing() -> io::Error {
     io::Error::from(ErrorKind::WouldBlock)
 }
 
-/// Reads from a stream, again where a signal cut a read short before anything came. After many signals it has nothing for now.
+/// Reads from a stream, and repeats a read that a signal interrupts. After many signals the stream counts as having nothing for now.
 fn read_past_signals<T: Read>(stream: &mut T, buf: &mut [u8]) -> io::Result<usize>
     ensures bound { ReadsAtMost result buf.new }
     ensures bytes { ReadConsumes (T.remaining stream.old) (T.remaining stream.new) result buf.new }
@@ -46,20 +64,23 @@ fn read_past_signals<T: Read>(stream: &mut T, buf: &mut [u8]) -> io::Result<usiz
     Err(nothing())
 }
 
-impl<T> Incoming<T> {
-    /// Creates one of which nothing was read yet.
-    pub fn new(stream: T) -> Self
-        ensures { result.stream ≡ stream }
+impl<T: Read> Incoming<T> {
+    /// Creates it for a stream. `said` was read from the stream before, and is read again first.
+    pub fn new(said: Vec<u8>, stream: T) -> Self
+        ensures { left_incoming T.remaining result ≡ option_append (Some said.items) (T.remaining stream) }
     {
         Incoming {
-            stream,
+            again: said.len(),
+            stream: Cursor::new(said).chain(stream),
             is_readable: true,
             is_ending: false,
             is_stopped: false,
             bytes: 0,
         }
     }
+}
 
+impl<T> Incoming<T> {
     /// Notes that bytes may have come, and whether its peer sends no more.
     pub fn note(&mut self, is_ending: bool)
         ensures { self.new.stream ≡ self.old.stream }
@@ -75,7 +96,7 @@ impl<T> Incoming<T> {
         self.is_stopped = true;
     }
 
-    /// Notes that it is read again, and that bytes may have come.
+    /// Notes that it may be read again, since bytes may have come.
     pub fn start(&mut self)
         ensures { self.new.stream ≡ self.old.stream }
     {
@@ -93,13 +114,14 @@ impl<T> Incoming<T> {
         self.bytes
     }
 
-    /// Notes what a read brought. After a short one nothing more has come, unless its peer sends no more.
+    /// Notes what a read brought. After a short one nothing more has come, unless it was read again or its peer sends no more.
     fn note_read(&mut self, asked: usize, read: &io::Result<usize>)
         ensures { self.new.stream ≡ self.old.stream }
     {
         match read {
             Ok(count) => {
-                self.is_readable = *count == asked || self.is_ending;
+                self.is_readable = self.again > 0 || *count == asked || self.is_ending;
+                self.again = self.again.saturating_sub(*count);
                 self.bytes = self.bytes.saturating_add(*count as u64);
             }
             Err(_) => self.is_readable = false,
@@ -108,7 +130,7 @@ impl<T> Incoming<T> {
 }
 
 impl<T: Read> Incoming<T> {
-    /// Reads what comes and drops it, a few times at most. Returns whether its peer has ended or failed.
+    /// Reads and drops what comes, a few times at most, and returns whether its peer has ended or failed.
     pub fn drain(&mut self, buffer: &mut [u8]) -> bool {
         for _read in 0..MOST_DRAINS {
             match self.read(buffer) {
@@ -122,7 +144,7 @@ impl<T: Read> Incoming<T> {
 }
 
 impl<T: Read> Read for Incoming<T> {
-    ghost remaining = { λ incoming. T.remaining incoming.stream };
+    ghost remaining = { left_incoming T.remaining };
 
     fn read(&mut self, buf: &mut [u8]) -> io::Result<usize> {
         if !self.is_readable() {

@@ -11,4 +11,4 @@ mod talk;
 mod visit_clock;
 
 pub use poller::{EndsWriting, Poller, Ready};
-pub use talk::{Talk, TurnBuffer};
+pub use talk::{Halves, Talk, TurnBuffer};

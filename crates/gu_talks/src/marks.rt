@@ -6,8 +6,8 @@ ghost use Rattle.gu_talks.specs.Marks.{MarksAll};
 
 use std::marker::Model;
 
-/// The marks of bytes that are held: how many entries must be kept before each may go. Two numbers stand for them, however many bytes are
-/// held. The first part keeps its number until it is gone, so that it goes whatever is added behind it.
+/// The marks of held bytes: how many entries must be kept before each byte may go. Two numbers are enough, however many bytes are held. The
+/// first part keeps its number until it is gone, so it goes whatever is added after it.
 #[derive(Drop)]
 pub struct Marks {
     /// How many bytes the first part has.
@@ -32,7 +32,7 @@ impl Model for Marks {
 }
 
 impl Marks {
-    /// Creates those of no bytes.
+    /// Creates the marks of no bytes.
     pub fn new() -> Self
         ensures { result ≡ [] }
     {
@@ -44,8 +44,8 @@ impl Marks {
         }
     }
 
-    /// Marks the bytes that are held, this many, with a number: those that have no mark yet. Bytes behind the first part are marked with
-    /// them.
+    /// Marks those of the held bytes that have no mark yet with this number. This many bytes are held. Bytes after the first part get the
+    /// same mark.
     pub fn mark(&mut self, held: usize, number: u64)
         requires { length self.old ≤ held }
         ensures { MarksAll held number self.old self.new }
@@ -78,7 +78,7 @@ impl Marks {
         }
     }
 
-    /// Notes that this many bytes went. Once the first part is gone, the rest is the first part.
+    /// Notes that this many bytes have gone. Once the first part is gone, the rest becomes the first part.
     pub fn pass(&mut self, count: usize)
         requires { count ≤ length self.old }
         ensures { self.new ≡ drop count self.old }

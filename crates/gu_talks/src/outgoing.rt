@@ -1,4 +1,4 @@
-//! The half of a connection that is written to, and what is known of it.
+//! The half of a connection that is written to, and what is known about it.
 
 ghost use Rattle.std.specs.Prelude.{◌≡◌};
 ghost use Rattle.std.specs.Io.{WritesAtMost};
@@ -9,7 +9,7 @@ use crate::poller::EndsWriting;
 use std::io;
 use std::io::{ErrorKind, Write};
 
-/// The half of a connection that is written to. Where it is known that it takes nothing, it isn't asked.
+/// The half of a connection that is written to. It isn't written to while it is known that it takes nothing.
 #[derive(Drop)]
 pub struct Outgoing<T> {
     stream: T,
@@ -18,7 +18,7 @@ pub struct Outgoing<T> {
     bytes: u64,
 }
 
-/// Writes to a stream, again where a signal cut a write short before anything was taken.
+/// Writes to a stream, and repeats a write that a signal interrupts.
 fn write_past_signals<T: Write>(stream: &mut T, buf: &[u8]) -> io::Result<usize>
     ensures appended { WriteAppends (T.contents stream.old) (T.contents stream.new) result buf.now }
     ensures bound { WritesAtMost result buf.now }
@@ -33,7 +33,7 @@ fn write_past_signals<T: Write>(stream: &mut T, buf: &[u8]) -> io::Result<usize>
 }
 
 impl<T> Outgoing<T> {
-    /// Creates one to which nothing was written yet.
+    /// Creates it for a stream that nothing was written to yet.
     pub fn new(stream: T) -> Self
         ensures { result.stream ≡ stream }
     {
@@ -74,7 +74,7 @@ impl<T> Outgoing<T> {
 }
 
 impl<T: EndsWriting> Outgoing<T> {
-    /// Tells the peer that nothing more is written.
+    /// Ends this half of the stream: the peer sees that nothing more comes.
     pub fn end_writing(&mut self) {
         self.stream.end_writing();
     }

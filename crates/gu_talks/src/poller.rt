@@ -13,22 +13,21 @@ pub struct Ready {
     pub is_readable: bool,
     /// It takes bytes again.
     pub is_writable: bool,
-    /// Its peer sends no more, or it failed: it is to be read until it says so.
+    /// Its peer sends no more, or it failed: it is to be read until that shows.
     pub is_ending: bool,
 }
 
 /// The half of a connection that is written to, which can be ended.
 pub trait EndsWriting {
-    /// Tells the peer that nothing more is written.
+    /// Ends this half of the stream: the peer sees that nothing more comes.
     fn end_writing(&mut self);
 }
 
-/// What watches connections, and says which are ready. It says so once for each time that a connection becomes ready, so the worker
-/// remembers it.
+/// Watches connections, and reports which are ready. It reports each readiness once, so the worker remembers it.
 pub trait Poller {
     /// A connection that was accepted.
     type Call: Drop;
-    /// The half of it that is read. It never waits: where nothing has come its error is of the kind `WouldBlock`.
+    /// The half of it that is read. It never waits: if nothing has come, its error is of the kind `WouldBlock`.
     type Incoming: Read + Drop;
     /// The half of it that is written to. It never waits either.
     type Outgoing: Write + EndsWriting + Drop;
@@ -40,7 +39,7 @@ pub trait Poller {
         place: usize,
     ) -> io::Result<(Self::Incoming, Self::Outgoing)>;
 
-    /// Waits until a connection is ready, the worker's bell is rung or this time has passed, and appends which are ready. With no
-    /// time it waits as long as it takes.
+    /// Waits until a connection is ready, the worker's bell is rung or this time has passed, and appends what is ready. Without a time it
+    /// waits as long as it takes.
     fn wait(&mut self, most: Option<Duration>, ready: &mut Vec<Ready>) -> io::Result<()>;
 }

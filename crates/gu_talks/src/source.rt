@@ -1,6 +1,7 @@
 //! What a connection's turns read: its stream, and what was read ahead of it.
 
-ghost use Rattle.std.specs.Prelude.{◌≡◌, [], IfOk, false};
+ghost use Rattle.std.specs.Prelude.{◌≡◌, [], IfOk, Some, false};
+ghost use Rattle.std.specs.Fmt.{option_append};
 ghost use Rattle.std.specs.Io.Buffered.{reader_buffer};
 ghost use Rattle.std.specs.Io.{ReadsAtMost};
 ghost use Rattle.std.specs.Io.KnownBytes.{Keeps, ReadConsumes};
@@ -14,14 +15,14 @@ use std::io::{BufReader, ErrorKind, Read};
 /// How many bytes are read at once at most.
 const MOST_AHEAD: usize = 16_384;
 
-/// A stream of which up to 16,384 bytes are read at once, and how many reads its turns may make still.
+/// A stream that is read up to 16,384 bytes at once, and how many more reads its turns may make.
 #[derive(Drop)]
 pub struct Ahead<T> {
     pub(crate) reader: BufReader<Incoming<T>>,
     pub(crate) left: u64,
 }
 
-/// What a connection reads between its visits: a stream of which no byte is ahead keeps no buffer.
+/// What a connection reads, as it is kept between visits: a stream with no byte read ahead keeps no buffer.
 #[derive(Drop)]
 pub enum Source<T> {
     /// No byte is ahead.
@@ -72,14 +73,14 @@ impl<T: Read> Read for Ahead<T> {
 }
 
 impl<T: Read + Drop> Source<T> {
-    /// Creates one of which nothing was read yet, and whose turns may make this many reads.
-    pub fn new(stream: T, reads: u64) -> Self
-        ensures { left_of T.remaining result ≡ T.remaining stream }
+    /// Creates it for a stream. `said` was read from the stream before, and is read again first. Turns may make this many reads.
+    pub fn new(said: Vec<u8>, stream: T, reads: u64) -> Self
+        ensures { left_of T.remaining result ≡ option_append (Some said.items) (T.remaining stream) }
     {
-        Source::Bare(Incoming::new(stream), reads)
+        Source::Bare(Incoming::new(said, stream), reads)
     }
 
-    /// Returns it as it is read.
+    /// Returns it as a reader.
     pub fn into_ahead(self, alloc: Global) -> Result<Ahead<T>, AllocError>
         ensures { IfOk result (λ ahead. left_ahead T.remaining ahead ≡ left_of T.remaining self) }
     {
@@ -94,7 +95,7 @@ impl<T: Read + Drop> Source<T> {
         }
     }
 
-    /// Returns it with no byte ahead, whose stream is read again: what was read ahead is lost.
+    /// Returns it with no byte read ahead; what was read ahead is lost.
     pub fn into_bare(self) -> Self {
         let (mut stream, left) = match self {
             Source::Ahead(ahead) => {
@@ -143,7 +144,7 @@ impl<T: Read + Drop> Source<T> {
         }
     }
 
-    /// Reads what comes and drops it, a few times at most. Returns whether its peer has ended or failed.
+    /// Reads and drops what comes, a few times at most, and returns whether its peer has ended or failed.
     pub fn drain(&mut self, buffer: &mut [u8]) -> bool {
         match self {
             Source::Ahead(ahead) => ahead.reader.get_mut().drain(buffer),

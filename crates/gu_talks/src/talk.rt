@@ -1,6 +1,7 @@
 //! The exchange of a connection: its session, what it reads and writes, what a turn left, and what is held back.
 
-ghost use Rattle.std.specs.Prelude.{◌≡◌, ◌↔◌, ◌≤◌, ◌<◌, false, true, if◌then◌else◌, drop, length, take, IfOk, IsTrue, OnOk, ℕ};
+ghost use Rattle.std.specs.Prelude.{◌≡◌, ◌↔◌, ◌≤◌, ◌<◌, false, true, if◌then◌else◌, drop, length, take, IfOk, IsTrue, OnOk, Some, ℕ};
+ghost use Rattle.std.specs.Fmt.{option_append};
 ghost use Rattle.std.specs.List.{All};
 ghost use Rattle.gu_talks.specs.Marks.{MarksAll};
 ghost use Rattle.gu_talks.specs.Sources.{left_ahead};
@@ -21,22 +22,46 @@ use std::io::{Read, Write};
 /// How many turns a visit makes at most: enough for all that is read at once.
 const MOST_TURNS: u32 = 4;
 
-/// With more bytes held than this, nothing is read or answered.
+/// While more bytes than this are held, nothing is read or answered.
 const MOST_HELD: usize = 65_536;
 
-/// Where a turn puts what it reads.
+/// The buffer that a turn reads into.
 pub type TurnBuffer = [u8; LONGEST_READ];
 
-/// The exchange of a connection between its visits. No answer leaves but by `send`, and none before it is marked.
-#[derive(Drop)]
+/// The exchange of a connection between its visits. Answers leave only by `send`, and none before it is marked.
 pub struct Talk<I, O> {
     conversation: Conversation,
     source: Source<I>,
     writer: Outgoing<O>,
     backlog: Backlog<NonBlocking>,
-    /// How many entries must be kept before the bytes that are held may go: those that were held when it was marked last.
+    /// How many entries must be kept before the held bytes may go, for those that were held when it was last marked.
     marks: Marks,
     ghost within: { length marks ≤ length backlog.held.bytes.items },
+}
+
+/// The halves of a connection that was accepted.
+#[derive(Drop)]
+pub struct Halves<I, O> {
+    /// What was read from it before: its session reads this first.
+    pub said: Vec<u8>,
+    pub incoming: I,
+    pub outgoing: O,
+}
+
+impl<I: Drop, O: Drop> Drop for Talk<I, O> {
+    fn drop(self) {
+        let Talk {
+            conversation,
+            source,
+            writer,
+            backlog,
+            marks: _,
+        } = self;
+        drop(conversation);
+        drop(source);
+        drop(writer);
+        drop(backlog);
+    }
 }
 
 /// Makes one turn, whose answers are held.
@@ -85,20 +110,26 @@ impl<I: Read + Drop, O: Write + Drop> Talk<I, O> {
     ghost use Rattle.gu_talks.specs.Visits.{ClosesTalk, IsNewTalk, Sends, StaysAsItIs, Visits};
 
     /// Creates the exchange of a connection that was accepted, in which one of these firms may log on. Its turns may make this many reads.
-    pub fn new(alloc: Global, firms: Vec<FirmId>, incoming: I, outgoing: O, reads: u64) -> Self
-        ensures { IsNewTalk result firms.items (I.remaining incoming) I.remaining }
+    pub fn new(alloc: Global, firms: Vec<FirmId>, halves: Halves<I, O>, reads: u64) -> Self
+        ensures { IsNewTalk result firms.items (option_append (Some halves.said.items) (I.remaining halves.incoming)) I.remaining }
     {
+        let Halves {
+            said,
+            incoming,
+            outgoing,
+        } = halves;
         Talk {
             conversation: Conversation::new(alloc, firms),
-            source: Source::new(incoming, reads),
+            source: Source::new(said, incoming, reads),
             writer: Outgoing::new(outgoing),
             backlog: Backlog::new(alloc, NonBlocking),
             marks: Marks::new(),
         }
     }
 
-    /// Makes turns at a moment: one if its firm isn't logged on, else four at most, as long as bytes are ahead. What they answer is held. After
-    /// the last of the session it is told so. Where an allocation fails, the exchange is lost.
+    /// Makes turns at a moment: one if its firm isn't logged on, otherwise up to four, as long as bytes are read ahead. Their answers are
+    /// held. Returns how far the last turn came; after the session's last turn nothing more is answered. If an allocation fails, the
+    /// exchange is lost.
     pub fn turn<H: House>(
         self,
         alloc: Global,
@@ -134,8 +165,7 @@ impl<I: Read + Drop, O: Write + Drop> Talk<I, O> {
         Ok((talk, turned))
     }
 
-    /// Sends its firm, if it is logged on, the Logout of a house that closes: it is held then. It is for one that has nothing left to be
-    /// answered.
+    /// Adds the Logout of a house that closes, if its firm is logged on, to what is held. Nothing may be left to be answered.
     pub fn close<H: House>(self, house: &mut H, moment: Moment) -> Result<Self, StreamError>
         requires { HasNothingLeft self }
         ensures { IfOk result (λ closed. ClosesTalk moment self house.old closed) }
@@ -159,7 +189,7 @@ impl<I: Read + Drop, O: Write + Drop> Talk<I, O> {
         })
     }
 
-    /// Marks the answers that were added since it was marked last: they show this many entries at most, so that they go once these are kept.
+    /// Marks the answers that were added since the last mark: they show no entry above this number, so they go once that many are kept.
     pub fn mark(&mut self, number: u64)
         ensures marked { MarksAll (length self.old.backlog.held.bytes.items) number self.old.marks self.new.marks }
         ensures conversation { self.new.conversation ≡ self.old.conversation }
@@ -170,8 +200,7 @@ impl<I: Read + Drop, O: Write + Drop> Talk<I, O> {
         self.marks.mark(self.backlog.held(), number);
     }
 
-    /// Lets go of as much of what is held as its stream takes and as may go once this many entries are kept, and gives back the room of
-    /// what is empty.
+    /// Sends as much of what is held as its stream takes and as may go while this many entries are kept, and frees empty buffers.
     pub fn send(&mut self, kept: u64) -> Result<(), StreamError>
         ensures { OnOk result (Sends O.contents kept self.old self.new) }
     {
@@ -184,7 +213,7 @@ impl<I: Read + Drop, O: Write + Drop> Talk<I, O> {
         Ok(())
     }
 
-    /// Returns how many bytes that are held may go once this many entries are kept.
+    /// Returns how many held bytes may go once this many entries are kept.
     pub fn free(&self, kept: u64) -> usize
         ensures within { result ≤ length self.now.marks }
         ensures kept { All (λ mark. mark ≤ kept) (take result self.now.marks) }
@@ -206,7 +235,7 @@ impl<I: Read + Drop, O: Write + Drop> Talk<I, O> {
         self.conversation.firm()
     }
 
-    /// Reads what comes and drops it, a few times at most. Returns whether its peer has ended or failed.
+    /// Reads and drops what comes, a few times at most, and returns whether its peer has ended or failed.
     pub fn drain(&mut self, buffer: &mut TurnBuffer) -> bool
         ensures conversation { self.new.conversation ≡ self.old.conversation }
         ensures backlog { self.new.backlog ≡ self.old.backlog }
@@ -242,7 +271,8 @@ impl<I: Read + Drop, O: Write + Drop> Talk<I, O> {
         self.source.stop();
     }
 
-    /// Notes that entries up to this number may inform its firm. Returns whether any of them is new to it: then its next turn sends notices.
+    /// Notes that entries up to this number may inform its firm, and returns whether any of them is new to it. If one is, its next turn
+    /// sends notices.
     pub fn tell(&mut self, number: u64) -> bool
         ensures new { IsTrue result ↔ (self.old.conversation.next ≤ number) }
         ensures told { self.new ≡ (if result then record self.old { conversation = record self.old.conversation { is_behind = true } } else self.old) }
@@ -289,7 +319,7 @@ impl<I: Read + Drop, O: Write + Drop> Talk<I, O> {
         self.backlog.held() > MOST_HELD
     }
 
-    /// Returns whether there is anything to be answered without its stream: bytes are ahead, or a turn left something.
+    /// Returns whether there is anything to answer without reading: bytes are read ahead, or a turn left something.
     pub fn has_work(&self) -> bool
         ensures { result ≡ false → HasNothingLeft self.now }
     {
@@ -303,7 +333,7 @@ impl<I: Read + Drop, O: Write + Drop> Talk<I, O> {
 }
 
 impl<I: Read + Drop, O: EndsWriting + Drop> Talk<I, O> {
-    /// Tells its peer that nothing more is written. What was read ahead is dropped, as is what comes.
+    /// Ends its half of the stream. What was read ahead is dropped, as is what comes.
     pub fn hang_up(self) -> Self
         ensures conversation { result.conversation ≡ self.conversation }
         ensures backlog { result.backlog ≡ self.backlog }

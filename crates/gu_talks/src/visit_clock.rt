@@ -5,7 +5,7 @@ ghost use Rattle.std.specs.Prelude.{◌≡◌};
 use gu_engine::{Clock, ClockFault};
 use gu_terms::Moment;
 
-/// The clock of a connection in one visit: the moment of the visit, for some turns.
+/// The clock of a connection in one visit: the moment of the visit, for a number of turns.
 #[derive(Drop)]
 pub struct VisitClock {
     moment: Moment,

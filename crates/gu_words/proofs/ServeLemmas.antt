@@ -58,6 +58,10 @@ module _ (goes_on : Bool) where
   workers_sound : (words : List Text) → level_fault served [] nothing_held words false [] ≡ [] → Sound (is_unsigned_in 1 60) (codes "W") (rows_after served.rules [] words)
   workers_sound = words_sound (is_unsigned_in 1 60) (codes "W") served (take 10 served.rules) (drop 11 served.rules) (rule_at 10) refl refl refl refl refl (λ v passes. passes) tt
 
+  -- the share of a firm
+  share_sound : (words : List Text) → level_fault served [] nothing_held words false [] ≡ [] → Sound (is_unsigned_in 1 100) (codes "PERCENT") (rows_after served.rules [] words)
+  share_sound = words_sound (is_unsigned_in 1 100) (codes "PERCENT") served (take 14 served.rules) (drop 15 served.rules) (rule_at 14) refl refl refl refl refl (λ v passes. passes) refl
+
   -- the rows before the defaults
   abbrev given_rows : List Text → List Row
   given_rows words = (settled served.rules (walk served.rules [] nothing_held words).held).rows
@@ -85,6 +89,9 @@ module _ (goes_on : Bool) (rows : List Row) where
         (first_passes (is_unsigned_in 0 1000) (codes "K") (rows_after (served goes_on).rules [] words) (every_sound goes_on words none)
         (default_row (is_unsigned_in 0 1000) (codes "K") refl (take 4 (served goes_on).rules) (drop 5 (served goes_on).rules) (rule_at goes_on 4) (codes "16") (given_rows goes_on words) refl refl));
     workers = accepted_workers (first_of (codes "W") (rows_after (served goes_on).rules [] words)) (given_passes (is_unsigned_in 1 60) (codes "W") (rows_after (served goes_on).rules [] words) (workers_sound goes_on words none));
+    share = accepts-Accepts false (Unsigned 1 100) (word_in (rows_after (served goes_on).rules [] words) (codes "PERCENT"))
+        (first_passes (is_unsigned_in 1 100) (codes "PERCENT") (rows_after (served goes_on).rules [] words) (share_sound goes_on words none)
+        (default_row (is_unsigned_in 1 100) (codes "PERCENT") refl (take 14 (served goes_on).rules) (drop 15 (served goes_on).rules) (rule_at goes_on 14) (codes "100") (given_rows goes_on words) refl refl));
   })
 
   -- the command at a place

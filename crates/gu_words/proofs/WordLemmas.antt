@@ -20,7 +20,7 @@ use Rattle.gu_words.specs.declared.words.Task.{Task}
 use Rattle.gu_words.specs.declared.misfit.Misfit.{Misfit}
 use Rattle.gu_words.specs.declared.misfit.Misfit.TheVariants.{ManyConnections, NotAPort, NotUntilClosed}
 use Rattle.gu_words.proofs.ValueLemmas.{or_nil}
-use Rattle.gu_words.specs.ProgramWords.{Captures, Checks, Counts, Fixes, GoesOn, HasCounts, HasNumbers, IsCounted, IsWithin, Issues, Keeping, Lasting, Reads, Replays, Serves, Tells, Wanted, command_in, is_until_closed, keeping_by, lasting_by, number_of, port_word, served_by, text_of, told_by, wanted_by, wanted_in, wanted_of, wanted_of_command, word_in}
+use Rattle.gu_words.specs.ProgramWords.{Captures, Checks, Counts, Fixes, GoesOn, HasCounts, HasNumbers, IsCounted, IsWithin, Issues, Keeping, Lasting, Reads, Replays, Serves, Tells, Wanted, command_in, is_set, is_until_closed, keeping_by, lasting_by, number_of, port_word, served_by, text_of, told_by, wanted_by, wanted_in, wanted_of, wanted_of_command, word_in}
 
 -- the program is one whose words clap tells in full
 pub simple-program : (is_until_closed : Bool) → is_simple_and_free (program is_until_closed) ≡ true
@@ -175,12 +175,14 @@ no_port_read word none =
     ] refl
 
 -- what `serve` asks for, word by word
-pub asks_to_serve : (rows : List Row) (reference : Text) (port : Option ℕ) (script : Option Text) (lasting : Lasting) (every : ℕ) (journal : Option Keeping) (watch doors secrets : Option Text)
+pub asks_to_serve : (rows : List Row) (reference : Text) (port : Option ℕ) (script : Option Text) (lasting : Lasting) (every : ℕ) (journal : Option Keeping) (watch doors secrets : Option Text) (log : Bool) (share : ℕ)
     → reference ≡ word_in rows (codes "REF") → port ≡ option_map number_of (port_word rows) → script ≡ first_of (codes "script") rows
     → lasting ≡ lasting_by rows → every ≡ number_of (word_in rows (codes "K")) → journal ≡ keeping_by rows
     → watch ≡ first_of (codes "watch") rows → doors ≡ first_of (codes "doors") rows → secrets ≡ first_of (codes "secrets") rows
-    → Serves reference port script lasting every journal watch doors secrets ≡ served_by rows
-asks_to_serve rows reference port script lasting every journal watch doors secrets a b c d e f g h k = λ i. Serves (a i) (b i) (c i) (d i) (e i) (f i) (g i) (h i) (k i)
+    → log ≡ is_set rows (codes "log") → share ≡ number_of (word_in rows (codes "PERCENT"))
+    → Serves reference port script lasting every journal watch doors secrets log share ≡ served_by rows
+asks_to_serve rows reference port script lasting every journal watch doors secrets log share a b c d e f g h k l m =
+    λ i. Serves (a i) (b i) (c i) (d i) (e i) (f i) (g i) (h i) (k i) (l i) (m i)
 
 -- a server that goes on until it is closed
 pub goes_on : (rows : List Row) (console : Text) (places : ℕ) (workers : Option ℕ) → is_until_closed rows ≡ true → console ≡ word_in rows (codes "console")

@@ -41,6 +41,10 @@ flag_rule name = record (new_rule name) { long = Some name; action = Some SetTru
 abbrev pub workers_rule : Rule
 workers_rule = record (new_rule (codes "W")) { long = Some (codes "workers"); parser = Some (Unsigned 1 60) }
 
+-- how many of a hundred parts of what there is room for one firm has, 1 to 100, and all of them where nothing is said
+abbrev pub share_rule : Rule
+share_rule = number_rule (codes "PERCENT") (codes "share") (Unsigned 1 100) (codes "100")
+
 -- any number of lines
 abbrev pub lines_rule : Rule
 lines_rule = record (new_rule (codes "LINE")) { range = Some (record { start_inclusive = 0; end_inclusive = usize_max }) }
@@ -69,9 +73,11 @@ operated_app is_until_closed =
     with_rule (with_rule (with_rule (with_rule (counted_app (most_connections is_until_closed)) (path_rule (codes "console")))
     (path_rule (codes "watch"))) (flag_rule (codes "until-closed"))) workers_rule
 
--- the command `serve`: with these, the folder of the firms' doors, and the file of their secrets
+-- the command `serve`: with these, the folder of the firms' doors, the file of their secrets, a log, and the share of a firm
 abbrev pub serve_shape : Bool → Shape
-serve_shape is_until_closed = (with_rule (with_rule (operated_app is_until_closed) (path_rule (codes "doors"))) (path_rule (codes "secrets"))).top
+serve_shape is_until_closed =
+    (with_rule (with_rule (with_rule (with_rule (operated_app is_until_closed) (path_rule (codes "doors"))) (path_rule (codes "secrets"))) (flag_rule (codes "log")))
+    share_rule).top
 
 -- the command `tell`, which takes the path of a socket, and lines
 abbrev pub tell_shape : Shape

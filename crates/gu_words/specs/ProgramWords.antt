@@ -31,14 +31,15 @@ pub record Keeping : Type 0 where
 -- what words may ask for: trade capture, the check of a sheet, one session of a firm on the reference of a file, perhaps after a script,
 -- a script on such a reference, a server on such a reference, lines for a server, or a secret for a firm. A server has perhaps a port, a
 -- script that is run first, how long it goes on, which of its connections' give-ups are swept, and perhaps the file of its journal, the
--- socket at which it is watched, the folder of its firms' doors and the file of their secrets
+-- socket at which it is watched, the folder of its firms' doors and the file of their secrets; it may write a log; and it has
+-- the percentage that one firm may have of what there is room for
 pub data Wanted : Type 0 where
   Captures : Wanted
   Checks : Wanted
   Fixes : (firm reference : Text) (script : Option Text) → Wanted
   Replays : (reference : Text) → Wanted
   Serves : (reference : Text) (port : Option ℕ) (script : Option Text) (lasting : Lasting) (every : ℕ) (journal : Option Keeping)
-      (watch doors secrets : Option Text) → Wanted
+      (watch doors secrets : Option Text) (log : Bool) (share : ℕ) → Wanted
   Tells : (path : Text) (lines : List Text) → Wanted
   Issues : (firm : Text) → Wanted
 
@@ -68,7 +69,7 @@ wanted_of (Fix firm reference script) = Fixes firm.now reference.now (text_of sc
 wanted_of (Replay reference) = Replays reference.now
 wanted_of (Serve s) =
     Serves s.reference.now s.port (text_of s.script) (lasting_of s.span) s.every (keeping_of s.journal)
-    (text_of s.watch) (text_of s.doors) (text_of s.secrets)
+    (text_of s.watch) (text_of s.doors) (text_of s.secrets) s.log s.share
 wanted_of (Tell path lines) = Tells path.now (map (λ line. line.now) lines.items)
 wanted_of (Secret firm) = Issues firm.now
 
@@ -98,6 +99,7 @@ pub record HasCounts (rows : List Row) : Type 0 where
   pub connections : IsUnsignedIn 1 1024 (word_in rows (codes "N"))
   pub every : IsUnsignedIn 0 1000 (word_in rows (codes "K"))
   pub workers : IfSome (first_of (codes "W") rows) (IsUnsignedIn 1 60)
+  pub share : IsUnsignedIn 1 100 (word_in rows (codes "PERCENT"))
 
 -- and so is its port, where it has one
 pub record HasNumbers (rows : List Row) : Type 0 where
@@ -120,7 +122,7 @@ abbrev pub served_by : List Row → Wanted
 served_by rows =
     Serves (word_in rows (codes "REF")) (option_map number_of (port_word rows)) (first_of (codes "script") rows) (lasting_by rows)
     (number_of (word_in rows (codes "K"))) (keeping_by rows) (first_of (codes "watch") rows) (first_of (codes "doors") rows)
-    (first_of (codes "secrets") rows)
+    (first_of (codes "secrets") rows) (is_set rows (codes "log")) (number_of (word_in rows (codes "PERCENT")))
 
 -- what `tell` asks for
 abbrev pub told_by : List Row → Wanted

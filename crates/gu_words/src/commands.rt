@@ -66,6 +66,14 @@ const WORKERS: &str =
 const DOORS: &str =
     "The path of a folder in which each firm of the reference has a socket of its own, at which that firm alone may log on";
 
+/// What help says of a log.
+const LOG: &str =
+    "Writes a line on standard error for each thing that happens: who connects, logs on and is refused, what is swept, and so on";
+
+/// What help says of a firm's share.
+const SHARE: &str =
+    "The percentage that the sessions of one firm may make of the entries for which there is room when it begins, and of a group's open offers, 1 to 100";
+
 /// What help says of secrets.
 const SECRETS: &str =
     "The path of a file of secrets: a firm then logs on only with a Password (554) that fits one of its rows";
@@ -248,7 +256,18 @@ pub fn serve_command<'a>(alloc: Global, is_until_closed: bool) -> Result<Command
     let doors = path_option(alloc, "doors", "FOLDER", DOORS);
     let with_doors = operated.arg(doors)?;
     let secrets = path_option(alloc, "secrets", "FILE", SECRETS);
-    with_doors.arg(secrets)
+    let with_secrets = with_doors.arg(secrets)?;
+    let log = flag(alloc, "log", LOG);
+    let logged = with_secrets.arg(log)?;
+    let share = number_option(
+        alloc,
+        "PERCENT",
+        "share",
+        ValueParser::unsigned(1, 100),
+        "100",
+        SHARE,
+    );
+    logged.arg(share)
 }
 
 /// A command that takes a port alone, and none but a number of one.

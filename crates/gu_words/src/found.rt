@@ -190,6 +190,8 @@ pub fn serving_in<'a>(found: &ArgMatches<'a>) -> Serving<'a>
         watch: found.get_str("watch"),
         doors: found.get_str("doors"),
         secrets: found.get_str("secrets"),
+        log: is_set(found, "log"),
+        share: number(word(found, "PERCENT"), 1, 100),
     }
 }
 

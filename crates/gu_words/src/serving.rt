@@ -67,8 +67,14 @@ pub struct Serving<'a> {
     pub doors: Option<&'a str>,
     /// The path of the file of the secrets with which firms log on, where one is named.
     pub secrets: Option<&'a str>,
+    /// Whether what happens is written on standard error.
+    pub log: bool,
+    /// The percentage that the sessions of one firm may make of the entries for which there is room, and of a group's open offers: 1 to 100.
+    pub share: u16,
     ghost port_from_one: { 1 ≤ unwrap_or port 1 },
     ghost every_within: { every ≤ 1000 },
+    ghost share_from_one: { 1 ≤ share },
+    ghost share_to_all: { share ≤ 100 },
 }
 
 impl<'a> Serving<'a> {

@@ -1,2 +1,3 @@
 pub mod InsideHouses
+pub mod KnockEnds
 pub mod Staying

@@ -7,9 +7,9 @@ use Rattle.gu_workers.specs.Knockers.{firms_at}
 use Rattle.gu_workers.specs.declared.guest.Guest.{Guest}
 use Rattle.gu_workers.specs.declared.guest.Guest.TheVariants.{Talks, Knocks}
 
--- Without secrets a session begins, in which whoever may log on at this door may log on; with secrets there is no session yet, and who may be let
--- in at this door is listened to from the first byte on.
+-- Without secrets a session begins, in which whoever may log on at this door may log on, unless the first message is looked at before. With
+-- secrets there is no session yet. Who is looked at or may be let in at this door is listened to from the first byte on.
 abbrev pub BeginsAt : {I O : Type 0} → List FirmId → Option FirmId → Option (List SecretRow) → Guest I O → Type 0
 BeginsAt firms door None (Talks place) = place.talk.conversation ≡ new_conversation (firms_at door firms)
-BeginsAt firms door (Some rows) (Knocks knocker) = (knocker.stand.door ≡ door) × IsSomeAnd knocker.listening (λ listening. listening.knock ≡ [])
-BeginsAt firms door _ _ = ⊥
+BeginsAt firms door _ (Knocks knocker) = (knocker.stand.door ≡ door) × IsSomeAnd knocker.listening (λ listening. listening.knock ≡ [])
+BeginsAt firms door (Some rows) (Talks place) = ⊥

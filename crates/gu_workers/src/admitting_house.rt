@@ -1,4 +1,4 @@
-//! A house that asks whether a firm may have a place before it tells it anything.
+//! A house that asks whether a firm may have a place before it answers it.
 
 ghost use Rattle.std.specs.Prelude.{◌≡◌, ◌<◌, false, is_some, IfOk, IsSome, OnOk};
 ghost use Rattle.gu_workers.specs.Admitting.{inside};
@@ -10,25 +10,31 @@ use gu_engine::{Answered, Ask, House};
 use gu_terms::{FirmId, Stretch};
 use std::alloc::AllocError;
 
-/// The house of a worker, which admits firms. The first that it is asked of a firm which has just logged on is its notices: then it asks
-/// whether the firm may have a place. If not, it gives nothing, so that the turn fails: nothing that the firm sent after its Logon is answered.
+/// The house of a worker, which admits firms. When a firm has just logged on, the first request is for its notices; the house then asks
+/// whether the firm may have a place. If not, it gives none, so the turn fails and nothing that the firm sent after its Logon is answered.
 #[derive(Drop)]
 pub struct AdmittingHouse<'a, H, A> {
     house: H,
     admission: &'a A,
+    /// The number of the connection that it answers.
+    connection: u64,
     /// The firm of the connection that it answers, if it has a place.
     firm: Option<FirmId>,
+    /// Whether a firm of that connection was refused a place.
+    has_refused: bool,
 }
 
 impl<'a, H, A> AdmittingHouse<'a, H, A> {
-    /// Creates that of a worker which answers no connection yet.
+    /// Creates the house of a worker that answers no connection yet.
     pub fn new(house: H, admission: &'a A) -> Self
         ensures { result.house ≡ house }
     {
         AdmittingHouse {
             house,
             admission,
+            connection: 0,
             firm: None,
+            has_refused: false,
         }
     }
 
@@ -39,27 +45,36 @@ impl<'a, H, A> AdmittingHouse<'a, H, A> {
         self.firm
     }
 
-    /// Returns the house in it, which outlives it.
+    /// Returns whether a firm of the connection that it answers was refused a place.
+    pub fn has_refused(&self) -> bool {
+        self.has_refused
+    }
+
+    /// Returns the inner house.
     pub fn into_house(self) -> H
         ensures { result ≡ self.entry.house }
     {
         let AdmittingHouse {
             house,
             admission: _,
+            connection: _,
             firm: _,
+            has_refused: _,
         } = self;
         house
     }
 }
 
 impl<H: AnswersMany, A> AdmittingHouse<'_, H, A> {
-    /// Goes on with a connection: its firm has a place if it was admitted before.
+    /// Turns to a connection. Its firm has a place if it was admitted before.
     pub fn resume(&mut self, card: &Card) {
         self.house.resume(card.number, card.give_ups);
+        self.connection = card.number;
         self.firm = card.firm();
+        self.has_refused = false;
     }
 
-    /// Returns the count of the connection that it answers.
+    /// Returns the count of give-ups of the connection that it answers.
     pub fn give_ups(&self) -> u64 {
         self.house.give_ups()
     }
@@ -77,8 +92,12 @@ impl<H, A: Admission> AdmittingHouse<'_, H, A> {
         ensures admitted { result ≡ is_some self.new.firm }
         ensures kept { IsSome self.old.firm → self.new.firm ≡ self.old.firm }
     {
-        if self.firm.is_none() && self.admission.admit(firm) {
-            self.firm = Some(*firm);
+        if self.firm.is_none() {
+            if self.admission.admit(self.connection, firm) {
+                self.firm = Some(*firm);
+            } else {
+                self.has_refused = true;
+            }
         }
         self.firm.is_some()
     }

@@ -1,8 +1,9 @@
-//! What a worker knows of a connection besides its exchange.
+//! What a worker knows about a connection apart from its exchange.
 
+use gu_log::LogonFault;
 use gu_terms::{FirmId, Moment};
 
-/// The firm of a connection, which was admitted.
+/// The admitted firm of a connection.
 #[derive(Clone, Copy, Debug)]
 pub struct Admitted {
     pub firm: FirmId,
@@ -10,27 +11,31 @@ pub struct Admitted {
     pub index: u64,
 }
 
-/// What a worker knows of a connection besides its exchange.
+/// What a worker knows about a connection apart from its exchange.
 #[derive(Clone, Copy, Debug)]
 pub struct Card {
     /// The number of the connection.
     pub number: u64,
     /// The port of its peer.
     pub port: u64,
-    /// The moment at which it came.
+    /// When it came.
     pub since: Moment,
-    /// The moment at which bytes came last.
+    /// When bytes last came.
     pub heard: Moment,
     /// How many bytes had come by then.
     pub bytes: u64,
-    /// Its firm, once it is logged on and admitted.
+    /// Its firm, from its admission to the end of its session.
     pub firm: Option<Admitted>,
-    /// How many give-ups it made since the last order of a sweep.
+    /// The firm that was admitted, also after the end of its session.
+    pub caller: Option<FirmId>,
+    /// The fault of its first message if its session refuses it, if the message was looked at.
+    pub fault: Option<LogonFault>,
+    /// How many give-ups it has made since it last ordered a sweep.
     pub give_ups: u64,
 }
 
 impl Card {
-    /// Creates that of a connection which comes at this moment.
+    /// Creates the card of a connection that comes at this moment.
     pub fn new(number: u64, port: u64, now: Moment) -> Self {
         Card {
             number,
@@ -39,6 +44,8 @@ impl Card {
             heard: now,
             bytes: 0,
             firm: None,
+            caller: None,
+            fault: None,
             give_ups: 0,
         }
     }

@@ -21,7 +21,7 @@ pub enum WorkerError {
 }
 
 impl WorkerError {
-    /// Returns its kind, for those that the worker shares.
+    /// Returns its kind, for others to see.
     pub fn kind(&self) -> Failure {
         match self {
             WorkerError::Memory => Failure::Memory,

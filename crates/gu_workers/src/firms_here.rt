@@ -1,18 +1,18 @@
-//! How many connections of the firms of each place a worker has.
+//! How many connections a worker has for the firms at each place of the list.
 
 use gu_notices::FirmPlace;
 
 /// How many places there are for firms.
 const FIRM_PLACES: usize = 64;
 
-/// How many connections of the firms of each place a worker has.
+/// How many connections a worker has for the firms at each place of the list.
 #[derive(Drop)]
 pub struct FirmsHere {
     counts: [u64; FIRM_PLACES],
 }
 
 impl FirmsHere {
-    /// Creates that of a worker which has none.
+    /// Creates the counts of a worker without connections.
     pub fn new() -> Self {
         FirmsHere {
             counts: [0; FIRM_PLACES],
@@ -26,7 +26,7 @@ impl FirmsHere {
         }
     }
 
-    /// Counts out a connection of a firm. Returns whether it was the last of its place.
+    /// Counts down a connection of a firm, and returns whether it was the last at its place.
     pub fn remove(&mut self, firm: FirmPlace) -> bool {
         let Some(count) = self.counts.get_mut(firm.number() as usize) else {
             return false;

@@ -1,4 +1,4 @@
-//! Who is at a place: a connection with a session, or one of which it isn't known yet which firm it is.
+//! The connection at a place: one with a session, or one whose firm isn't known yet.
 
 ghost use Rattle.std.specs.Prelude.{◌≡◌};
 
@@ -7,17 +7,14 @@ use crate::knocker::Knocker;
 use crate::place::Place;
 use crate::stage::Deadline;
 use gu_talks::{EndsWriting, Ready};
-use std::io::{Chain, Cursor, Read, Write};
+use std::io::{Read, Write};
 
-/// A stream of which some bytes were read before, which are read again first.
-pub type Heard<I> = Chain<Cursor<Vec<u8>>, I>;
-
-/// Who is at a place.
+/// The connection at a place.
 #[derive(Drop)]
 pub enum Guest<I, O> {
     /// A connection with a session.
-    Talks(Place<Heard<I>, O>),
-    /// A connection of which it isn't known yet which firm it is.
+    Talks(Place<I, O>),
+    /// A connection whose firm isn't known yet.
     Knocks(Knocker<I, O>),
 }
 
@@ -30,7 +27,7 @@ impl<I: Read + Drop, O: Write + EndsWriting + Drop> Guest<I, O> {
         }
     }
 
-    /// Returns what is known of it besides its exchange.
+    /// Returns its card.
     pub fn card(&self) -> Card {
         match self {
             Guest::Talks(place) => place.card,
@@ -38,7 +35,7 @@ impl<I: Read + Drop, O: Write + EndsWriting + Drop> Guest<I, O> {
         }
     }
 
-    /// Notes that its firm may be informed by the entries up to this number. Returns whether any of them is new to it.
+    /// Notes that entries up to this number may inform its firm, and returns whether any of them is new to it.
     pub fn tell(&mut self, number: u64) -> bool {
         match self {
             Guest::Talks(place) => place.tell(number),
@@ -46,21 +43,14 @@ impl<I: Read + Drop, O: Write + EndsWriting + Drop> Guest<I, O> {
         }
     }
 
-    /// Notes that nothing more is to be read for its session, whatever comes.
+    /// Notes that nothing more is to be read for its session.
     pub fn stop_reading(&mut self) {
         if let Guest::Talks(place) = self {
             place.stop_reading();
         }
     }
 
-    /// Has its session read again, whether or not bytes are known to have come.
-    pub fn try_read(&mut self) {
-        if let Guest::Talks(place) = self {
-            place.talk.try_read();
-        }
-    }
-
-    /// Returns when it is to be visited though nothing happens, where the close began then and held answers may wait so long.
+    /// Returns when it is to be visited even if nothing happens, given when the close began, if it did, and how long held answers may wait.
     pub fn deadline(&self, closing: Option<u64>, write_wait_ms: u64) -> Deadline {
         match self {
             Guest::Talks(place) => place.deadline(closing, write_wait_ms),
@@ -68,7 +58,7 @@ impl<I: Read + Drop, O: Write + EndsWriting + Drop> Guest<I, O> {
         }
     }
 
-    /// Lets go of as much of what is held as its stream takes and as may go while this many entries are kept, once and for all.
+    /// Sends as much of what is held as its stream takes and as may go now that this many entries are kept. No more entries will be kept.
     pub fn send_last(&mut self, kept: u64) {
         if let Guest::Talks(place) = self {
             let _ = place.talk.send(kept);

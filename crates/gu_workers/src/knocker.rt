@@ -1,36 +1,36 @@
-//! A connection at its place before there is a session: what it says first is looked at.
+//! A connection at its place before there is a session, whose first message is looked at.
 
-ghost use Rattle.std.specs.Prelude.{◌≡◌, [], IfOk, IsSomeAnd};
-ghost use Rattle.gu_knocks.specs.Listening.{Listens};
-ghost use Rattle.gu_workers.specs.Knockers.{BecomesAfter, IsVisited, firms_at};
+ghost use Rattle.std.specs.Prelude.{◌≡◌, [], IfErr, IfOk, IsSomeAnd};
+ghost use Rattle.std.specs.Option.{option_map};
+ghost use Rattle.gu_workers.specs.Knockers.{BecomesAfter, EndsBy, IsEndAfter, IsVisited, end_cause_of, firms_at};
 
 use crate::card::Card;
-use crate::place::Ended;
 use crate::stage::{Deadline, HANG_UP_MS, LOGON_WAIT_MS};
 use crate::timer::Now;
-use gu_knocks::{Guard, Listened, Listening};
+use gu_knocks::{Glance, Guard, Listened, Listening};
+use gu_log::{EndCause, LogonFault};
 use gu_posts::ConnectionStatus;
-use gu_talks::{Ready, TurnBuffer};
+use gu_talks::{Halves, Ready, TurnBuffer};
 use gu_terms::FirmId;
 use std::alloc::Global;
 use std::io::Read;
 use std::slice;
 
-/// Where a connection stands of which it isn't known yet which firm it is.
+/// What a worker knows about a connection whose firm isn't known yet.
 #[derive(Drop)]
 pub struct Stand<O> {
     pub(crate) outgoing: O,
-    /// The firm at whose own door it came, if it came by one.
+    /// The firm whose door it came by, if it came by one.
     pub(crate) door: Option<FirmId>,
     pub(crate) card: Card,
-    /// The milliseconds at which it is dropped.
+    /// When it is dropped, in milliseconds.
     pub(crate) until: u64,
 }
 
-/// A connection of which it isn't known yet which firm it is.
+/// A connection whose firm isn't known yet.
 #[derive(Drop)]
 pub struct Knocker<I, O> {
-    /// What it says, until nobody is let in.
+    /// What it has said, until it is turned away.
     listening: Option<Listening<I>>,
     stand: Stand<O>,
 }
@@ -38,26 +38,28 @@ pub struct Knocker<I, O> {
 /// A connection that is let in.
 #[derive(Drop)]
 pub struct LetIn<I, O> {
-    /// The firm that may log on.
-    pub firm: FirmId,
-    /// All that it has said, which its session is to read first.
-    pub said: Vec<u8>,
-    pub incoming: I,
-    pub outgoing: O,
+    /// The firm whose secret fitted, if there are secrets.
+    pub firm: Option<FirmId>,
+    /// The firm whose door it came by, if it came by one.
+    pub door: Option<FirmId>,
+    /// Its two halves, and all that it has said.
+    pub halves: Halves<I, O>,
     pub card: Card,
 }
 
-/// What became of a connection that was listened to.
+/// What became of a connection after it was listened to.
 #[derive(Drop)]
 pub enum Knocked<I, O> {
-    /// It isn't known yet which firm it is, or nobody is let in.
+    /// Its firm isn't known yet, or it was turned away.
     Stays(Knocker<I, O>),
+    /// It is turned away, for this reason.
+    TurnedAway(Knocker<I, O>, Glance),
     /// It is let in.
     Enters(LetIn<I, O>),
 }
 
 impl<O> Stand<O> {
-    /// Creates that of a connection which came at the door of this firm, or by the port.
+    /// Creates it for a connection that came by the door of this firm, or by the port.
     pub fn new(outgoing: O, door: Option<FirmId>, card: Card, now: &Now) -> Self
         ensures { result.door ≡ door }
     {
@@ -69,9 +71,9 @@ impl<O> Stand<O> {
         }
     }
 
-    /// Returns who may be let in here, where these may be let in by the port.
+    /// Returns the firms that may be let in here, given those that may come by the port.
     fn guard<'a>(&'a self, guard: Guard<'a>) -> Guard<'a>
-        ensures secrets { result.secrets.now ≡ guard.entry.secrets.now }
+        ensures secrets { option_map (λ secrets. secrets.now) result.secrets ≡ option_map (λ secrets. secrets.now) guard.entry.secrets }
         ensures firms { result.firms.now ≡ firms_at self.now.door guard.entry.firms.now }
     {
         match &self.door {
@@ -83,12 +85,21 @@ impl<O> Stand<O> {
         }
     }
 
-    /// Returns what becomes of it after it was listened to.
-    fn after<I>(mut self, listened: Listened<I>, now: &Now) -> Result<Knocked<I, O>, Ended>
+    /// Returns the fault of a first message. One that names another firm at a firm's door came by the wrong door.
+    fn fault_of(&self, fault: LogonFault) -> LogonFault {
+        match fault {
+            LogonFault::Sender if self.door.is_some() => LogonFault::Door,
+            _ => fault,
+        }
+    }
+
+    /// Returns what becomes of it, given what listening to it found.
+    fn after<I>(mut self, listened: Listened<I>, now: &Now) -> Result<Knocked<I, O>, EndCause>
     where
         I: Drop,
         O: Drop,
-        ensures { IfOk result (BecomesAfter listened self.door) }
+        ensures ok { IfOk result (BecomesAfter listened self.door) }
+        ensures ended { IfErr result (IsEndAfter listened) }
     {
         match listened {
             Listened::Waits(listening) => {
@@ -98,30 +109,49 @@ impl<O> Stand<O> {
                     stand: self,
                 }))
             }
-            Listened::LetsIn { firm, said, stream } => {
-                let Stand { outgoing, card, .. } = self;
-                Ok(Knocked::Enters(LetIn {
-                    firm,
-                    said,
-                    incoming: stream,
+            Listened::LetsIn {
+                glance,
+                said,
+                stream,
+            } => {
+                let fault = self.fault_of(glance.fault);
+                let Stand {
                     outgoing,
+                    door,
+                    mut card,
+                    ..
+                } = self;
+                card.fault = Some(fault);
+                Ok(Knocked::Enters(LetIn {
+                    firm: glance.firm,
+                    door,
+                    halves: Halves {
+                        said,
+                        incoming: stream,
+                        outgoing,
+                    },
                     card,
                 }))
             }
-            Listened::Refuses => {
+            Listened::Refuses { glance, stream } => {
+                drop(stream);
+                let fault = self.fault_of(glance.fault);
                 self.until = now.ms.saturating_add(HANG_UP_MS);
-                Ok(Knocked::Stays(Knocker {
+                let knocker = Knocker {
                     listening: None,
                     stand: self,
-                }))
+                };
+                let firm = glance.firm;
+                Ok(Knocked::TurnedAway(knocker, Glance { firm, fault }))
             }
-            Listened::Ends => Err(Ended { has_failed: false }),
+            Listened::Ends => Err(EndCause::Done),
+            Listened::Fails => Err(EndCause::Stream),
         }
     }
 }
 
 impl<I, O> Knocker<I, O> {
-    /// Creates that of a connection that has just come.
+    /// Creates it for a connection that has just come.
     pub fn new(alloc: Global, incoming: I, stand: Stand<O>) -> Self
         ensures door { result.stand.door ≡ stand.door }
         ensures new { IsSomeAnd result.listening (λ listening. (listening.stream ≡ incoming) × (listening.knock ≡ [])) }
@@ -141,12 +171,12 @@ impl<I, O> Knocker<I, O> {
         }
     }
 
-    /// Returns what is known of it.
+    /// Returns its card.
     pub fn card(&self) -> Card {
         self.stand.card
     }
 
-    /// Returns when it is to be visited though nothing happens.
+    /// Returns when it is to be visited even if nothing happens.
     pub fn deadline(&self) -> Deadline {
         Deadline {
             ms: self.stand.until,
@@ -162,7 +192,17 @@ impl<I, O> Knocker<I, O> {
         }
     }
 
-    /// Returns what is shown of it.
+    /// Returns the reason for which it ends once its time is up.
+    fn end_cause(&self) -> EndCause
+        ensures { result ≡ end_cause_of self.now.listening }
+    {
+        match &self.listening {
+            Some(_) => EndCause::NoLogon,
+            None => EndCause::Refused,
+        }
+    }
+
+    /// Returns its row in STATUS.
     pub fn status(&self) -> ConnectionStatus {
         let card = self.stand.card;
         ConnectionStatus {
@@ -181,19 +221,20 @@ impl<I, O> Knocker<I, O> {
 }
 
 impl<I: Read + Drop, O: Drop> Knocker<I, O> {
-    /// Listens to it once, as long as somebody may be let in. Who isn't let in gets no byte, and is dropped after a second; so is one that
-    /// says nothing whole in 30.
+    /// Listens to it once, unless it was turned away. A connection that is turned away is closed silently after a second, and one that
+    /// sends no whole message within 30 seconds is closed too.
     pub fn visit(
         self,
         alloc: Global,
         guard: Guard<'_>,
         buffer: &mut TurnBuffer,
         now: &Now,
-    ) -> Result<Knocked<I, O>, Ended>
-        ensures { IfOk result (IsVisited I.remaining guard.entry.secrets.now guard.entry.firms.now self) }
+    ) -> Result<Knocked<I, O>, EndCause>
+        ensures visited { IfOk result (IsVisited I.remaining (option_map (λ secrets. secrets.now) guard.entry.secrets) guard.entry.firms.now self) }
+        ensures ended { IfErr result (EndsBy I.remaining now.now.ms self) }
     {
         if self.stand.until <= now.ms {
-            return Err(Ended { has_failed: true });
+            return Err(self.end_cause());
         }
         let Knocker { listening, stand } = self;
         let Some(listening) = listening else {
@@ -204,7 +245,7 @@ impl<I: Read + Drop, O: Drop> Knocker<I, O> {
         };
         match listening.listen(alloc, stand.guard(guard), buffer) {
             Ok(listened) => stand.after(listened, now),
-            Err(_) => Err(Ended { has_failed: true }),
+            Err(_) => Err(EndCause::Memory),
         }
     }
 }

@@ -1,4 +1,4 @@
-//! Workers: each turns many connections of firms, over a poller, and waits for no one of them.
+//! Workers: each serves many connections of firms over a poller, and waits for none of them alone.
 #![tactic(auto)]
 
 mod admission;

@@ -1,4 +1,4 @@
-//! A connection at its place in a worker: its exchange, how far it has come, and what waits.
+//! A connection at its place in a worker: its exchange, its stage, and what waits.
 
 ghost use Rattle.std.specs.Prelude.{◌≡◌, ◌≤◌, true, false, length, IfOk};
 ghost use Rattle.gu_talks.specs.Marks.{MarksAll};
@@ -10,26 +10,18 @@ use crate::card::Card;
 use crate::stage::{Deadline, HANG_UP_MS, LOGOUT_MS, Stage};
 use crate::timer::Now;
 use gu_engine::{House, Turned};
+use gu_log::EndCause;
 use gu_posts::ConnectionStatus;
 use gu_streams::StreamError;
 use gu_talks::{EndsWriting, Ready, Talk, TurnBuffer};
 use std::alloc::Global;
 use std::io::{Read, Write};
 
-/// Why a connection leaves its place.
-#[derive(Clone, Copy, Debug, PartialEq, Eq)]
-pub struct Ended {
-    /// Whether by a fault: its own, or that of its stream or of memory.
-    pub has_failed: bool,
-}
-
-impl From<StreamError> for Ended {
-    ghost use Rattle.std.specs.Prelude.{⊤};
-
-    ghost from_gives = { λ _ ended. ⊤ };
-
-    fn from(_: StreamError) -> Self {
-        Ended { has_failed: true }
+/// Returns why a connection ends if its exchange failed.
+pub fn cause_of(error: StreamError) -> EndCause {
+    match error {
+        StreamError::Memory => EndCause::Memory,
+        _ => EndCause::Stream,
     }
 }
 
@@ -39,9 +31,9 @@ pub struct Place<I, O> {
     pub(crate) talk: Talk<I, O>,
     pub(crate) stage: Stage,
     pub(crate) card: Card,
-    /// The milliseconds since which answers may go and none of them went out.
+    /// Since when, in milliseconds, answers may go and none has gone out.
     pub(crate) held_since: Option<u64>,
-    /// Whether its firm is told of entries whose notices no turn has sent yet.
+    /// Whether entries inform its firm whose notices no turn has sent yet.
     pub(crate) is_told: bool,
 }
 
@@ -81,7 +73,7 @@ impl<I: Read + Drop, O: Write + EndsWriting + Drop> Place<I, O> {
         }
     }
 
-    /// Notes that nothing more is to be read for its session, whatever comes.
+    /// Notes that nothing more is to be read for its session.
     pub fn stop_reading(&mut self)
         ensures conversation { self.new.talk.conversation ≡ self.old.talk.conversation }
         ensures same { self.new ≡ record self.old { talk = self.new.talk } }
@@ -91,7 +83,7 @@ impl<I: Read + Drop, O: Write + EndsWriting + Drop> Place<I, O> {
         }
     }
 
-    /// Notes that its firm may be informed by the entries up to this number. Returns whether any of them is new to it.
+    /// Notes that entries up to this number may inform its firm, and returns whether any of them is new to it.
     pub fn tell(&mut self, number: u64) -> bool
         ensures told { result ≡ true → (self.new.talk.conversation.is_behind ≡ true) × (self.new.is_told ≡ true) }
         ensures new { is_leaving self.old.stage ≡ false → self.old.talk.conversation.next ≤ number → result ≡ true }
@@ -104,7 +96,7 @@ impl<I: Read + Drop, O: Write + EndsWriting + Drop> Place<I, O> {
         is_new
     }
 
-    /// Returns when it is to be visited though nothing happens, where the close began then and held answers may wait so long.
+    /// Returns when it is to be visited even if nothing happens, given when the close began, if it did, and how long held answers may wait.
     pub fn deadline(&self, closing: Option<u64>, write_wait_ms: u64) -> Deadline {
         let mut ms = self.stage.drops_at(closing);
         if let Some(since) = self.held_since {
@@ -120,20 +112,16 @@ impl<I: Read + Drop, O: Write + EndsWriting + Drop> Place<I, O> {
         dropped.min(Deadline::of_session(self.talk.due_at()))
     }
 
-    /// Returns whether its time is up.
-    pub fn is_overdue(&self, closing: Option<u64>, write_wait_ms: u64, now: &Now) -> bool {
-        let waits_in_vain = match self.held_since {
-            Some(since) => since.saturating_add(write_wait_ms) <= now.ms,
-            None => false,
-        };
-        waits_in_vain || self.stage.drops_at(closing) <= now.ms
-    }
-
-    /// Returns how it ends where its time is up: by a fault, unless all went out and only its peer's end was waited for.
-    pub fn ended(&self) -> Ended {
-        Ended {
-            has_failed: !matches!(self.stage, Stage::HangingUp { .. }),
+    /// Returns why it ends now if its time is up.
+    pub fn overdue(&self, closing: Option<u64>, write_wait_ms: u64, now: &Now) -> Option<EndCause> {
+        let since = self.held_since.unwrap_or(u64::MAX);
+        if since.saturating_add(write_wait_ms) <= now.ms {
+            return Some(EndCause::Silent);
         }
+        if self.stage.drops_at(closing) <= now.ms {
+            return Some(self.stage.end_cause());
+        }
+        None
     }
 
     /// Returns whether it wants a visit at once.
@@ -148,7 +136,7 @@ impl<I: Read + Drop, O: Write + EndsWriting + Drop> Place<I, O> {
         }
     }
 
-    /// Makes turns. If its session is over then, it is to go out.
+    /// Makes turns. If its session is over after them, what is held is to go out.
     fn turn<H: House>(
         self,
         alloc: Global,
@@ -182,7 +170,7 @@ impl<I: Read + Drop, O: Write + EndsWriting + Drop> Place<I, O> {
         })
     }
 
-    /// Ends its session, since the house closes.
+    /// Ends its session because the house closes.
     fn close<H: House>(self, house: &mut H, now: &Now) -> Result<Self, StreamError>
         requires { HasNothingLeft self.talk }
         ensures { IfOk result (λ closed. ClosesPlace now.now.moment self house.old closed) }
@@ -208,8 +196,7 @@ impl<I: Read + Drop, O: Write + EndsWriting + Drop> Place<I, O> {
         })
     }
 
-    /// Goes on with its session: by turns, or, once the house closes and nothing is left to be answered, by its end. What it has to send
-    /// is held.
+    /// Makes turns, or ends its session once the house closes and nothing is left to be answered. What there is to send is held.
     pub fn go_on<H: House>(
         self,
         alloc: Global,
@@ -226,7 +213,7 @@ impl<I: Read + Drop, O: Write + EndsWriting + Drop> Place<I, O> {
         self.turn(alloc, house, buffer, now)
     }
 
-    /// Goes on with its session over a house that admits firms. If its firm is logged on then and has no place, the connection is lost.
+    /// Makes turns over a house that admits firms. If its firm has logged on and gets no place, the connection is lost.
     pub fn go_on_admitted<H: House, A: Admission>(
         self,
         alloc: Global,
@@ -244,7 +231,7 @@ impl<I: Read + Drop, O: Write + EndsWriting + Drop> Place<I, O> {
         }
     }
 
-    /// Marks what was added to its answers: it shows this many entries at most.
+    /// Marks the answers that were added: none of them shows an entry above this number.
     pub fn mark(&mut self, number: u64)
         ensures conversation { self.new.talk.conversation ≡ self.old.talk.conversation }
         ensures held { self.new.talk.backlog ≡ self.old.talk.backlog }
@@ -254,7 +241,7 @@ impl<I: Read + Drop, O: Write + EndsWriting + Drop> Place<I, O> {
         self.talk.mark(number);
     }
 
-    /// Returns since when answers may go of which none went out, where this many bytes had gone before it was sent last.
+    /// Returns since when answers may go and none has gone out, given how many bytes had gone out before the last send.
     fn waits_since(&self, kept: u64, before: u64, now: &Now) -> Option<u64> {
         if self.talk.free(kept) == 0 {
             return None;
@@ -265,8 +252,8 @@ impl<I: Read + Drop, O: Write + EndsWriting + Drop> Place<I, O> {
         }
     }
 
-    /// Lets go of as much of what is held as its stream takes and as may go while this many entries are kept. Once all went out of one whose
-    /// session is over, its peer is told so.
+    /// Sends as much of what is held as its stream takes and as may go while this many entries are kept. If its session is over and all has
+    /// gone out, it ends its half of the stream.
     pub fn send(mut self, kept: u64, now: &Now) -> Result<Self, StreamError>
         ensures sends { IfOk result (λ sent. SendsPlace O.contents kept self sent) }
     {
@@ -281,7 +268,7 @@ impl<I: Read + Drop, O: Write + EndsWriting + Drop> Place<I, O> {
         }
     }
 
-    /// Tells its peer that nothing more is written, and drops what comes until then.
+    /// Ends its half of the stream, and drops what comes until this time.
     fn hang_up(self, until: u64) -> Self
         ensures conversation { result.talk.conversation ≡ self.talk.conversation }
         ensures backlog { result.talk.backlog ≡ self.talk.backlog }
@@ -304,21 +291,21 @@ impl<I: Read + Drop, O: Write + EndsWriting + Drop> Place<I, O> {
         }
     }
 
-    /// Goes on with the end of one whose session is over.
-    pub fn leave(mut self, buffer: &mut TurnBuffer, kept: u64, now: &Now) -> Result<Self, Ended>
+    /// Goes on with the end of a connection whose session is over.
+    pub fn leave(mut self, buffer: &mut TurnBuffer, kept: u64, now: &Now) -> Result<Self, EndCause>
         ensures conversation { IfOk result (λ left. left.talk.conversation ≡ self.talk.conversation) }
         ensures card { IfOk result (λ left. left.card ≡ self.card) }
     {
         if !matches!(self.stage, Stage::HangingUp { .. }) {
-            return Ok(self.send(kept, now)?);
+            return self.send(kept, now).map_err(cause_of);
         }
         if self.talk.drain(buffer) {
-            return Err(Ended { has_failed: false });
+            return Err(EndCause::Done);
         }
         Ok(self)
     }
 
-    /// Returns what is shown of it.
+    /// Returns its row in STATUS.
     pub fn status(&self) -> ConnectionStatus {
         let (expected, next) = self.talk.numbers();
         ConnectionStatus {

@@ -1,20 +1,20 @@
-//! Places that are to be gone through, each once.
+//! A list of places, each at most once.
 
 use std::alloc::{AllocError, Global};
 use std::mem;
 
-/// Places that are to be gone through, each once: those that were listed before, and then those that are listed meanwhile.
+/// A list of places to go through, each at most once: those listed before, and then those listed meanwhile.
 #[derive(Drop)]
 pub struct PlaceList {
-    /// Whether a place is listed, by its number.
+    /// Whether each place is listed, by its number.
     is_listed: Vec<bool>,
     listed: Vec<usize>,
-    /// Those that are gone through now.
+    /// The places that are being gone through.
     passing: Vec<usize>,
 }
 
 impl PlaceList {
-    /// Creates that of this many places, of which none is listed.
+    /// Creates an empty list for this many places.
     pub fn new(alloc: Global, places: usize) -> Result<Self, AllocError> {
         let mut is_listed = Vec::with_capacity(alloc, places)?;
         for _place in 0..places {
@@ -49,13 +49,13 @@ impl PlaceList {
         Ok(())
     }
 
-    /// Begins to go through the places that are listed. Returns how many there are.
+    /// Begins to go through the listed places, and returns how many there are.
     pub fn begin(&mut self) -> usize {
         mem::swap(&mut self.listed, &mut self.passing);
         self.passing.len()
     }
 
-    /// Takes the next place to be gone through. It isn't listed any more.
+    /// Takes the next place off the list.
     pub fn next(&mut self) -> Option<usize> {
         let at = self.passing.pop()?;
         if let Some(is_listed) = self.is_listed.get_mut(at) {

@@ -3,12 +3,12 @@
 use crate::admission::Admission;
 use crate::answers_many::AnswersMany;
 use crate::error::WorkerError;
-use crate::place::Ended;
 use crate::stage::Deadline;
 use crate::timer::{Now, Timer};
 use crate::worker::{Round, Worker};
 use crossbeam_channel::TryRecvError;
 use gu_engine::House;
+use gu_log::{EndCause, Refusal};
 use gu_notices::FirmPlace;
 use gu_posts::{Bell, bit_of};
 use gu_talks::Poller;
@@ -17,7 +17,7 @@ use std::io::ErrorKind;
 use std::sync::{Wait, WaitMethods};
 use std::time::Duration;
 
-/// How many milliseconds a worker waits at most while it has connections.
+/// How many milliseconds a worker may wait while it has connections.
 const LONGEST_WAIT_MS: u64 = 1_000;
 
 impl<
@@ -27,8 +27,8 @@ impl<
     A: Admission,
     B: Bell,
 > Worker<'_, P, T, H, A, B> {
-    /// Makes one round: waits once, notes what has happened, lets go of what was held back and may go now, visits each connection that wants
-    /// it once, and takes those that have come. Once no more entries are kept, it lets go of what may go, and is over.
+    /// Makes one round: waits once, notes what has happened, sends what was held back and may go now, visits each connection that wants it
+    /// once, and takes those that have come. Once no more entries will be kept, it sends what may go, and is over.
     pub fn round<R: Wait>(&mut self, rt: &R) -> Result<Round, WorkerError> {
         self.wait()?;
         let now = self.timer.now()?;
@@ -50,7 +50,8 @@ impl<
         Ok(Round::GoesOn)
     }
 
-    /// Makes rounds until no more connections come and the last has ended. Where it can't go on, it ends its connections and says so.
+    /// Makes rounds until no more connections come and the last has ended. If it can't go on, it ends its connections and reports the
+    /// failure.
     pub fn run<R: Wait>(&mut self, rt: &R) -> Result<(), WorkerError> {
         for _round in rt.forever() {
             match self.round(rt) {
@@ -66,20 +67,23 @@ impl<
         Ok(())
     }
 
-    /// Ends all its connections, also those that have come and aren't taken yet.
+    /// Ends all its connections, including those that have come and aren't taken yet.
     fn end_all<R: Wait>(&mut self, rt: &R) {
         for at in 0..self.slots.len() {
-            if self.drop_at(at).is_err() {
+            if self.drop_at(at, EndCause::Stopped).is_err() {
                 break;
             }
         }
         for call in self.calls.try_iter(rt) {
+            self.shared
+                .admission
+                .turn_away(call.number, Refusal::Closing);
             drop(call);
             self.shared.posts.end_connection(self.settings.worker);
         }
     }
 
-    /// Lets go of what may go of each connection, once, and ends them all: no more entries are kept, so nothing is answered any more.
+    /// Sends what may go of each connection, once, and ends them all: no more entries will be kept, so nothing more is answered.
     fn stop<R: Wait>(&mut self, rt: &R) {
         let kept = self.shared.posts.kept();
         for at in 0..self.slots.len() {
@@ -91,16 +95,16 @@ impl<
     }
 
     /// Ends the connection at a place, if there is one.
-    fn drop_at(&mut self, at: usize) -> Result<(), AllocError> {
+    fn drop_at(&mut self, at: usize, cause: EndCause) -> Result<(), AllocError> {
         let Some(guest) = self.slots.take(at) else {
             return Ok(());
         };
         let card = guest.card();
         drop(guest);
-        self.end(at, card, Ended { has_failed: true })
+        self.end(at, card, cause)
     }
 
-    /// Returns how long it may wait: not at all where a place wants a visit, else until the next deadline.
+    /// Returns how long to wait: not at all if a place wants a visit, otherwise until the next deadline.
     fn longest_wait(&mut self) -> Result<Option<Duration>, WorkerError> {
         if self.slots.has_wanting() {
             return Ok(Some(Duration::from_millis(0)));
@@ -113,7 +117,7 @@ impl<
         Ok(Some(Duration::from_millis(left)))
     }
 
-    /// Returns whether there is anything to do that the poller doesn't know of.
+    /// Returns whether there is anything to do that the poller doesn't know about.
     fn has_news(&self) -> bool {
         let posts = self.shared.posts;
         let is_told = match posts.post(self.settings.worker) {
@@ -125,7 +129,7 @@ impl<
         is_told || may_release || is_closing || posts.is_stopped()
     }
 
-    /// Waits once. What others say while it doesn't wait is seen before, or by the next round.
+    /// Waits once. What others report while it isn't waiting is seen before the wait, or in the next round.
     fn wait(&mut self) -> Result<(), WorkerError> {
         let mut most = self.longest_wait()?;
         let posts = self.shared.posts;
@@ -158,7 +162,7 @@ impl<
         Ok(())
     }
 
-    /// Notes which connections have notices to be sent.
+    /// Notes which connections have notices to send.
     fn note_told(&mut self) -> Result<(), AllocError> {
         let posts = self.shared.posts;
         let Some(post) = posts.post(self.settings.worker) else {
@@ -174,7 +178,7 @@ impl<
         Ok(())
     }
 
-    /// Notes whether the connection at a place has notices to be sent, where its firm's place is among these.
+    /// Notes that the connection at a place may have notices to send, if its firm's place is among these.
     fn tell(&mut self, at: usize, told: u64) -> Result<(), AllocError> {
         let Some(guest) = self.slots.get_mut(at) else {
             return Ok(());
@@ -206,7 +210,7 @@ impl<
                 None => false,
             };
             if is_cut {
-                self.drop_at(at)?;
+                self.drop_at(at, EndCause::Cut)?;
             }
         }
         Ok(())
@@ -227,7 +231,7 @@ impl<
         Ok(())
     }
 
-    /// Lists the connections whose deadline has come, and finds the earliest of the others.
+    /// Lists the connections whose deadline has come, and finds the earliest deadline of the others.
     fn note_due(&mut self, now: &Now) -> Result<(), AllocError> {
         if !self.earliest.has_come(now) {
             return Ok(());
@@ -250,7 +254,7 @@ impl<
         Ok(())
     }
 
-    /// Lets go of what connections have held back, if more entries are kept than before.
+    /// Sends what connections have held back, if more entries are kept than before.
     fn note_kept(&mut self, now: &Now) -> Result<(), AllocError> {
         let kept = self.shared.posts.kept();
         if kept == self.kept {

@@ -9,11 +9,13 @@ use std::alloc::AllocError;
 pub struct Shared<'a, A, B> {
     /// The firms of the reference, each of which may log on.
     pub firms: &'a [FirmId],
-    /// The secrets by which they are let in, if there are any.
+    /// The secrets that firms need to log on, if there are any.
     pub secrets: Option<&'a Secrets>,
-    /// Who may be connected.
+    /// Whether first messages are looked at even without secrets, so that the log can name their faults.
+    pub looks: bool,
+    /// What decides who may be connected.
     pub admission: &'a A,
-    /// How others reach the workers.
+    /// The workers' posts, by which others reach them.
     pub posts: &'a Posts<B>,
 }
 

@@ -1,11 +1,10 @@
-//! The places of a worker: which of them are free, want a visit, or hold answers back.
+//! The places of a worker: which are free, want a visit, or hold answers back.
 
 use crate::guest::Guest;
 use crate::place_list::PlaceList;
 use std::alloc::{AllocError, Global};
 
 /// The places of a worker.
-#[derive(Drop)]
 pub struct Slots<I, O> {
     /// The connection at each place, unless the place is free or being visited.
     places: Vec<Option<Guest<I, O>>>,
@@ -16,8 +15,23 @@ pub struct Slots<I, O> {
     holding: PlaceList,
 }
 
+impl<I: Drop, O: Drop> Drop for Slots<I, O> {
+    fn drop(self) {
+        let Slots {
+            places,
+            free,
+            wanting,
+            holding,
+        } = self;
+        drop(places);
+        drop(free);
+        drop(wanting);
+        drop(holding);
+    }
+}
+
 impl<I, O> Slots<I, O> {
-    /// Creates this many places, which are free.
+    /// Creates this many free places.
     pub fn new(alloc: Global, count: usize) -> Result<Self, AllocError>
     where
         I: Drop,
@@ -62,7 +76,7 @@ impl<I, O> Slots<I, O> {
         self.free.pop()
     }
 
-    /// Gives a place back, which is free from now on.
+    /// Frees a place.
     pub fn give_back(&mut self, at: usize) -> Result<(), AllocError> {
         self.free.push(at)?;
         Ok(())
@@ -95,7 +109,7 @@ impl<I, O> Slots<I, O> {
         }
     }
 
-    /// Lists a place, if it has a connection: it is visited in the next round of visits.
+    /// Lists a place, if it has a connection, for the next round of visits.
     pub fn list(&mut self, at: usize) -> Result<(), AllocError> {
         if self.get(at).is_none() {
             return Ok(());
@@ -103,12 +117,12 @@ impl<I, O> Slots<I, O> {
         self.wanting.list(at)
     }
 
-    /// Begins to visit the places that are listed. Returns how many there are.
+    /// Begins to visit the listed places, and returns how many there are.
     pub fn begin_visits(&mut self) -> usize {
         self.wanting.begin()
     }
 
-    /// Takes the next connection to be visited, with its place.
+    /// Takes the next connection to visit, with its place.
     pub fn next_visit(&mut self) -> Option<(usize, Guest<I, O>)> {
         let at = self.wanting.next()?;
         let guest = self.take(at)?;
@@ -120,12 +134,12 @@ impl<I, O> Slots<I, O> {
         self.holding.list(at)
     }
 
-    /// Begins to let go of what places hold back. Returns how many places hold answers back.
+    /// Begins to send what places hold back, and returns how many places do.
     pub fn begin_releases(&mut self) -> usize {
         self.holding.begin()
     }
 
-    /// Takes the next connection that holds answers back, with its place. One that is listed stays: its visit lets go as well.
+    /// Takes the next connection that holds answers back, with its place. A listed one stays: its visit sends them too.
     pub fn next_release(&mut self) -> Option<(usize, Guest<I, O>)> {
         let at = self.holding.next()?;
         if self.wanting.has(at) {

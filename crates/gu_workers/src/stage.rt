@@ -1,4 +1,4 @@
-//! How far a connection has come, and its deadlines.
+//! The stages of a connection, and its deadlines.
 
 ghost use Rattle.std.specs.Prelude.{◌≡◌, false, true};
 ghost use Rattle.gu_engine.specs.Turned.{is_last};
@@ -6,38 +6,39 @@ ghost use Rattle.gu_workers.specs.Stages.{is_leaving};
 
 use crate::timer::Now;
 use gu_engine::Turned;
+use gu_log::EndCause;
 use gu_terms::Moment;
 
 /// How many milliseconds a firm may take from the accept of its connection to its Logon.
 pub const LOGON_WAIT_MS: u64 = 30_000;
 
-/// How many milliseconds after the beginning of the close a connection is dropped that has not been sent its Logout.
+/// How many milliseconds after the close begins a connection is dropped if no Logout was sent to it.
 const CLOSE_WAIT_MS: u64 = 20_000;
 
-/// How many milliseconds after the beginning of the close each connection is dropped.
+/// How many milliseconds after the close begins every connection is dropped.
 const LAST_WAIT_MS: u64 = 35_000;
 
-/// How many milliseconds a connection is read on at most after its end, until its peer ends it too.
+/// How many milliseconds a connection is still read after its end, until its peer ends it too.
 pub const HANG_UP_MS: u64 = 1_000;
 
-/// How many milliseconds it is at most after the Logout of a close, which the firm is to answer.
+/// The same after the Logout of a close, which the firm has to answer.
 pub const LOGOUT_MS: u64 = 10_000;
 
-/// How far a connection has come.
+/// The stage of a connection.
 #[derive(Clone, Copy, Debug)]
 pub enum Stage {
-    /// Its firm isn't logged on, and is to be until then.
+    /// Its firm isn't logged on yet, and has until this time.
     LoggingOn { until: u64 },
     /// Its firm is logged on.
     Talking,
     /// Its session is over: what is held goes out, and then its peer has this many milliseconds to end it too.
     GoingOut { wait_ms: u64 },
-    /// All went out: until then what comes is dropped.
+    /// All has gone out: what comes until this time is dropped.
     HangingUp { until: u64 },
 }
 
 impl Stage {
-    /// Returns that of a connection which begins now.
+    /// Returns the stage of a connection that begins now.
     pub fn begin(now: &Now) -> Self
         ensures { is_leaving result ≡ false }
     {
@@ -53,7 +54,7 @@ impl Stage {
         matches!(self, Stage::GoingOut { .. } | Stage::HangingUp { .. })
     }
 
-    /// Returns the stage after a turn: after the last of a session it goes out, and after any other it is as it was.
+    /// Returns the stage after a turn: unchanged, unless it was the last turn of the session.
     pub fn after(self, turned: Turned) -> Self
         ensures last { is_last turned ≡ true → is_leaving result ≡ true }
         ensures other { is_last turned ≡ false → result ≡ self }
@@ -67,7 +68,16 @@ impl Stage {
         }
     }
 
-    /// Returns the milliseconds at which a connection in this stage is dropped, if nothing happens, where the close began then.
+    /// Returns why a connection in this stage ends once its time is up.
+    pub fn end_cause(self) -> EndCause {
+        match self {
+            Stage::LoggingOn { .. } => EndCause::NoLogon,
+            Stage::Talking | Stage::GoingOut { .. } => EndCause::Closing,
+            Stage::HangingUp { .. } => EndCause::HungUp,
+        }
+    }
+
+    /// Returns when, in milliseconds, a connection in this stage is dropped if nothing happens, given when the close began, if it did.
     pub fn drops_at(self, closing: Option<u64>) -> u64 {
         let ends = match self {
             Stage::LoggingOn { until } | Stage::HangingUp { until } => until,
@@ -85,7 +95,7 @@ impl Stage {
     }
 }
 
-/// When something is due, by the milliseconds of the timer and by the clock of sessions.
+/// When something is due, by the timer's milliseconds and by the sessions' clock.
 #[derive(Clone, Copy, Debug)]
 pub struct Deadline {
     pub ms: u64,
@@ -93,7 +103,7 @@ pub struct Deadline {
 }
 
 impl Deadline {
-    /// Returns the one that never comes.
+    /// Returns a deadline that never comes.
     pub fn never() -> Self {
         Deadline {
             ms: u64::MAX,
@@ -101,7 +111,7 @@ impl Deadline {
         }
     }
 
-    /// Returns the one at which a session's tick does something.
+    /// Returns the deadline at which a session's tick has an effect.
     pub fn of_session(due: Option<Moment>) -> Self {
         Deadline {
             ms: u64::MAX,
@@ -112,7 +122,7 @@ impl Deadline {
         }
     }
 
-    /// Returns the earlier of two.
+    /// Returns the earlier of two deadlines.
     pub fn min(self, other: Deadline) -> Self {
         Deadline {
             ms: self.ms.min(other.ms),

@@ -8,15 +8,15 @@ use std::time::Instant;
 /// The time at which a round of a worker visits connections.
 #[derive(Clone, Copy, Debug)]
 pub struct Now {
-    /// The moment by the clock of the machine, which sessions go by.
+    /// The moment by the machine's clock, which sessions use.
     pub moment: Moment,
-    /// The milliseconds since the timer began, which deadlines go by: never fewer than before.
+    /// The milliseconds since the timer began, which deadlines use. They never decrease.
     pub ms: u64,
 }
 
-/// What gives the time.
+/// A source of the time.
 pub trait Timer {
-    /// Returns the time as it is now.
+    /// Returns the current time.
     fn now(&mut self) -> Result<Now, ClockFault>;
 }
 

@@ -1,10 +1,11 @@
 //! A worker: its places, what watches them, and the house that answers them.
 
-ghost use Rattle.std.specs.Prelude.{◌≡◌, ◌∷◌, [], IfErr, IfOk};
+ghost use Rattle.std.specs.Prelude.{◌≡◌, Some, IfErr, IfOk};
 ghost use Rattle.std.specs.Option.{option_map};
-ghost use Rattle.gu_engine.specs.Exchange.{new_conversation};
+ghost use Rattle.std.specs.Fmt.{option_append};
+ghost use Rattle.gu_talks.specs.Visits.{IsNewTalk};
 ghost use Rattle.gu_workers.specs.Guests.{BeginsAt};
-ghost use Rattle.gu_workers.specs.Knockers.{firms_at};
+ghost use Rattle.gu_workers.specs.Knockers.{firms_at, firms_let_in};
 
 use crate::admission::Admission;
 use crate::admitting_house::AdmittingHouse;
@@ -12,9 +13,9 @@ use crate::answers_many::AnswersMany;
 use crate::card::{Admitted, Card};
 use crate::error::WorkerError;
 use crate::firms_here::FirmsHere;
-use crate::guest::{Guest, Heard};
+use crate::guest::Guest;
 use crate::knocker::{Knocked, Knocker, LetIn, Stand};
-use crate::place::{Ended, Place};
+use crate::place::{Place, cause_of};
 use crate::shared::Shared;
 use crate::slots::Slots;
 use crate::stage::Deadline;
@@ -22,13 +23,13 @@ use crate::timer::{Now, Timer};
 use crossbeam_channel::Receiver;
 use gu_engine::House;
 use gu_knocks::Guard;
+use gu_log::{EndCause, Refusal};
 use gu_notices::FirmPlace;
 use gu_posts::{Bell, Call, ConnectionStatus};
 use gu_streams::{LONGEST_READ, MOST_READS, StreamError};
-use gu_talks::{Poller, Ready, Talk, TurnBuffer};
+use gu_talks::{Halves, Poller, Ready, Talk, TurnBuffer};
 use gu_terms::FirmId;
 use std::alloc::{AllocError, Global};
-use std::io::{Cursor, Read};
 
 /// How many connections are noted as ready at once, as a rule.
 const MOST_READY: usize = 256;
@@ -69,7 +70,6 @@ pub enum Round {
 
 /// A worker, which turns many connections. It opens nothing and starts nothing: what it reads, writes and waits for is what its poller
 /// gives.
-#[derive(Drop)]
 pub struct Worker<'a, P: Poller, T, H, A, B> {
     pub(crate) alloc: Global,
     pub(crate) shared: Shared<'a, A, B>,
@@ -92,6 +92,35 @@ pub struct Worker<'a, P: Poller, T, H, A, B> {
     pub(crate) closing: Option<u64>,
     /// How many entries were kept in this round: no answer goes out that shows more.
     pub(crate) kept: u64,
+}
+
+impl<'a, P: Poller + Drop, T: Drop, H: Drop, A, B> Drop for Worker<'a, P, T, H, A, B> {
+    fn drop(self) {
+        let Worker {
+            alloc: _,
+            shared: _,
+            settings: _,
+            poller,
+            timer,
+            house,
+            calls,
+            has_all_calls: _,
+            slots,
+            firms_here,
+            ready,
+            buffer: _,
+            earliest: _,
+            closing: _,
+            kept: _,
+        } = self;
+        drop(poller);
+        drop(timer);
+        drop(house);
+        drop(calls);
+        drop(slots);
+        drop(firms_here);
+        drop(ready);
+    }
 }
 
 impl<
@@ -188,6 +217,8 @@ impl<
         if card.firm.is_some() {
             return;
         }
+        card.fault = None;
+        card.caller = Some(firm);
         card.firm = Some(Admitted {
             firm,
             index: self.index_of(&firm),
@@ -226,15 +257,19 @@ impl<
         place: PlaceOf<P>,
         card: &mut Card,
         now: &Now,
-    ) -> Result<PlaceOf<P>, Ended> {
-        if place.is_overdue(self.closing, self.settings.write_wait_ms, now) {
-            return Err(place.ended());
+    ) -> Result<PlaceOf<P>, EndCause> {
+        if let Some(cause) = place.overdue(self.closing, self.settings.write_wait_ms, now) {
+            return Err(cause);
         }
         if place.stage.is_leaving() {
             return place.leave(&mut self.buffer, self.kept, now);
         }
         let was_admitted = card.firm.is_some();
-        let mut place = self.turn(place, card, now)?;
+        let mut place = match self.turn(place, card, now) {
+            Ok(place) => place,
+            Err(_) if self.house.has_refused() => return Err(EndCause::Refused),
+            Err(error) => return Err(cause_of(error)),
+        };
         if let Some(firm) = card.firm()
             && !was_admitted
         {
@@ -242,10 +277,10 @@ impl<
             place.tell(self.shared.posts.number(FirmPlace::of(&firm)));
         }
         place.mark(self.house.seen());
-        Ok(place.send(self.kept, now)?)
+        place.send(self.kept, now).map_err(cause_of)
     }
 
-    /// Lets go of what a connection has held back and may go now, and puts it back at its place.
+    /// Sends what a connection has held back and may go now, and puts it back at its place.
     pub(crate) fn release(
         &mut self,
         at: usize,
@@ -259,7 +294,7 @@ impl<
         let card = place.card;
         match place.send(self.kept, now) {
             Ok(place) => self.keep(at, place, card, now),
-            Err(error) => self.end(at, card, Ended::from(error)),
+            Err(error) => self.end(at, card, cause_of(error)),
         }
     }
 
@@ -282,11 +317,11 @@ impl<
         let went = self.go_on(place, &mut card, now);
         match went {
             Ok(place) => self.keep(at, place, card, now),
-            Err(ended) => self.end(at, card, ended),
+            Err(cause) => self.end(at, card, cause),
         }
     }
 
-    /// Visits a connection of which it isn't known yet which firm it is. Once the day is being closed nobody is let in any more.
+    /// Visits a connection whose firm isn't known yet. Once the day is closing, nobody is let in.
     fn visit_knocker(
         &mut self,
         at: usize,
@@ -294,22 +329,27 @@ impl<
         now: &Now,
     ) -> Result<(), AllocError> {
         let card = knocker.card();
-        let Some(secrets) = self.shared.secrets.filter(|_| self.closing.is_none()) else {
+        if self.closing.is_some() {
             drop(knocker);
-            return self.end(at, card, Ended { has_failed: false });
-        };
+            return self.end(at, card, EndCause::Closing);
+        }
         let guard = Guard {
-            secrets,
+            secrets: self.shared.secrets,
             firms: self.shared.firms,
         };
         match knocker.visit(self.alloc, guard, &mut self.buffer, now) {
             Ok(Knocked::Stays(knocker)) => self.keep_knocker(at, knocker),
+            Ok(Knocked::TurnedAway(knocker, shown)) => {
+                let admission = self.shared.admission;
+                admission.refuse(card.number, shown.firm, shown.fault);
+                self.keep_knocker(at, knocker)
+            }
             Ok(Knocked::Enters(let_in)) => self.enter(at, let_in, now),
-            Err(ended) => self.end(at, card, ended),
+            Err(cause) => self.end(at, card, cause),
         }
     }
 
-    /// Puts a connection at its place of which it isn't known yet which firm it is, and lists it if it wants another visit.
+    /// Puts a connection whose firm isn't known yet at its place, and lists it if it wants another visit.
     fn keep_knocker(&mut self, at: usize, knocker: KnockerOf<P>) -> Result<(), AllocError> {
         self.show(at, &knocker.status());
         self.earliest = self.earliest.min(knocker.deadline());
@@ -321,41 +361,35 @@ impl<
         Ok(())
     }
 
-    /// Returns the place of a connection that is let in: a session begins, in which its firm alone may log on, and which reads all that
-    /// was said.
-    fn seat(&self, let_in: LetInOf<P>, now: &Now) -> Result<PlaceOf<P>, Ended>
-        ensures { IfOk result (λ place. place.talk.conversation ≡ new_conversation (let_in.firm ∷ [])) }
+    /// Returns the place of a connection that is let in. Its session begins: the firm that is let in may log on, and the session reads all
+    /// that was said and then what comes.
+    fn seat(&self, let_in: LetInOf<P>, now: &Now) -> Result<PlaceOf<P>, EndCause>
+        ensures { IfOk result (λ place. IsNewTalk place.talk (firms_let_in let_in.firm let_in.door self.now.shared.firms.now)
+            (option_append (Some let_in.halves.said.items) (P.Incoming.remaining let_in.halves.incoming)) P.Incoming.remaining) }
     {
         let LetIn {
             firm,
-            said,
-            incoming,
-            outgoing,
+            door,
+            halves,
             card,
         } = let_in;
-        let Ok(firms) = Vec::from_slice(self.alloc, &[firm]) else {
-            return Err(Ended { has_failed: true });
+        let Ok(firms) = self.firms_at(firm.or(door)) else {
+            return Err(EndCause::Memory);
         };
-        let stream = Cursor::new(said).chain(incoming);
-        let talk = Talk::new(self.alloc, firms, stream, outgoing, self.reads());
+        let talk = Talk::new(self.alloc, firms, halves, self.reads());
         Ok(Place::new(talk, card, now))
     }
 
-    /// Begins the session of a connection that is let in, and visits it. More may have come than was said, so it is read again.
+    /// Begins the session of a connection that is let in, and visits it.
     fn enter(&mut self, at: usize, let_in: LetInOf<P>, now: &Now) -> Result<(), AllocError> {
         let card = let_in.card;
         match self.seat(let_in, now) {
-            Ok(place) => self.visit_place(at, place, now)?,
-            Err(ended) => return self.end(at, card, ended),
+            Ok(place) => self.visit_place(at, place, now),
+            Err(cause) => self.end(at, card, cause),
         }
-        if let Some(guest) = self.slots.get_mut(at) {
-            guest.try_read();
-            self.slots.list(at)?;
-        }
-        Ok(())
     }
 
-    /// Gives back what the firm of a connection has, if one was admitted: it is told of nothing more, and may have one more place.
+    /// Releases the firm of a connection, if one was admitted: the connection gets no more notices, and the firm may have one more place.
     fn let_go(&mut self, card: &mut Card) {
         let Some(admitted) = card.firm else {
             return;
@@ -370,8 +404,16 @@ impl<
         self.shared.admission.release(&admitted.firm);
     }
 
-    /// Puts a connection at its place, and lists it if it wants another visit or holds answers back. One whose session is over is its firm's
-    /// no more: so an engine that logs out finds a place again at once.
+    /// Reports why a connection's session refused its first message, if it did and the message was looked at.
+    fn note_refusal(&self, card: &mut Card) {
+        if let Some(fault) = card.fault {
+            card.fault = None;
+            self.shared.admission.refuse(card.number, None, fault);
+        }
+    }
+
+    /// Puts a connection at its place, and lists it if it wants another visit or holds answers back. One whose session is over no longer
+    /// counts for its firm, so an engine that logs out finds a place again at once.
     fn keep(
         &mut self,
         at: usize,
@@ -381,6 +423,7 @@ impl<
     ) -> Result<(), AllocError> {
         card.note_bytes(place.talk.bytes_in(), now.moment);
         if place.stage.is_leaving() {
+            self.note_refusal(&mut card);
             self.let_go(&mut card);
         }
         place.card = card;
@@ -399,7 +442,7 @@ impl<
         Ok(())
     }
 
-    /// Shows what a connection has come to.
+    /// Updates the row of a connection in STATUS.
     fn show(&self, at: usize, status: &ConnectionStatus) {
         if let Some(post) = self.shared.posts.post(self.settings.worker) {
             if let Some(row) = post.rows().get(at) {
@@ -413,12 +456,12 @@ impl<
         &mut self,
         at: usize,
         mut card: Card,
-        ended: Ended,
+        cause: EndCause,
     ) -> Result<(), AllocError> {
         self.let_go(&mut card);
         let posts = self.shared.posts;
         let worker = self.settings.worker;
-        self.shared.admission.end(ended.has_failed);
+        self.shared.admission.end(card.number, card.caller, cause);
         if let Some(post) = posts.post(worker) {
             if let Some(row) = post.rows().get(at) {
                 row.clear();
@@ -447,8 +490,8 @@ impl<
         }
     }
 
-    /// Begins to serve a connection at a place. Where there are secrets, it is listened to before there is a session.
-    fn open(&mut self, call: Call<P::Call>, at: usize, now: &Now) -> Result<GuestOf<P>, Ended>
+    /// Begins to serve a connection at a place. If its first message is looked at, it is listened to before there is a session.
+    fn open(&mut self, call: Call<P::Call>, at: usize, now: &Now) -> Result<GuestOf<P>, EndCause>
         ensures { IfOk result (BeginsAt self.old.shared.firms.now call.door (option_map (λ secrets. secrets.now) self.old.shared.secrets)) }
     {
         let Call {
@@ -459,25 +502,25 @@ impl<
         } = call;
         let card = Card::new(number, port, now.moment);
         let Ok((incoming, outgoing)) = self.poller.watch(stream, at) else {
-            return Err(Ended { has_failed: true });
+            return Err(EndCause::Stream);
         };
-        match self.shared.secrets {
-            Some(_) => {
-                let stand = Stand::new(outgoing, door, card, now);
-                Ok(Guest::Knocks(Knocker::new(self.alloc, incoming, stand)))
-            }
-            None => {
-                let Ok(firms) = self.firms_at(door) else {
-                    return Err(Ended { has_failed: true });
-                };
-                let stream = Cursor::new(Vec::new(self.alloc)).chain(incoming);
-                let talk = Talk::new(self.alloc, firms, stream, outgoing, self.reads());
-                Ok(Guest::Talks(Place::new(talk, card, now)))
-            }
+        if self.shared.secrets.is_some() || self.shared.looks {
+            let stand = Stand::new(outgoing, door, card, now);
+            return Ok(Guest::Knocks(Knocker::new(self.alloc, incoming, stand)));
         }
+        let Ok(firms) = self.firms_at(door) else {
+            return Err(EndCause::Memory);
+        };
+        let halves = Halves {
+            said: Vec::new(self.alloc),
+            incoming,
+            outgoing,
+        };
+        let talk = Talk::new(self.alloc, firms, halves, self.reads());
+        Ok(Guest::Talks(Place::new(talk, card, now)))
     }
 
-    /// Takes a connection that has come. Where no place is free, or the day is being closed, it is dropped without a byte.
+    /// Takes a connection that has come. If no place is free, or the day is closing, it is closed silently.
     pub(crate) fn take_call(&mut self, call: Call<P::Call>, now: &Now) -> Result<(), AllocError> {
         let free = if self.closing.is_none() {
             self.slots.take_free()
@@ -485,6 +528,12 @@ impl<
             None
         };
         let Some(at) = free else {
+            let reason = if self.closing.is_some() {
+                Refusal::Closing
+            } else {
+                Refusal::Full
+            };
+            self.shared.admission.turn_away(call.number, reason);
             drop(call);
             self.shared.posts.end_connection(self.settings.worker);
             return Ok(());
@@ -494,19 +543,19 @@ impl<
         match self.open(call, at, now) {
             Ok(Guest::Talks(place)) => self.keep(at, place, card, now),
             Ok(Guest::Knocks(knocker)) => self.keep_knocker(at, knocker),
-            Err(ended) => self.end(at, card, ended),
+            Err(cause) => self.end(at, card, cause),
         }
     }
 }
 
-/// Who is at a place, by what its worker's poller gives.
+/// The connection at a place, over the streams of its worker's poller.
 pub type GuestOf<P> = Guest<<P as Poller>::Incoming, <P as Poller>::Outgoing>;
 
-/// A connection that has a session, by what its worker's poller gives.
-pub type PlaceOf<P> = Place<Heard<<P as Poller>::Incoming>, <P as Poller>::Outgoing>;
+/// A connection with a session, over the streams of its worker's poller.
+pub type PlaceOf<P> = Place<<P as Poller>::Incoming, <P as Poller>::Outgoing>;
 
-/// A connection of which it isn't known yet which firm it is, by what its worker's poller gives.
+/// A connection whose firm isn't known yet, over the streams of its worker's poller.
 pub type KnockerOf<P> = Knocker<<P as Poller>::Incoming, <P as Poller>::Outgoing>;
 
-/// A connection that is let in, by what its worker's poller gives.
+/// A connection that is let in, over the streams of its worker's poller.
 pub type LetInOf<P> = LetIn<<P as Poller>::Incoming, <P as Poller>::Outgoing>;

@@ -72,6 +72,24 @@ impl Operator {
         }
     }
 
+    /// Sends a line this many times at once.
+    pub fn send_often(&mut self, alloc: Global, line: &str, times: usize) -> io::Result<()> {
+        let mut lines = String::new(alloc);
+        for _line in 0..times {
+            lines.push_str(line)?;
+            lines.push_str("\n")?;
+        }
+        self.stream.write_all(lines.as_bytes())
+    }
+
+    /// Reads this many answers.
+    pub fn read_often(&mut self, alloc: Global, times: usize) -> io::Result<()> {
+        for _answer in 0..times {
+            let _ = self.read_to(alloc, b"\n\n")?;
+        }
+        Ok(())
+    }
+
     /// Sends a line, and returns its answer without the empty line that ends it.
     fn ask(&mut self, alloc: Global, line: &str) -> io::Result<String> {
         self.send(line)?;

@@ -2,7 +2,7 @@
 
 use crate::clients::Client;
 use crate::doings::Doing;
-use crate::opening::{A_TRADE, A_TRADE_OF_G2};
+use crate::opening::{A_LARGE_TRADE, A_TRADE, A_TRADE_OF_G2};
 use crate::served::{Outside, Row, Span, check_end, end_of, port_of};
 use crate::visits::{
     COMES_IN_BURSTS, GIVES_UP, GIVES_UP_AGAIN, GIVES_UP_FOUR, GIVES_UP_IN_G2, GIVES_UP_ONE_MORE,
@@ -15,7 +15,7 @@ use std::sync::Mutex;
 use std::test::Fail;
 
 /// Connections to the book of a trade of ten lots, which has seven entries.
-const ROWS: [Row; 18] = [
+const ROWS: &[Row] = &[
     Row {
         begin: A_TRADE,
         doing: Doing::Visits(&[GIVES_UP, IS_OFFERED]),
@@ -159,7 +159,7 @@ fn a_day_is_served_and_its_receipts_are_its_entries(rt: HostRuntime) -> Result<(
             first: None,
             fails_where_nobody_waits: false,
         };
-        let (closed, _) = end_of(&rt, rt.alloc(), outside, &row, &said);
+        let (closed, _) = end_of(&rt, rt.alloc(), outside, row, &said);
         assert!(rt; closed.fault.is_none());
         assert!(rt; said.lock(&rt).is_empty());
         check_end(&rt, rt.alloc(), closed, row.end);
@@ -221,5 +221,37 @@ fn accepting_that_fails_is_said_at_once_and_goes_on_when_a_connection_has_ended(
     let said = said.lock(&rt);
     assert!(rt; said.starts_with(b"giveup: no connection is accepted until one has ended: "));
     assert_eq!(rt; said.iter().filter(|byte| **byte == b'\n').count(), 1);
+    Ok(())
+}
+
+/// A day on which sweepers leave sweeps out, since an operator sweeps the same group at the same time, and how its lines end.
+const BESIDE_SWEEPS: Row = Row {
+    begin: A_LARGE_TRADE,
+    doing: Doing::GivesUpBesideSweeps,
+    span: Span::Connections(1),
+    every: 1,
+    end: "\nSWEPT 48\nAUDIT OK\n",
+};
+
+#[test]
+fn a_sweep_that_is_left_out_does_not_end_its_sweeper(rt: HostRuntime) -> Result<(), Fail> {
+    let alloc = rt.alloc();
+    let outside = Outside {
+        listener: TcpListener::bind(&rt, ("127.0.0.1", 0))?,
+        first: None,
+        fails_where_nobody_waits: false,
+    };
+    let said = Mutex::new(Vec::new(alloc));
+    let (closed, _) = end_of(&rt, alloc, outside, &BESIDE_SWEEPS, &said);
+    assert!(rt; closed.fault.is_none());
+    let (end, book, _) = closed.end(alloc);
+    drop(book);
+    let (lines, is_well) = end.expect(&rt, "memory");
+    assert!(rt; is_well);
+    assert!(rt;
+        lines.as_str().ends_with(BESIDE_SWEEPS.end),
+        "{}",
+        lines.as_str()
+    );
     Ok(())
 }

@@ -3,7 +3,8 @@
 use crate::acts::{Act, Operator, act_all};
 use crate::clients::{Client, Ending, Visit};
 use crate::visits::{
-    GIVES_UP, GIVES_UP_LINES, IS_OFFERED, LOGON, LOGON_OF_A_TRADE, OFFER, SAYS_NOTHING,
+    GIVES_UP, GIVES_UP_LINES, IS_OFFERED, LOGON, LOGON_OF_A_LARGE_TRADE, LOGON_OF_A_TRADE, OFFER,
+    SAYS_NOTHING,
 };
 use gu_server::WRITE_WAIT_MS;
 use std::alloc::Global;
@@ -14,6 +15,9 @@ use std::rt::Clock;
 use std::sync::{Mutex, Wait};
 use std::time::Duration;
 use std::{io, thread};
+
+/// How many lots a firm gives up while an operator sweeps.
+const SWEPT_BESIDE: u64 = 46;
 
 /// Goes through a connection. Nothing comes after what its lines say, where they say nothing.
 fn go_through(rt: &impl Abort, client: Client, visit: &Visit) -> io::Result<()> {
@@ -137,11 +141,54 @@ fn come_later<R: Net<Listener = TcpListener, Stream = TcpStream> + Abort + Wait 
     go_through(rt, second, &GIVES_UP)
 }
 
+/// A firm gives up one lot of its report, and is told that the lot was swept. Its offer has this number, as has its give-up.
+fn give_up_one(rt: &impl Abort, alloc: Global, client: &mut Client, number: u64) -> io::Result<()> {
+    let sent = number.saturating_add(1);
+    let told = number.saturating_mul(2).saturating_add(1);
+    let next = told.saturating_add(1);
+    let given = format!(in alloc;
+        "in J {sent} 70=L{number}|71=0|53=1|124=1|17=R1|78=1|79=A1|80=1|\n"
+    )?;
+    let accepted = format!(in alloc; "out P {told} 70=L{number}|87=0|\n")?;
+    let swept = format!(in alloc;
+        "out AS {next} 755={number}|71=0|794=9|87=0|55=XF6|54=1|53=1|6=101.5|75=20260105|78=1|79=A1|80=1|\n"
+    )?;
+    let lines = format!(in alloc; "{given}{accepted}{swept}")?;
+    let (came, want) = client.talk("E1", &lines)?;
+    assert_eq!(rt; came, want);
+    Ok(())
+}
+
+/// A firm gives up one lot after the other, while an operator sweeps its group as fast as he can: sweepers find the group changed, and
+/// leave sweeps out. What the firm gives up after that is swept all the same.
+fn give_up_beside_sweeps<R: Net<Listener = TcpListener, Stream = TcpStream> + Abort>(
+    rt: &R,
+    alloc: Global,
+    port: u16,
+    mut operator: Operator,
+) -> io::Result<()> {
+    let mut client = Client::open(rt, alloc, port)?;
+    let (came, want) = client.talk("E1", LOGON_OF_A_LARGE_TRADE)?;
+    assert_eq!(rt; came, want);
+    for number in 1..=SWEPT_BESIDE {
+        operator.send_often(alloc, "SWEEP G1", 50)?;
+        give_up_one(rt, alloc, &mut client, number)?;
+        operator.read_often(alloc, 50)?;
+    }
+    for number in SWEPT_BESIDE + 1..=SWEPT_BESIDE + 2 {
+        give_up_one(rt, alloc, &mut client, number)?;
+    }
+    let _ = client.end("E1", Ending::LogsOut(SWEPT_BESIDE + 4))?;
+    Ok(())
+}
+
 /// What firms do on a day.
 #[derive(Clone, Copy)]
 pub enum Doing {
     /// They connect one after the other.
     Visits(&'static [Visit]),
+    /// The same, where the sessions of one firm make this percentage at most.
+    VisitsWithin(u16, &'static [Visit]),
     /// One waits for what the other offers.
     Waits,
     /// One sends much at once.
@@ -154,6 +201,8 @@ pub enum Doing {
     ComesLater,
     /// Firms and an operator act in turn.
     Acts(&'static [Act]),
+    /// One gives up lots while an operator sweeps.
+    GivesUpBesideSweeps,
 }
 
 impl Doing {
@@ -162,6 +211,14 @@ impl Doing {
         match self {
             Doing::LogsOnTooLate | Doing::DoesNotRead => 10,
             _ => 0,
+        }
+    }
+
+    /// The percentage that the sessions of one firm make at most.
+    pub fn share(self) -> u16 {
+        match self {
+            Doing::VisitsWithin(share, _) => share,
+            _ => 100,
         }
     }
 
@@ -200,19 +257,23 @@ pub fn do_all<R: Net<Listener = TcpListener, Stream = TcpStream> + Abort + Wait 
     if let Doing::Acts(acts) = doing {
         return act_all(rt, alloc, port, Operator::new(operator)?, acts);
     }
+    if let Doing::GivesUpBesideSweeps = doing {
+        return give_up_beside_sweeps(rt, alloc, port, Operator::new(operator)?);
+    }
     match first {
         Some(first) => match doing {
             Doing::ComesLater => come_later(rt, alloc, port, first, said),
             _ => go_through(rt, first, &GIVES_UP),
         },
         None => match doing {
-            Doing::Visits(visits) => visit_all(rt, alloc, port, visits),
+            Doing::Visits(visits) | Doing::VisitsWithin(_, visits) => {
+                visit_all(rt, alloc, port, visits)
+            }
             Doing::SendsMuch => send_much(rt, alloc, port),
             Doing::LogsOnTooLate => connect(rt, alloc, port, &SAYS_NOTHING),
             Doing::DoesNotRead => ask_and_read_nothing(rt, alloc, port),
-            Doing::Waits | Doing::ComesLater | Doing::Acts(_) => wait_for_the_offer(
-                rt, alloc, port,
-            ),
+            Doing::Waits | Doing::ComesLater | Doing::Acts(_) | Doing::GivesUpBesideSweeps =>
+                wait_for_the_offer(rt, alloc, port),
         },
     }
 }

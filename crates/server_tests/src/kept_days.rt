@@ -6,17 +6,19 @@ use crate::clients::{Ending, Visit};
 use crate::doings::Doing;
 use crate::frail_device::FrailDevice;
 use crate::opening::{A_TRADE, book_after};
-use crate::served::{Begun, Outside, Row, Span, check_end, served_from};
+use crate::served::{Begun, Outside, Row, Span, Told, check_end, served_from};
 use crate::visits::{GIVES_UP, IS_OFFERED, LOGON_OF_A_TRADE};
 use gu_journal::Log;
 use gu_keeping::keep_opening;
+use gu_log::{EventLog, LogReader, write_all};
 use gu_server::{DayJournal, JournalEnd, LostBy, LostJournal, Served};
 use gu_terms::History;
 use std::alloc::Global;
 use std::net::TcpListener;
 use std::process::Abort;
+use std::rt::Clock;
 use std::str::from_utf8;
-use std::sync::Mutex;
+use std::sync::{Mutex, Wait};
 use std::test::Fail;
 
 /// How many zeros are added to a test's log at a time.
@@ -131,6 +133,22 @@ fn lines_of(rt: &impl Abort, alloc: Global, text: &[u8]) -> String {
     lines
 }
 
+/// Asserts that a log says that the journal was lost which had seven entries.
+fn check_lost<R: Wait + Clock + Abort>(
+    rt: &R,
+    alloc: Global,
+    log: &EventLog,
+    mut reader: LogReader,
+) {
+    let mut text = Vec::new(alloc);
+    write_all(rt, alloc, log, &mut reader, &mut text);
+    let text = from_utf8(text.as_slice()).ok().expect(rt, "a text");
+    assert!(rt;
+        text.contains("20260105-09:00:00.000 journal.lost kept=7\n"),
+        "{text}"
+    );
+}
+
 /// Where connections come in.
 fn outside(rt: &HostRuntime) -> Result<Outside, Fail> {
     Ok(Outside {
@@ -145,7 +163,12 @@ fn each_entry_of_a_day_is_in_its_journal(rt: HostRuntime) -> Result<(), Fail> {
     let alloc = rt.alloc();
     let begun = begun_on(&rt, alloc, &A_SWEEP, 10_000);
     let said = Mutex::new(Vec::new(alloc));
-    let served = served_from(&rt, alloc, outside(&rt)?, &A_SWEEP, begun, &said);
+    let silent = EventLog::silent();
+    let told = Told {
+        said: &said,
+        log: &silent,
+    };
+    let served = served_from(&rt, alloc, outside(&rt)?, &A_SWEEP, begun, told);
     let Served {
         closed,
         closers,
@@ -167,7 +190,14 @@ fn what_a_failed_journal_lacks_is_shown_to_nobody(rt: HostRuntime) -> Result<(),
     for calls in [OPENING_CALLS, OPENING_CALLS + 1] {
         let begun = begun_on(&rt, alloc, &UNANSWERED, calls);
         let said = Mutex::new(Vec::new(alloc));
-        let served = served_from(&rt, alloc, outside(&rt)?, &UNANSWERED, begun, &said);
+        let (log, reader) = EventLog::new(alloc)?;
+        let told = Told {
+            said: &said,
+            log: &log,
+        };
+        let served = served_from(&rt, alloc, outside(&rt)?, &UNANSWERED, begun, told);
+        log.end(&rt);
+        check_lost(&rt, alloc, &log, reader);
         let Served {
             closed,
             closers,

@@ -16,6 +16,8 @@ mod frail_device;
 #[cfg(test)]
 mod kept_days;
 #[cfg(test)]
+mod logged_days;
+#[cfg(test)]
 mod machine;
 #[cfg(test)]
 mod memory;

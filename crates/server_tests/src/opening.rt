@@ -41,6 +41,17 @@ REPORT E1 R1 M1 B XF6 10 101.5 H1
 REPORT E2 R2 M1 S XF6 10 101.5 H2
 ";
 
+/// A day with limits of 100 on the path of P1, and a trade of fifty lots.
+pub const A_LARGE_TRADE: &str = "\
+DAY 20260105
+LIMIT G1 EXEC E1 100
+LIMIT G1 AGR P1 100
+LIMIT G1 ACCT A1 100
+LIMIT G1 CARRY C1 100
+REPORT E1 R1 M1 B XF6 50 101.5 H1
+REPORT E2 R2 M1 S XF6 50 101.5 H2
+";
+
 /// A day of the other group: with limits of 100 on the path of P1, and a trade of ten lots.
 pub const A_TRADE_OF_G2: &str = "\
 DAY 20260105

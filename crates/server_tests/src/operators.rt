@@ -19,7 +19,7 @@ const CLOSING_AFTER_AN_OFFER: &str = "out 5 3 58=Closing|\n";
 const LOGOUT: &str = "in 5 2\n";
 
 /// Days on which connections come and go.
-const ROWS: [Row; 6] = [
+const ROWS: &[Row] = &[
     // More connections come than there are places, one after the other; a place is free once its connection has ended.
     Row {
         begin: A_TRADE,
@@ -168,7 +168,7 @@ fn connections_come_and_go_until_the_day_is_closed(rt: HostRuntime) -> Result<()
             fails_where_nobody_waits: false,
         };
         let said = Mutex::new(Vec::new(rt.alloc()));
-        let (closed, closers) = end_of(&rt, rt.alloc(), outside, &row, &said);
+        let (closed, closers) = end_of(&rt, rt.alloc(), outside, row, &said);
         assert!(rt; closed.fault.is_none());
         assert!(rt; said.lock(&rt).is_empty());
         closers.tell(row.end);

@@ -14,6 +14,7 @@ use crate::opening::book_after;
 use gu_book::Book;
 use gu_desk::{EntryLedger, LotLedger};
 use gu_journal::{Log, Memory, Sink};
+use gu_log::EventLog;
 use gu_server::{Closed, Closers, DayJournal, Front, Opening, Served, Service, serve_day};
 use gu_sockets::{Doorway, Listeners};
 use gu_streams::StreamError;
@@ -129,6 +130,13 @@ fn ends_of<R: Net<Listener = TcpListener, Stream = TcpStream> + Abort>(
     }
 }
 
+/// Where a day says what happens: its standard error, and its log.
+#[derive(Clone, Copy)]
+pub struct Told<'s, 'l> {
+    pub said: &'s Mutex<Vec<u8>>,
+    pub log: &'l EventLog,
+}
+
 /// The end of a day, while this is done beside it.
 fn day<
     E: EntryLedger + Send + Sync,
@@ -141,7 +149,7 @@ fn day<
     opening: Opening<K>,
     outside: Outside,
     doing: Doing,
-    said: &Mutex<Vec<u8>>,
+    told: Told<'_, '_>,
 ) -> Result<Served<K>, StreamError>
 where
     K::Place: Send,
@@ -151,6 +159,7 @@ where
     requires entries { (opening.entries.name ≡ E.name) × (opening.entries.parts ≡ E.parts) }
     requires swept { (opening.swept.name ≡ S.name) × (opening.swept.parts ≡ S.parts) }
 {
+    let Told { said, log } = told;
     let machine = Machine::new(rt, doing.leap(), said);
     let Ends { front, there } = ends_of(rt, alloc, outside);
     let (served, done) = thread::join(
@@ -162,7 +171,7 @@ where
                 × IsSync R.row × IsSend E.row × IsSync E.row × IsSend S.row × IsSync S.row × IsSend K.row × IsSend K.Place.row }
         {
             serve_day::<E, S, Machine<'_, R>, Vec<u8>, TestDoor, K>(
-                &machine, alloc, opening, front, None,
+                &machine, alloc, opening, front, log, None,
             )
         },
         || do_all(rt, alloc, there, doing, said),
@@ -187,6 +196,7 @@ fn opening_of<K: Sink + Drop>(
     let opened = Opening::new(alloc, book, receipts, journal, service);
     let mut opening = opened.ok().expect(rt, "an opening");
     opening.every = row.every;
+    opening.share = row.doing.share();
     opening.write_wait_ms = row.doing.write_wait_ms();
     opening
 }
@@ -210,13 +220,13 @@ pub fn served_from<
     outside: Outside,
     row: &Row,
     begun: Begun<K>,
-    said: &Mutex<Vec<u8>>,
+    told: Told<'_, '_>,
 ) -> Served<K>
 where
     K::Place: Send,
 {
     let opening = opening_of(rt, alloc, row, begun);
-    let served = day::<Brand, Brand, R, K>(rt, alloc, opening, outside, row.doing, said);
+    let served = day::<Brand, Brand, R, K>(rt, alloc, opening, outside, row.doing, told);
     served.ok().expect(rt, "a day")
 }
 
@@ -224,13 +234,22 @@ where
 pub fn end_of<
     R: Net<Listener = TcpListener, Stream = TcpStream> + Threads + Wait + Clock + Abort + Sync,
 >(rt: &R, alloc: Global, outside: Outside, row: &Row, said: &Mutex<Vec<u8>>) -> (Closed, Closers) {
+    let log = EventLog::silent();
+    let told = Told { said, log: &log };
+    end_of_told(rt, alloc, outside, row, told)
+}
+
+/// The same of a day that says there what happens.
+pub fn end_of_told<
+    R: Net<Listener = TcpListener, Stream = TcpStream> + Threads + Wait + Clock + Abort + Sync,
+>(rt: &R, alloc: Global, outside: Outside, row: &Row, told: Told<'_, '_>) -> (Closed, Closers) {
     let (book, receipts) = book_after(alloc, row.begin).ok().expect(rt, "a book");
     let begun: Begun<Log<Memory>> = Begun {
         book,
         receipts,
         journal: None,
     };
-    let served = served_from(rt, alloc, outside, row, begun, said);
+    let served = served_from(rt, alloc, outside, row, begun, told);
     let Served {
         closed,
         closers,

@@ -12,6 +12,13 @@ out A 1 98=0|108=30|1137=9|
 out AE 2 571=7-B|572=R1|573=0|880=M1|55=XF6|32=10|31=101.5|75=20260105|552=1|54=1|1=H1|
 ";
 
+/// The same of a trade of fifty lots.
+pub const LOGON_OF_A_LARGE_TRADE: &str = "\
+in A 1 98=0|108=30|1137=9|
+out A 1 98=0|108=30|1137=9|
+out AE 2 571=7-B|572=R1|573=0|880=M1|55=XF6|32=50|31=101.5|75=20260105|552=1|54=1|1=H1|
+";
+
 /// What the carrying firm is sent of the offer.
 pub const OFFER: &str =
     "out AS 2 755=1|71=0|794=8|87=6|55=XF6|54=1|53=10|6=101.5|75=20260105|78=1|79=A1|80=10|\n";
@@ -25,7 +32,46 @@ in J 2 70=L1|71=0|53=10|124=1|17=R1|78=1|79=A1|80=10|
 out P 3 70=L1|87=0|
 ";
 
-/// The same, and a Logout.
+/// A firm gives up forty lots of its report of fifty, each by a line of its own, and then one more, for which it has no share: 40 offers are
+/// all of 1 in 100.
+pub const GIVES_UP_TOO_OFTEN: Visit = Visit {
+    firm: "E1",
+    parts: &[
+        "\
+in A 1 98=0|108=30|1137=9|
+out A 1 98=0|108=30|1137=9|
+out AE 2 571=7-B|572=R1|573=0|880=M1|55=XF6|32=50|31=101.5|75=20260105|552=1|54=1|1=H1|
+in J 2 70=L1|71=0|53=16|124=1|17=R1|78=16|79=A1|80=1|79=A1|80=1|79=A1|80=1|79=A1|80=1|79=A1|80=1|79=A1|80=1|79=A1|80=1|79=A1|80=1|79=A1|80=1|79=A1|80=1|79=A1|80=1|79=A1|80=1|79=A1|80=1|79=A1|80=1|79=A1|80=1|79=A1|80=1|
+out P 3 70=L1|87=0|
+in J 3 70=L2|71=0|53=16|124=1|17=R1|78=16|79=A1|80=1|79=A1|80=1|79=A1|80=1|79=A1|80=1|79=A1|80=1|79=A1|80=1|79=A1|80=1|79=A1|80=1|79=A1|80=1|79=A1|80=1|79=A1|80=1|79=A1|80=1|79=A1|80=1|79=A1|80=1|79=A1|80=1|79=A1|80=1|
+out P 4 70=L2|87=0|
+in J 4 70=L3|71=0|53=8|124=1|17=R1|78=8|79=A1|80=1|79=A1|80=1|79=A1|80=1|79=A1|80=1|79=A1|80=1|79=A1|80=1|79=A1|80=1|79=A1|80=1|
+out P 5 70=L3|87=0|
+in J 5 70=L4|71=0|53=1|124=1|17=R1|78=1|79=A1|80=1|
+out P 6 70=L4|87=1|88=99|58=Full|
+in J 6 70=L4|71=0|53=1|124=1|17=R1|78=1|79=A1|80=1|
+out P 7 70=L4|87=1|88=99|58=Full|
+",
+    ],
+    ending: Ending::LogsOut(7),
+};
+
+/// Another firm gives up a lot of its own report.
+pub const GIVES_UP_OF_ANOTHER: Visit = Visit {
+    firm: "E2",
+    parts: &[
+        "\
+in A 1 98=0|108=30|1137=9|
+out A 1 98=0|108=30|1137=9|
+out AE 2 571=7-S|572=R2|573=0|880=M1|55=XF6|32=50|31=101.5|75=20260105|552=1|54=2|1=H2|
+in J 2 70=L1|71=0|53=1|124=1|17=R2|78=1|79=A1|80=1|
+out P 3 70=L1|87=0|
+",
+    ],
+    ending: Ending::LogsOut(3),
+};
+
+/// A firm gives up all lots of its report, and logs out.
 pub const GIVES_UP: Visit = Visit {
     firm: "E1",
     parts: &[GIVES_UP_LINES],

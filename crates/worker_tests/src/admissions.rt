@@ -79,6 +79,7 @@ fn a_firm_is_admitted_before_it_is_answered(rt: HostRuntime) {
         places: 3,
         kept: NO_JOURNAL,
         secrets: "",
+        looks: false,
     };
     check_plays(&rt, rt.alloc(), setting, ADMISSIONS);
 }

@@ -165,6 +165,7 @@ fn a_close_ends_each_connection_in_order_and_in_time(rt: HostRuntime) {
         places: 3,
         kept: NO_JOURNAL,
         secrets: "",
+        looks: false,
     };
     check_plays(&rt, rt.alloc(), setting, CLOSE);
 }

@@ -51,6 +51,7 @@ fn a_thousand_connections_are_served_in_one_worker(rt: HostRuntime) {
         places: 1_000,
         kept: NO_JOURNAL,
         secrets: "",
+        looks: false,
     };
     check_plays(&rt, rt.alloc(), setting, CROWD);
 }

@@ -58,6 +58,7 @@ fn a_worker_runs_until_it_is_over_or_can_not_go_on(rt: HostRuntime) {
         places: 3,
         kept: NO_JOURNAL,
         secrets: "",
+        looks: false,
     };
     check_plays(&rt, rt.alloc(), setting, RUNS);
 }

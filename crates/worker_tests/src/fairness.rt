@@ -40,6 +40,7 @@ fn one_that_has_much_to_be_read_keeps_nobody_waiting(rt: HostRuntime) {
         places: 2,
         kept: NO_JOURNAL,
         secrets: "",
+        looks: false,
     };
     check_plays(&rt, rt.alloc(), setting, MUCH);
 }

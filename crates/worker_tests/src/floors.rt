@@ -36,6 +36,8 @@ pub struct Setting<'a> {
     pub kept: u64,
     /// The file of secrets, if it isn't empty.
     pub secrets: &'a str,
+    /// Whether first messages are looked at though there are no secrets.
+    pub looks: bool,
 }
 
 /// What the workers of a test share.
@@ -49,6 +51,7 @@ pub struct Floor {
     pub posts: Posts<Ring>,
     firms: Vec<FirmId>,
     secrets: Option<Secrets>,
+    looks: bool,
 }
 
 /// A worker of a test.
@@ -116,6 +119,7 @@ impl Floor {
             posts: Posts::new(alloc, bells, setting.places, Ring::new(), setting.kept)?,
             firms,
             secrets,
+            looks: setting.looks,
         })
     }
 
@@ -146,6 +150,7 @@ impl Floor {
         let shared = Shared {
             firms: &self.firms,
             secrets: self.secrets.as_ref(),
+            looks: self.looks,
             admission: &self.host,
             posts: &self.posts,
         };

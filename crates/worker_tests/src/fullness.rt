@@ -97,6 +97,7 @@ fn one_that_takes_nothing_waits_and_hurts_nobody(rt: HostRuntime) {
         places: 3,
         kept: NO_JOURNAL,
         secrets: "",
+        looks: false,
     };
     check_plays(&rt, rt.alloc(), setting, FULL);
 }

@@ -1,5 +1,6 @@
 //! Who may be connected, as a test says.
 
+use gu_log::{EndCause, LogonFault, Refusal};
 use gu_terms::FirmId;
 use gu_workers::Admission;
 use std::cell::Cell;
@@ -14,6 +15,12 @@ pub struct Host {
     begun: Cell<u64>,
     ended: Cell<u64>,
     failed: Cell<u64>,
+    /// What was wrong with the last first message that was refused, and which firm it named.
+    fault: Cell<Option<(Option<FirmId>, LogonFault)>>,
+    /// Why the last connection without a place had none.
+    turned_away: Cell<Option<Refusal>>,
+    /// Why the last connection ended.
+    cause: Cell<Option<EndCause>>,
     /// How many places firms have: at each release of one that no firm has, it is wrong for good.
     places: Cell<u64>,
 }
@@ -32,8 +39,26 @@ impl Host {
             begun: Cell::new(0),
             ended: Cell::new(0),
             failed: Cell::new(0),
+            fault: Cell::new(None),
+            turned_away: Cell::new(None),
+            cause: Cell::new(None),
             places: Cell::new(0),
         }
+    }
+
+    /// What was wrong with the last first message that was refused, and which firm it named.
+    pub fn fault(&self) -> Option<(Option<FirmId>, LogonFault)> {
+        self.fault.get()
+    }
+
+    /// Why the last connection without a place had none.
+    pub fn turned_away(&self) -> Option<Refusal> {
+        self.turned_away.get()
+    }
+
+    /// Why the last connection ended.
+    pub fn cause(&self) -> Option<EndCause> {
+        self.cause.get()
     }
 
     /// How many connections have begun, how many have ended, how many of these by a fault, and how many places firms have.
@@ -52,7 +77,11 @@ impl Admission for Host {
         count(&self.begun);
     }
 
-    fn admit(&self, firm: &FirmId) -> bool {
+    fn turn_away(&self, _number: u64, reason: Refusal) {
+        self.turned_away.set(Some(reason));
+    }
+
+    fn admit(&self, _number: u64, firm: &FirmId) -> bool {
         if self.refused.get() == Some(*firm) || self.most.get() <= self.places.get() {
             return false;
         }
@@ -60,13 +89,18 @@ impl Admission for Host {
         true
     }
 
+    fn refuse(&self, _number: u64, firm: Option<FirmId>, fault: LogonFault) {
+        self.fault.set(Some((firm, fault)));
+    }
+
     fn release(&self, _firm: &FirmId) {
         self.places.set(self.places.get().wrapping_sub(1));
     }
 
-    fn end(&self, has_failed: bool) {
+    fn end(&self, _number: u64, _firm: Option<FirmId>, cause: EndCause) {
+        self.cause.set(Some(cause));
         count(&self.ended);
-        if has_failed {
+        if !matches!(cause, EndCause::Done | EndCause::HungUp) {
             count(&self.failed);
         }
     }

@@ -246,6 +246,7 @@ fn an_answer_goes_out_once_what_it_shows_is_kept(rt: HostRuntime) {
         places: 2,
         kept: 3,
         secrets: "",
+        looks: false,
     };
     check_plays(&rt, rt.alloc(), setting, HELD);
 }
@@ -298,6 +299,7 @@ fn what_is_not_kept_is_never_sent(rt: HostRuntime) {
         places: 3,
         kept: 3,
         secrets: "",
+        looks: false,
     };
     check_plays(&rt, rt.alloc(), setting, STOPS);
 }

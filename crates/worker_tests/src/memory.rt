@@ -14,6 +14,7 @@ const SETTING: Setting<'static> = Setting {
     places: 2,
     kept: NO_JOURNAL,
     secrets: "",
+    looks: false,
 };
 
 /// What C1 and C2 send, and what they are sent.

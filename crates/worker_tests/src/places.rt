@@ -82,6 +82,7 @@ fn a_place_that_is_free_again_is_as_new(rt: HostRuntime) {
         places: 1,
         kept: NO_JOURNAL,
         secrets: "",
+        looks: false,
     };
     check_plays(&rt, rt.alloc(), setting, ONE_PLACE);
 }
@@ -203,6 +204,7 @@ fn a_connection_ends_alone(rt: HostRuntime) {
         places: 3,
         kept: NO_JOURNAL,
         secrets: "",
+        looks: false,
     };
     check_plays(&rt, rt.alloc(), setting, ENDS);
 }

@@ -22,6 +22,8 @@
 //! - `besides LINE`: it is entered as soon as a firm was given notices
 //! - `keep 4`, `stop`: four entries are kept; no more will be
 //! - `refuse E1`, `most 2`: E1 has no place from now on; firms have two places at most
+//! - `wrong Secret E1`: of the last first message that was refused this was wrong, and it named E1, or no firm that may come in there
+//! - `away Full`, `ended Cut`: why the last connection without a place had none, and why the last one ended
 //! - `host 3 2 1 1`: three connections have begun, two have ended, one of them by a fault, and firms have one place
 //! - `entries 4`, `connections 0 2`: the book has four entries; worker 0 has two connections
 //! - `counted 2`: the most give-ups that a connection has counted
@@ -142,6 +144,33 @@ fn enter_besides(alloc: Global, floor: &Floor, line: &str) -> Result<(), TextErr
         Some(Line::Step(Step::Enter(command))) => floor.book.enter_besides(command),
         other => drop(other),
     }
+    Ok(())
+}
+
+/// What the host heard last, of the kind that a word names.
+fn heard(play: &Play<'_>, word: &str) -> Result<String, AllocError> {
+    let host = &play.floor.host;
+    match (word, host.fault(), host.turned_away(), host.cause()) {
+        ("wrong", Some((Some(firm), fault)), ..) => {
+            let name = String::from_utf8_lossy(play.alloc, firm.get())?;
+            format!(in play.alloc; "{fault:?} {name}")
+        }
+        ("wrong", Some((None, fault)), ..) => format!(in play.alloc; "{fault:?}"),
+        ("away", _, Some(reason), _) => format!(in play.alloc; "{reason:?}"),
+        ("ended", _, _, Some(cause)) => format!(in play.alloc; "{cause:?}"),
+        _ => String::from_str(play.alloc, "nothing"),
+    }
+}
+
+/// Asserts what the host heard last, of the kind that a word names.
+fn check_heard<R: Abort>(
+    rt: &R,
+    play: &Play<'_>,
+    word: &str,
+    text: &str,
+) -> Result<(), AllocError> {
+    let found = heard(play, word)?;
+    assert_eq!(rt; found.as_str(), text, "{}: {word}", play.name);
     Ok(())
 }
 
@@ -267,6 +296,7 @@ fn floor_step<R: Wait + Abort>(rt: &R, play: &mut Play<'_>, word: &str, text: &s
         "clock" => play.set_time(text).expect(rt, "memory"),
         "waits" => check_wait(rt, play, text).expect(rt, "memory"),
         "host" => check_host(rt, play, text).expect(rt, "memory"),
+        "wrong" | "away" | "ended" => check_heard(rt, play, word, text).expect(rt, "memory"),
         "besides" => enter_besides(play.alloc, play.floor, text).expect(rt, "memory"),
         "asleep" | "rung" | "connections" => post_step(rt, play, word, text),
         "event" => say_ready(play, number(text)).expect(rt, "memory"),

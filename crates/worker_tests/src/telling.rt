@@ -59,6 +59,7 @@ fn an_entry_is_told_by_the_next_round(rt: HostRuntime) {
         places: 4,
         kept: NO_JOURNAL,
         secrets: "",
+        looks: false,
     };
     check_plays(&rt, rt.alloc(), setting, ONE_WORKER);
 }
@@ -131,6 +132,7 @@ fn a_worker_is_woken_where_it_waits_and_has_the_firm(rt: HostRuntime) {
         places: 3,
         kept: NO_JOURNAL,
         secrets: "",
+        looks: false,
     };
     check_plays(&rt, rt.alloc(), setting, TWO_WORKERS);
 }

@@ -134,6 +134,7 @@ fn deadlines_are_met_by_the_clock_alone(rt: HostRuntime) {
         places: 2,
         kept: NO_JOURNAL,
         secrets: "",
+        looks: false,
     };
     check_plays(&rt, rt.alloc(), setting, TIMES);
 }

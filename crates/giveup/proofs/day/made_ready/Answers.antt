@@ -1,4 +1,0 @@
-use Rattle.giveup.proofs.day.made_ready.Goals as goal
-
-pub invariant_of-result : goal.invariant_of-result
-invariant_of-result g c = record { journaled = c.in_ok-world-in-Some.ensures }

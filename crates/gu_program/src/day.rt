@@ -1,0 +1,443 @@
+//! A day of the server, from its files to its last line.
+
+ghost use Rattle.std.specs.Prelude.{◌≡◌, IfOk, IfSome};
+ghost use Rattle.std.proofs.Props.{props};
+ghost use Rattle.gu_keeping.specs.Chains.{IsChainOf};
+ghost use Rattle.gu_words.specs.Statuses.{status_of_audit};
+
+use crate::fault::{Fault, Faults};
+use crate::files::{digested_reference_at, secrets_at, world_after};
+use crate::heading::Heading;
+use crate::journal_ending::end_journal;
+use crate::journal_file::{FileLog, empty_journal_at, has_day_at, journal_at};
+use crate::journal_name::JournalName;
+use crate::journal_opening::{BegunFile, BegunJournal, Resumed, begin_journal, resume_journal};
+use crate::locking::Locks;
+use crate::seeding::seed_from;
+use crate::serving::{Begun, begin_log, listen, serve};
+use gu_book::Book;
+use gu_journal::Sink;
+use gu_log::{Event, EventLog, LogOutput, Logged, Unwaiting, run_logged};
+use gu_ref::Reference;
+use gu_script::RefusedLines;
+use gu_secrets::Secrets;
+use gu_server::{DayEnd, Front, Served};
+use gu_sockets::Doorway;
+use gu_streams::{StreamError, send};
+use gu_terms::{FirmId, History, Seed};
+use gu_words::{Journal, Serving, Status};
+use gu_world::World;
+use jiff::Timestamp;
+use std::alloc::Global;
+use std::fs::OpenFile;
+use std::io;
+use std::io::{ErrorKind, Read, Seek, Write};
+use std::net::{Net, TcpListener, TcpStream};
+use std::os::fd::AsRawFd;
+use std::random::RandomSource;
+use std::rt::{Clock, Files};
+use std::sync::Wait;
+use std::thread::Threads;
+use std::time::{SystemTime, UNIX_EPOCH};
+
+/// A day that is ready to be served.
+struct Ready<'a, F, K: Sink> {
+    world: World,
+    begun: Option<BegunJournal<'a, F, K>>,
+    ghost journaled: { IfSome begun (λ b. IsChainOf b.journal.chain world.state.book.history) } by { Prim.hlevel props },
+}
+
+/// A ready day whose journal is in a file.
+type ReadyFile<'a, F> = Ready<'a, F, FileLog<F>>;
+
+impl<'a, F, K: Sink> Ready<'a, F, K> {
+    /// Returns the name of the journal, if there is one, and what a server begins with if its firms have these secrets.
+    fn into_parts(self, secrets: Option<Secrets>) -> (Option<JournalName<'a, F>>, Begun<K>) {
+        let Ready { world, begun } = self;
+        match begun {
+            Some(BegunJournal { name, journal }) => {
+                let journal = Some(journal);
+                (
+                    Some(name),
+                    Begun {
+                        world,
+                        journal,
+                        secrets,
+                    },
+                )
+            }
+            None => {
+                let journal = None;
+                (
+                    None,
+                    Begun {
+                        world,
+                        journal,
+                        secrets,
+                    },
+                )
+            }
+        }
+    }
+}
+
+/// Prints on standard error which lines of a script were refused, and how many there are. What can't be written is lost.
+fn say_refused<R: Eprint>(rt: &R, refused: &RefusedLines) {
+    for line in refused.first() {
+        let _ = eprintln!(rt; "giveup: line {}: {}", line.number, line.why);
+    }
+    if refused.count() > 0 {
+        let _ = eprintln!(rt; "giveup: refused lines: {}", refused.count());
+    }
+}
+
+/// Returns the current time.
+fn time<R: Clock>(rt: &R) -> Option<Timestamp> {
+    let now = SystemTime::now(rt).ok()?;
+    let since = now.duration_since(UNIX_EPOCH).ok()?;
+    Timestamp::from_millisecond(i64::try_from(since.as_millis()).ok()?).ok()
+}
+
+/// Begins the journal of a day, if it has one, with the entries made before firms are let in.
+fn begun_journal<'a, R: Files + Alloc<A = Global>>(
+    rt: &R,
+    serving: &Serving<'a>,
+    heading: &Heading,
+    history: &History,
+) -> Result<Option<BegunFile<'a, R::File>>, Fault<'a>>
+where
+    R::File: Locks,
+    ensures { IfOk result (λ begun. IfSome begun (λ b. IsChainOf b.journal.chain history.now)) }
+{
+    let Some(journal) = serving.journal else {
+        return Ok(None);
+    };
+    let found = empty_journal_at(rt, journal.path)?;
+    let begun = begin_journal(rt, found, heading, history)?;
+    Ok(Some(begun))
+}
+
+/// Returns a day that begins after a script, and begins its journal, if it has one. Refused lines of the script are printed on standard
+/// error.
+fn begun_day<'a, R: Eprint + Files + Alloc<A = Global>>(
+    rt: &R,
+    serving: &Serving<'a>,
+    reference: Reference,
+    heading: &Heading,
+    seed: Seed,
+) -> Result<ReadyFile<'a, R::File>, Fault<'a>>
+where
+    R::File: Locks,
+{
+    let (world, refused) = world_after(rt, reference, serving.script, seed)?;
+    if let Some(refused) = &refused {
+        say_refused(rt, refused);
+    }
+    drop(refused);
+    let begun = begun_journal(rt, serving, heading, world.book().history())?;
+    Ok(Ready { world, begun })
+}
+
+/// Returns the path of the journal to resume, if there is one.
+fn journal_to_resume<'a, R: Files>(
+    rt: &R,
+    serving: &Serving<'a>,
+) -> Result<Option<&'a str>, Fault<'a>> {
+    match serving.journal {
+        Some(
+            Journal {
+                path,
+                resumes: true,
+            },
+        ) if has_day_at(rt, path)? => Ok(Some(path)),
+        _ => Ok(None),
+    }
+}
+
+/// Makes a day ready: it goes on if its journal is to be resumed and has lines, and otherwise begins after the script.
+fn made_ready<'a, R: Eprint + Files + Alloc<A = Global>>(
+    rt: &R,
+    serving: &Serving<'a>,
+    reference: Reference,
+    heading: &Heading,
+    seed: Seed,
+) -> Result<ReadyFile<'a, R::File>, Fault<'a>>
+where
+    R::File: Locks,
+{
+    match journal_to_resume(rt, serving)? {
+        Some(path) => {
+            let found = journal_at(rt, path)?;
+            let Resumed { world, begun } = resume_journal(rt, found, reference, heading, seed)?;
+            Ok(Ready {
+                world,
+                begun: Some(begun),
+            })
+        }
+        None => begun_day(rt, serving, reference, heading, seed),
+    }
+}
+
+/// Returns the secrets of firms, if there are any.
+fn secrets_of<'a, R: Files + Alloc<A = Global>>(
+    rt: &R,
+    serving: &Serving<'a>,
+    firms: &[FirmId],
+) -> Result<Option<Secrets>, Fault<'a>> {
+    match serving.secrets {
+        Some(path) => Ok(Some(secrets_at(rt, path, firms)?)),
+        None => Ok(None),
+    }
+}
+
+/// Reads the reference, then the secrets of its firms, and makes the day ready.
+fn ready_day<'a, R: Eprint + Files + Clock + RandomSource + Alloc<A = Global>>(
+    rt: &R,
+    serving: &Serving<'a>,
+) -> Result<(ReadyFile<'a, R::File>, Option<Secrets>), Fault<'a>>
+where
+    R::File: Locks,
+{
+    let seed = seed_from(rt)?;
+    let (reference, digest) = digested_reference_at(rt, serving.reference)?;
+    let secrets = secrets_of(rt, serving, reference.firms())?;
+    let heading = Heading {
+        reference: digest,
+        opened: time(rt).ok_or(StreamError::Read)?,
+    };
+    let ready = made_ready(rt, serving, reference, &heading, seed)?;
+    Ok((ready, secrets))
+}
+
+/// Returns the status for the end of a day, which its audit decides.
+fn status_after(end: &DayEnd) -> Status
+    ensures { IfOk end.now (λ made. result ≡ status_of_audit made.1) }
+{
+    match end {
+        Ok((_, true)) => Status::Done,
+        _ => Status::Fault,
+    }
+}
+
+/// Logs that a day is closed, unless memory ran out at its end.
+fn note_end<R: Wait + Clock>(rt: &R, log: &EventLog, book: &Book, end: &DayEnd) {
+    if let Ok((_, is_audited)) = end {
+        let event = Event::DayClosed {
+            entries: book.history().len() as u64,
+            lots: book.lots_swept(),
+            is_audited: *is_audited,
+        };
+        log.note(rt, event);
+    }
+}
+
+/// Prints the last lines of a day.
+fn print_end<R: Print>(rt: &R, text: &str) -> Result<(), StreamError> {
+    send(&mut io::writer(rt), text.as_bytes())
+}
+
+/// Returns the fault of a call that failed.
+fn fault_after<'a>(done: Result<(), StreamError>) -> Option<Fault<'a>> {
+    match done {
+        Ok(()) => None,
+        Err(error) => Some(Fault::from(error)),
+    }
+}
+
+/// Ends a day: ends its journal and prints its last lines, even if some connections couldn't be accepted, but not if the journal lacks
+/// entries. Operators that closed the day get the lines once the journal is whole. All faults are returned.
+pub fn end_day<
+    'a,
+    R: Print + Wait + Clock + Alloc<A = Global>,
+    F: Read + Write + Seek + OpenFile + Drop,
+>(
+    rt: &R,
+    served: Served<FileLog<F>>,
+    path: Option<&'a str>,
+    log: &EventLog,
+) -> Result<Status, Faults<'a>> {
+    let Served {
+        closed,
+        closers,
+        journal,
+    } = served;
+    let (end, book, fault) = closed.end(rt.alloc());
+    note_end(rt, log, &book, &end);
+    let entries = book.history().len();
+    drop(book);
+    let kept = match (path, journal) {
+        (Some(path), Some(journal)) => end_journal(path, journal, entries),
+        _ => Ok(()),
+    };
+    let printed = match (&end, &kept) {
+        (Ok((text, _)), Ok(())) => print_end(rt, text),
+        (Ok(_), Err(_)) => Ok(()),
+        (Err(error), _) => Err(StreamError::from(*error)),
+    };
+    if let (Ok((text, _)), Ok(())) = (&end, &kept) {
+        closers.tell(text);
+    }
+    drop(closers);
+    let unprinted = fault_after(printed);
+    let unaccepted = match fault {
+        Some(fault) => Some(Fault::from(fault)),
+        None => None,
+    };
+    match Faults::among([unprinted, kept.err(), unaccepted]) {
+        Some(faults) => Err(faults),
+        None => Ok(status_after(&end)),
+    }
+}
+
+/// Listens at the operators' sockets, at the firms' doors and at the port, and gives a new journal its name. If that fails, a new journal
+/// is removed.
+fn opened<'a, R: Files + Net<Listener = TcpListener, Stream = TcpStream> + Alloc<A = Global>, F>(
+    rt: &R,
+    serving: &Serving<'a>,
+    firms: &[FirmId],
+    name: Option<&JournalName<'a, F>>,
+) -> Result<Front<Doorway>, Fault<'a>> {
+    let Some(name) = name else {
+        return listen(rt, serving, firms);
+    };
+    let opened = match listen(rt, serving, firms) {
+        Ok(front) => match name.give(rt) {
+            Ok(()) => Ok(front),
+            Err(fault) => {
+                drop(front);
+                Err(fault)
+            }
+        },
+        Err(fault) => Err(fault),
+    };
+    if opened.is_err() {
+        name.give_up(rt);
+    }
+    opened
+}
+
+/// Returns the writer of a day's log over standard error, if the day has a log.
+fn log_writer<'a, R: Net + Alloc<A = Global>, E: Write + AsRawFd + Drop>(
+    rt: &R,
+    serving: &Serving<'_>,
+    stderr: E,
+) -> Result<Option<Unwaiting<E>>, Fault<'a>> {
+    if !serving.log {
+        drop(stderr);
+        return Ok(None);
+    }
+    match Unwaiting::new(rt, rt.alloc(), stderr) {
+        Ok(writer) => Ok(Some(writer)),
+        Err(error) if error.kind() == ErrorKind::OutOfMemory => {
+            Err(Fault::from(StreamError::Memory))
+        }
+        Err(_) => Err(Fault::from(StreamError::Write)),
+    }
+}
+
+/// Returns the log of a day with its first lines, and its output.
+fn begun_log<'a, R: Clock + Alloc<A = Global>, W: Drop>(
+    rt: &R,
+    serving: &Serving<'_>,
+    world: &World,
+    writer: W,
+) -> Result<(EventLog, LogOutput<W>), Fault<'a>> {
+    let Ok((log, mut reader)) = EventLog::new(rt.alloc()) else {
+        return Err(Fault::from(StreamError::Memory));
+    };
+    match begin_log(rt, &mut reader, serving, world) {
+        Ok(()) => Ok((log, LogOutput { reader, writer })),
+        Err(_) => Err(Fault::from(StreamError::Memory)),
+    }
+}
+
+/// Ends a day if it was served.
+fn end_served<
+    'a,
+    R: Print + Wait + Clock + Alloc<A = Global>,
+    F: Read + Write + Seek + OpenFile + Drop,
+>(
+    rt: &R,
+    served: Result<Served<FileLog<F>>, StreamError>,
+    path: Option<&'a str>,
+    log: &EventLog,
+) -> Result<Status, Faults<'a>> {
+    match served {
+        Ok(served) => end_day(rt, served, path, log),
+        Err(error) => Err(Faults::from(Fault::from(error))),
+    }
+}
+
+/// A run's terminal and standard error.
+#[derive(Drop)]
+pub struct Screen<T, E> {
+    /// The terminal that shows progress, if there is one.
+    pub terminal: Option<T>,
+    /// Whether standard input is a terminal.
+    pub is_typed: bool,
+    /// Where a log is written.
+    pub stderr: E,
+}
+
+/// Serves firms on this machine, over the reference in a file, after a script, if one is named.
+pub fn run_serve<
+    'a,
+    R: Print
+        + Eprint
+        + Files
+        + Clock
+        + RandomSource
+        + Net<Listener = TcpListener, Stream = TcpStream>
+        + Threads
+        + Wait
+        + Sync
+        + Alloc<A = Global>,
+    T: Write + Send + Drop,
+    E: Write + AsRawFd + Send + Drop,
+>(rt: &R, serving: &Serving<'a>, screen: Screen<T, E>) -> Result<Status, Faults<'a>>
+where
+    R::File: Locks + Send,
+{
+    let Screen {
+        terminal,
+        is_typed: _,
+        stderr,
+    } = screen;
+    let writer = log_writer(rt, serving, stderr)?;
+    let (ready, secrets) = ready_day(rt, serving)?;
+    let (name, begun) = ready.into_parts(secrets);
+    let firms = begun.world.book().reference().firms();
+    let front = match opened(rt, serving, firms, name.as_ref()) {
+        Ok(front) => front,
+        Err(fault) => {
+            drop(begun);
+            return Err(Faults::from(fault));
+        }
+    };
+    let path = match &name {
+        Some(name) => Some(name.path),
+        None => None,
+    };
+    let Some(writer) = writer else {
+        let log = EventLog::silent();
+        let served = serve(rt, begun, serving, front, &log, terminal);
+        return end_served(rt, served, path, &log);
+    };
+    drop(terminal);
+    let (log, output) = match begun_log(rt, serving, &begun.world, writer) {
+        Ok(made) => made,
+        Err(fault) => {
+            drop(begun);
+            drop(front);
+            return Err(Faults::from(fault));
+        }
+    };
+    let Logged { done, output } = run_logged(rt, rt.alloc(), &log, output, || {
+        serve(rt, begun, serving, front, &log, None::<Vec<u8>>)
+    });
+    let ended = end_served(rt, done, path, &log);
+    if let Some(output) = output {
+        drop(output.write(rt, rt.alloc(), &log));
+    }
+    ended
+}

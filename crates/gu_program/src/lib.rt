@@ -1,0 +1,37 @@
+//! What the program does, without its `main`: its words, files and streams joined with the engines, and a day of the server.
+#![tactic(auto)]
+
+mod checking;
+mod day;
+mod digesting;
+mod error;
+mod fault;
+mod files;
+mod fixing;
+mod heading;
+mod issuing;
+mod journal_ending;
+mod journal_file;
+mod journal_name;
+mod journal_opening;
+mod locking;
+mod progress;
+mod replaying;
+mod running;
+mod sample;
+mod seeding;
+mod serving;
+mod telling;
+
+pub use checking::check;
+pub use day::{Screen, end_day};
+pub use error::{ConsoleFault, DoorsFault, JournalFault, RunError, SecretsError};
+pub use fault::Faults;
+pub use fixing::fix;
+pub use journal_file::FileLog;
+pub use locking::Locks;
+pub use progress::Told;
+pub use replaying::replay;
+pub use running::status_of;
+pub use sample::{SAMPLE_ROWS, sample_day, sample_reference};
+pub use telling::{Telling, are_lines};
