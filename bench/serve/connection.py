@@ -23,13 +23,15 @@ def seconds_open(port, line, since, most):
 
 class Connection:
     def __init__(self, port, firm, room=None):
-        """Connects. `room` is that of the kernel for what wasn't read yet, in bytes."""
-        self.line = socket.socket()
+        """Connects to a port, or to a door by its path. `room` is that of the kernel for what wasn't read yet, in bytes."""
+        is_door = isinstance(port, Path)
+        self.line = socket.socket(socket.AF_UNIX if is_door else socket.AF_INET)
         if room:
             self.line.setsockopt(socket.SOL_SOCKET, socket.SO_RCVBUF, room)
-        self.line.setsockopt(socket.IPPROTO_TCP, socket.TCP_NODELAY, 1)
+        if not is_door:
+            self.line.setsockopt(socket.IPPROTO_TCP, socket.TCP_NODELAY, 1)
         self.line.settimeout(20)
-        self.line.connect(('127.0.0.1', port))
+        self.line.connect(str(port) if is_door else ('127.0.0.1', port))
         self.firm, self.sent, self.expected = firm, 0, 1
         self.rest, self.faults, self.is_closed = b'', [], False
 
