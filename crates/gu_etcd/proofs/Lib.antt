@@ -1,0 +1,3 @@
+mod Histories
+mod Results
+mod Asking

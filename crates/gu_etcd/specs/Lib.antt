@@ -1,0 +1,10 @@
+pub mod Moments
+pub mod Log
+pub mod Node
+pub mod Appending
+pub mod Kept
+pub mod Outcome
+pub mod Keys
+pub mod Requests
+pub mod Lease
+pub mod Answers
