@@ -1,0 +1,175 @@
+//! A model of etcd at the end of an exchange: it reads the texts of requests, and its answers are texts too. Its failures are
+//! scripted.
+use base64::engine::general_purpose::STANDARD;
+use gu_etcd::{Exchange, NodeError};
+use serde_json::Value;
+use std::alloc::{AllocError, Global};
+
+/// What becomes of a request.
+#[derive(Clone, Copy, PartialEq, Eq)]
+pub enum Fate {
+    /// It is carried out and answered.
+    Answered,
+    /// It gets lost.
+    RequestLost,
+    /// It is carried out, and the answer gets lost.
+    AnswerLost,
+    /// It is carried out twice, and the second answer is the one that comes.
+    Doubled,
+    /// An endpoint answers that it can't say.
+    TimedOut,
+}
+
+/// A batch in the log, with its key, in base64.
+#[derive(Drop)]
+pub struct Pair {
+    pub key: String,
+    pub value: String,
+}
+
+/// An etcd with one log.
+#[derive(Drop)]
+pub struct Etcd {
+    /// The name of the desk that leads, in base64.
+    pub leader: String,
+    pub pairs: Vec<Pair>,
+    /// How often a request came, lost ones too.
+    pub asked: usize,
+    /// The endpoints that were asked, in order.
+    pub endpoints: Vec<usize>,
+}
+
+impl Etcd {
+    /// Creates an etcd with an empty log, which a desk leads.
+    pub fn new(alloc: Global, leader: &[u8]) -> Result<Self, AllocError> {
+        Ok(Etcd {
+            leader: STANDARD.encode(alloc, leader)?,
+            pairs: Vec::new(alloc),
+            asked: 0,
+            endpoints: Vec::new(alloc),
+        })
+    }
+
+    /// Returns the value at a key.
+    fn value_at(&self, key: &str) -> Option<&str> {
+        let pair = self.pairs.iter().find(|pair| pair.key.as_str() == key)?;
+        Some(pair.value.as_str())
+    }
+
+    /// Carries a transaction out, and returns the answer.
+    fn answer(&mut self, alloc: Global, request: &Request) -> Result<String, AllocError> {
+        if let Some(there) = self.value_at(request.key.as_str()) {
+            return found_text(alloc, request.key.as_str(), there);
+        }
+        if request.leader.as_str() != self.leader.as_str() {
+            return format!(in alloc; "{{\"responses\":[{{\"response_range\":{{}}}}]}}");
+        }
+        self.pairs.push(Pair {
+            key: request.key.clone()?,
+            value: request.value.clone()?,
+        })?;
+        format!(in alloc; "{{\"succeeded\":true,\"responses\":[{{\"response_put\":{{}}}}]}}")
+    }
+}
+
+/// The answer that a value is at a key.
+fn found_text(alloc: Global, key: &str, value: &str) -> Result<String, AllocError> {
+    format!(in alloc;
+        "{{\"responses\":[{{\"response_range\":{{\"kvs\":[{{\"key\":\"{key}\",\"value\":\"{value}\"}}],\"count\":\"1\"}}}}]}}"
+    )
+}
+
+/// A transaction that puts a batch.
+#[derive(Drop)]
+struct Request {
+    key: String,
+    leader: String,
+    value: String,
+}
+
+/// Returns a text that is at a place of a request.
+fn text_at(alloc: Global, request: &Value, place: &str) -> Option<String> {
+    let text = request.pointer(place)?.as_str()?;
+    String::from_str(alloc, text).ok()
+}
+
+/// Returns the transaction that a text asks for. All its keys have to be one.
+fn request_of(alloc: Global, body: &str) -> Option<Request> {
+    let request = Value::from_str(alloc, body).ok()?;
+    let key = text_at(alloc, &request, "/compare/0/key")?;
+    let put = text_at(alloc, &request, "/success/0/request_put/key")?;
+    let ranged = text_at(alloc, &request, "/failure/0/request_range/key")?;
+    let version = text_at(alloc, &request, "/compare/0/version")?;
+    if put.as_str() != key.as_str() || ranged.as_str() != key.as_str() || version.as_str() != "0" {
+        return None;
+    }
+    Some(Request {
+        key,
+        leader: text_at(alloc, &request, "/compare/1/value")?,
+        value: text_at(alloc, &request, "/success/0/request_put/value")?,
+    })
+}
+
+/// A desk's way to an etcd that others use too, with the fates of its next requests.
+#[derive(Drop)]
+pub struct Way<'a> {
+    pub etcd: &'a mut Etcd,
+    pub fates: &'a [Fate],
+}
+
+impl Way<'_> {
+    /// Returns what becomes of the next request.
+    fn next_fate(&mut self) -> Fate {
+        match self.fates {
+            [fate, rest @ ..] => {
+                self.fates = rest;
+                *fate
+            }
+            [] => Fate::Answered,
+        }
+    }
+
+    /// Carries a request out as often as its fate says, and returns what is answered.
+    fn play(&mut self, alloc: Global, request: &Request) -> Result<Option<String>, AllocError> {
+        match self.next_fate() {
+            Fate::Answered => Ok(Some(self.etcd.answer(alloc, request)?)),
+            Fate::RequestLost => Ok(None),
+            Fate::AnswerLost => {
+                let _ = self.etcd.answer(alloc, request)?;
+                Ok(None)
+            }
+            Fate::Doubled => {
+                let _ = self.etcd.answer(alloc, request)?;
+                Ok(Some(self.etcd.answer(alloc, request)?))
+            }
+            Fate::TimedOut => Ok(Some(format!(in alloc;
+                "{{\"error\":\"etcdserver: request timed out\",\"code\":14}}"
+            )?)),
+        }
+    }
+}
+
+impl Exchange for Way<'_> {
+    fn post(
+        &mut self,
+        alloc: Global,
+        endpoint: usize,
+        path: &str,
+        body: &str,
+    ) -> Result<Vec<u8>, NodeError> {
+        self.etcd.asked = self.etcd.asked.saturating_add(1);
+        if self.etcd.endpoints.push(endpoint).is_err() {
+            return Err(NodeError::Memory);
+        }
+        let Some(request) = request_of(alloc, body) else {
+            return Err(NodeError::Unanswered);
+        };
+        if path != "/v3/kv/txn" {
+            return Err(NodeError::Unanswered);
+        }
+        match self.play(alloc, &request)? {
+            Some(answer) => Ok(answer.into_bytes()),
+            None => Err(NodeError::Unanswered),
+        }
+    }
+}

@@ -1,0 +1,15 @@
+//! Tests of the journal in etcd: texts of requests, answers, leases, and days over a model of etcd.
+#![tactic(auto)]
+
+#[cfg(test)]
+mod answers;
+#[cfg(test)]
+mod appending;
+#[cfg(test)]
+mod etcd;
+#[cfg(test)]
+mod keys;
+#[cfg(test)]
+mod leases;
+#[cfg(test)]
+mod texts;
