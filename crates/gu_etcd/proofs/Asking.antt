@@ -1,6 +1,6 @@
 -- A desk asks for a batch, perhaps several times.
-use Rattle.std.proofs.Common.{◌≡◌, ℕ, ◌+◌, ◌≤◌, List, [], ◌∷◌, ◌++◌, length, inl, inr, ⊎_elim, refl, sym, ◌∙◌, subst, arith}
-use Rattle.gu_etcd.specs.Moments.{Elapses, HoldsOnly}
+use Rattle.std.proofs.Common.{◌≡◌, ℕ, ◌+◌, ◌≤◌, List, length, inl, inr, ⊎_elim, refl, ◌∙◌, subst, arith}
+use Rattle.gu_journal.specs.Crashes.{Elapses, LeavesOnly}
 use Rattle.gu_etcd.specs.declared.node.Node.{Ghosts}
 use Rattle.gu_etcd.specs.Log.{Entry, IsSettled, HasBegun}
 use Rattle.gu_etcd.specs.Node.{Follows, Puts}
@@ -12,7 +12,7 @@ module _ {N : Type 0} (g : Ghosts N) where
     pub before : g.is_honest old
     pub leader : g.leader new ≡ g.leader old
     pub begun : (log : List Entry) → g.may_hold new log → HasBegun (g.known old) (g.leader old) batch log
-    pub moments : HoldsOnly g.moment g.held_since old new (HasBegun (g.known old) (g.leader old) batch)
+    pub moments : LeavesOnly g.moment g.held_since old new (HasBegun (g.known old) (g.leader old) batch)
     pub failures_stay : g.failures old ≤ g.failures new
     pub refusals_stay : g.refusals old ≤ g.refusals new
 

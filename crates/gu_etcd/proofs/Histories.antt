@@ -4,7 +4,7 @@ use Rattle.std.proofs.lemmas.List.{length-append, length-map, map-append, take-a
 use Rattle.std.proofs.lemmas.List.Elements.{All-append, All-tail}
 use Rattle.gu_etcd.specs.declared.node.PutAnswer.{PutAnswer}
 use Rattle.gu_etcd.specs.declared.node.PutAnswer.TheVariants.{Kept, Holds, NotLeading}
-use Rattle.gu_etcd.specs.Log.{Entry, entry_of, batches_of, IsOthers, IsAt, HoldsAt, HasNoneAt, IsSettled, IsPutNext, HasBegun}
+use Rattle.gu_etcd.specs.Log.{Entry, entry_of, batches_of, IsOthers, HoldsAt, HasNoneAt, IsSettled, IsPutNext, HasBegun}
 use Rattle.gu_etcd.specs.Node.{Puts, Says, known_after, IsRefusal}
 use Rattle.gu_etcd.specs.Outcome.{IsIn, IsNotIn}
 

@@ -1,5 +1,5 @@
 -- The keys of a log in etcd: one for each batch, and one for the desk that leads.
-use Rattle.std.specs.Prelude.{ℕ, ◌+◌, ◌*◌, ◌/◌, ◌%◌, ◌==◌, ◌||◌, ◌&&◌, ◌≢◌, Bool, List, [], ◌∷◌, ◌++◌, nat_le, codes}
+use Rattle.std.specs.Prelude.{ℕ, ◌+◌, ◌/◌, ◌%◌, ◌==◌, ◌||◌, ◌&&◌, ◌≢◌, Bool, List, [], ◌∷◌, ◌++◌, nat_le, codes}
 use Rattle.std.specs.List.{AllPass}
 
 -- a letter, a digit, `-`, `_` or `.`

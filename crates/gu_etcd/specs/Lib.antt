@@ -1,4 +1,3 @@
-pub mod Moments
 pub mod Log
 pub mod Node
 pub mod Appending

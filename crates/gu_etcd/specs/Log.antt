@@ -1,5 +1,5 @@
 -- The log of a day in etcd: batches at the numbers 1, 2, 3 and so on, each put while one desk led.
-use Rattle.std.specs.Prelude.{◌≡◌, ◌≢◌, ◌⊎◌, ◌+◌, ℕ, List, [], ◌∷◌, ◌++◌, length, map, take, drop, All}
+use Rattle.std.specs.Prelude.{◌≡◌, ◌≢◌, ◌⊎◌, ◌+◌, ℕ, List, ◌∷◌, ◌++◌, length, map, take, drop, All}
 
 -- a batch, and the desk that led when it was put
 pub record Entry : Type 0 where

@@ -1,5 +1,5 @@
 -- What an answer of etcd says of a log, and how the log goes on.
-use Rattle.std.specs.Prelude.{◌≡◌, ◌⊎◌, ◌+◌, ◌<◌, ◌≤◌, ℕ, List, [], ◌∷◌, ◌++◌, length, Result, Err, IsErrOf, IfOk, ⊤}
+use Rattle.std.specs.Prelude.{◌≡◌, ◌⊎◌, ◌+◌, ◌<◌, ◌≤◌, ℕ, List, [], ◌∷◌, ◌++◌, length, Result, IsErrOf, IfOk, ⊤}
 use Rattle.gu_etcd.specs.declared.node.PutAnswer.{PutAnswer}
 use Rattle.gu_etcd.specs.declared.node.PutAnswer.TheVariants.{Kept, Holds, NotLeading}
 use Rattle.gu_etcd.specs.declared.node.NodeError.{NodeError}

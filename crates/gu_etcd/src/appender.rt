@@ -1,14 +1,15 @@
 //! Appends batches to a log, one number after the other.
 
 ghost use Rattle.std.specs.Prelude.{◌≡◌, ◌+◌, ◌≤◌, ◌<◌, ◌++◌, ◌∷◌, [], List, length, IfOk, IfErr};
-ghost use Rattle.gu_etcd.specs.Moments.{HoldsOnly};
+ghost use Rattle.gu_journal.specs.Crashes.{LeavesOnly};
 ghost use Rattle.gu_etcd.specs.declared.appender.AppendError.TheVariants.{Fenced};
 ghost use Rattle.gu_etcd.specs.declared.node.TheConstants.{LAST_NUMBER};
 ghost use Rattle.gu_etcd.specs.Log.{Entry, HasBegun, IsSettled};
 ghost use Rattle.gu_etcd.specs.Appending.{HasReason};
 
 use crate::outcome::put_until_settled;
-use crate::{LAST_NUMBER, MAX_BATCH, Node, Stopped};
+use crate::{LAST_NUMBER, MAX_BATCH, Node};
+use gu_journal::Stopped;
 use std::alloc::Global;
 use thiserror::Error;
 
@@ -62,25 +63,25 @@ impl<N: Node> Appender<N> {
 
     /// Appends a batch at the next number, and returns once it is kept. After an error nothing more can be appended, since the
     /// appender is spent.
-    pub fn append(self, alloc: Global, batch: &[u8]) -> Result<Self, Stopped<N>>
+    pub fn append(self, alloc: Global, batch: &[u8]) -> Result<Self, Stopped<N, AppendError>>
         requires { length batch.now ≤ MAX_BATCH }
         ensures before { IfOk result (λ appender. N.is_honest (node_of appender) → N.is_honest (node_of self)) }
-        ensures before_stopped { IfErr result (λ stopped. N.is_honest stopped.node → N.is_honest (node_of self)) }
+        ensures before_stopped { IfErr result (λ stopped. N.is_honest stopped.place → N.is_honest (node_of self)) }
         ensures kept { IfOk result (λ appender. N.is_honest (node_of appender) → kept_by appender ≡ kept_by self ++ batch.now ∷ []) }
         ensures leader { IfOk result (λ appender. N.is_honest (node_of appender) → leader_of appender ≡ leader_of self) }
 
         // At any moment of the call the log has what was kept, and of this desk nothing after it, or this batch next.
         ensures any_moment { IfOk result (λ appender. N.is_honest (node_of appender)
-            → HoldsOnly N.moment N.held_since (node_of self) (node_of appender) (HasBegun (kept_by self) (leader_of self) batch.now)) }
-        ensures any_moment_stopped { IfErr result (λ stopped. N.is_honest stopped.node
-            → HoldsOnly N.moment N.held_since (node_of self) stopped.node (HasBegun (kept_by self) (leader_of self) batch.now)) }
+            → LeavesOnly N.moment N.held_since (node_of self) (node_of appender) (HasBegun (kept_by self) (leader_of self) batch.now)) }
+        ensures any_moment_stopped { IfErr result (λ stopped. N.is_honest stopped.place
+            → LeavesOnly N.moment N.held_since (node_of self) stopped.place (HasBegun (kept_by self) (leader_of self) batch.now)) }
 
         // A desk that is fenced has not put the batch, and never will have.
-        ensures fenced { IfErr result (λ stopped. N.is_honest stopped.node → stopped.error ≡ Fenced
-            → (log : List Entry) → N.may_hold stopped.node log → IsSettled (kept_by self) (leader_of self) log) }
+        ensures fenced { IfErr result (λ stopped. N.is_honest stopped.place → stopped.error ≡ Fenced
+            → (log : List Entry) → N.may_hold stopped.place log → IsSettled (kept_by self) (leader_of self) log) }
 
         // It doesn't give up by itself.
-        ensures reason { IfErr result (λ stopped. N.is_honest stopped.node
+        ensures reason { IfErr result (λ stopped. N.is_honest stopped.place
             → HasReason N.failures N.refusals (kept_by self) (node_of self) stopped) }
     {
         let Appender { mut node, count } = self;

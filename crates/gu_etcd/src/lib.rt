@@ -11,7 +11,6 @@ mod lease;
 mod node;
 mod outcome;
 mod requests;
-mod stopped;
 
 pub use answers::{MAX_ANSWER, read_put};
 pub use appender::{AppendError, Appender};
@@ -26,4 +25,3 @@ pub use requests::{
     GRANT_PATH, KEEP_ALIVE_PATH, RANGE_PATH, TXN_PATH, grant_text, keep_alive_text, lead_text,
     put_text, range_text,
 };
-pub use stopped::Stopped;

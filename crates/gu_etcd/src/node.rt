@@ -1,7 +1,7 @@
 //! etcd as an appender sees it: what it answers, and what its log may have.
 
 ghost use Rattle.std.specs.Prelude.{◌≡◌, ◌+◌, ◌≤◌, ◌<◌, List, ℕ, length, IfOk, OnErr};
-ghost use Rattle.gu_etcd.specs.Moments.{Elapses};
+ghost use Rattle.gu_journal.specs.Crashes.{Elapses};
 ghost use Rattle.gu_etcd.specs.Log.{Entry};
 ghost use Rattle.gu_etcd.specs.Node.{Follows, HasCause, Puts, Says, known_after};
 

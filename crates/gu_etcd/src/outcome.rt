@@ -1,7 +1,7 @@
 //! What became of a batch.
 
 ghost use Rattle.std.specs.Prelude.{◌≡◌, ◌+◌, ◌≤◌, ◌<◌, ◌++◌, ◌∷◌, [], List, length, IfErr, IfOk, IsErrOf, OnOk};
-ghost use Rattle.gu_etcd.specs.Moments.{HoldsOnly};
+ghost use Rattle.gu_journal.specs.Crashes.{LeavesOnly};
 ghost use Rattle.gu_etcd.specs.declared.appender.AppendError.TheVariants.{Failed, Fenced, Full};
 ghost use Rattle.gu_etcd.specs.Log.{Entry, HasBegun, IsSettled};
 ghost use Rattle.gu_etcd.specs.Node.{HasCause, Says, known_after};
@@ -32,7 +32,7 @@ fn put_until_answered<N: Node>(
         → (log : List Entry) → N.may_hold node.new log → Says (N.leader node.old) number batch.now answer log) }
     ensures known { IfOk result (λ answer. N.is_honest node.new → N.known node.new ≡ known_after (N.known node.old) batch.now answer) }
     ensures any_moment { N.is_honest node.new
-        → HoldsOnly N.moment N.held_since node.old node.new (HasBegun (N.known node.old) (N.leader node.old) batch.now) }
+        → LeavesOnly N.moment N.held_since node.old node.new (HasBegun (N.known node.old) (N.leader node.old) batch.now) }
     ensures cause { N.is_honest node.new → HasCause N.failures N.refusals node.old node.new result }
 {
     for _attempt in 0..TRIES {
@@ -82,7 +82,7 @@ pub(crate) fn put_until_settled<N: Node>(
     ensures fenced { IsErrOf result Fenced → N.is_honest node.new
         → (log : List Entry) → N.may_hold node.new log → IsSettled (N.known node.old) (N.leader node.old) log }
     ensures any_moment { N.is_honest node.new
-        → HoldsOnly N.moment N.held_since node.old node.new (HasBegun (N.known node.old) (N.leader node.old) batch.now) }
+        → LeavesOnly N.moment N.held_since node.old node.new (HasBegun (N.known node.old) (N.leader node.old) batch.now) }
     ensures failed { IsErrOf result Failed → N.is_honest node.new → N.failures node.old < N.failures node.new }
     ensures refused { IsErrOf result Fenced → N.is_honest node.new → N.refusals node.old < N.refusals node.new }
     ensures not_full { ¬ IsErrOf result Full }

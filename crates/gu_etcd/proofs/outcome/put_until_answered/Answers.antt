@@ -1,4 +1,4 @@
-use Rattle.std.proofs.Common.{◌≡◌, ℕ, ◌+◌, List, length, refl, sym, ◌∙◌, ap, subst, arith, rules, IsErrOf}
+use Rattle.std.proofs.Common.{ℕ, ◌+◌, List, length, refl, sym, ◌∙◌, ap, subst, arith, rules, IsErrOf}
 use Rattle.gu_etcd.specs.declared.node.NodeError.TheVariants.{Memory, Unanswered}
 use Rattle.gu_etcd.specs.declared.node.PutAnswer.{PutAnswer}
 use Rattle.gu_etcd.specs.Node.{Says, known_after}

@@ -1,7 +1,6 @@
-use Rattle.std.proofs.Common.{◌≡◌, ◌++◌, ◌∷◌, [], ℕ, List, refl, sym, ◌∙◌, subst, arith, rules, IsErrOf}
+use Rattle.std.proofs.Common.{◌≡◌, ◌++◌, ◌∷◌, [], List, ◌∙◌, rules, IsErrOf}
 use Rattle.gu_etcd.specs.Log.{Entry, IsSettled}
 use Rattle.gu_etcd.specs.Outcome.{IsIn, IsNotIn}
-use Rattle.gu_etcd.specs.declared.appender.AppendError.{AppendError}
 use Rattle.gu_etcd.specs.declared.appender.AppendError.TheVariants.{Failed, Fenced, Full, Memory}
 use Rattle.gu_etcd.specs.declared.node.NodeError.TheVariants.{Unanswered}
 use Rattle.gu_etcd.proofs.Histories.{kept_by_answer, fenced_by_answer, known_by_answer, refused_by_answer}

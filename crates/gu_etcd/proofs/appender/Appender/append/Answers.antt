@@ -1,6 +1,6 @@
-use Rattle.std.proofs.Common.{◌≡◌, ◌++◌, ◌∷◌, [], ℕ, ◌+◌, List, length, sym, ◌∙◌, ap, subst, arith}
+use Rattle.std.proofs.Common.{◌∷◌, [], ℕ, List, length, sym, ap, subst, arith}
 use Rattle.std.proofs.lemmas.List.{length-append}
-use Rattle.gu_etcd.specs.Log.{Entry, IsSettled}
+use Rattle.gu_etcd.specs.Log.{IsSettled}
 use Rattle.gu_etcd.proofs.appender.Appender.append.Goals as goal
 
 pub put_until_settled-requires : goal.put_until_settled-requires
