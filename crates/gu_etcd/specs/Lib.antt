@@ -7,3 +7,4 @@ pub mod Keys
 pub mod Requests
 pub mod Lease
 pub mod Answers
+pub mod InMemory

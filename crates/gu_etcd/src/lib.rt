@@ -8,6 +8,7 @@ mod granting;
 mod keys;
 mod leading;
 mod lease;
+mod memory_node;
 mod node;
 mod outcome;
 mod requests;
@@ -19,6 +20,7 @@ pub use granting::{Granted, read_alive, read_granted};
 pub use keys::{batch_key, end_key, is_log_name, leader_key};
 pub use leading::{LeadAnswer, read_lead};
 pub use lease::{Lease, Moment};
+pub use memory_node::{LogEntry, MemoryNode};
 pub use node::{LAST_NUMBER, MAX_BATCH, Node, NodeError, PutAnswer};
 pub use outcome::TRIES;
 pub use requests::{

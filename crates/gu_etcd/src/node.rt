@@ -5,7 +5,7 @@ ghost use Rattle.gu_journal.specs.Crashes.{Elapses};
 ghost use Rattle.gu_etcd.specs.Log.{Entry};
 ghost use Rattle.gu_etcd.specs.Node.{Follows, HasCause, Puts, Says, known_after};
 
-use std::alloc::{AllocError, Global};
+use std::alloc::{AllocError, AllocFailed, Global};
 use thiserror::Error;
 
 /// The most bytes that a batch may have.
@@ -46,6 +46,16 @@ impl From<AllocError> for NodeError {
     }
 }
 
+impl<T: Drop> From<AllocFailed<T>> for NodeError {
+    ghost use Rattle.gu_etcd.specs.declared.node.NodeError.TheVariants.{Memory};
+
+    ghost from_gives = { λ _ error. error ≡ Memory };
+
+    fn from(_: AllocFailed<T>) -> Self {
+        NodeError::Memory
+    }
+}
+
 /// An etcd with the log of a day, to which one desk appends. The clauses hold if etcd is honest, as four premises say: batches are
 /// put at the end of the log alone (`order`); one batch wins a number for good, and what was acknowledged is kept (`answer`); and a
 /// desk that has lost the leadership never leads again under the same name (`answer` at `NotLeading`). No contract can say that an
@@ -66,7 +76,8 @@ pub trait Node: Drop {
     /// The moment, as a number that never falls.
     ghost moment: { Self → ℕ };
 
-    /// What the log might have had at some moment from that one on, during a call or between two.
+    /// What the log might have had at some moment from that one on, during a call or between two. Of this `Elapses` and `LeavesOnly`
+    /// speak, as in gu_journal of what a crash might have left.
     ghost held_since: { Self → ℕ → List Entry → Type 0 };
 
     /// How many calls got no answer.
