@@ -185,8 +185,11 @@ impl<B> Posts<B> {
     /// Raises the numbers of these places, and returns the workers that have a connection of a firm at one of them.
     fn raise(&self, number: u64, firms: u64) -> u64 {
         let mut workers = 0;
-        for (place, row) in self.firms.iter().enumerate() {
-            if firms & bit_of(place) != 0 {
+        let mut left = firms;
+        for _firm in 0..firms.count_ones() {
+            let place = left.trailing_zeros() as usize;
+            left &= left.wrapping_sub(1);
+            if let Some(row) = self.firms.get(place) {
                 let _ = row.number.fetch_max(number, Ordering::SeqCst);
                 workers |= row.workers.load(Ordering::SeqCst);
             }
