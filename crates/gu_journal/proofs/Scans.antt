@@ -76,19 +76,19 @@ line_ended xs end i lt is end_is =
     let more : take (i + 1) xs ≡ take i xs ++ 10 ∷ [] = take_more xs i 0 lt ∙ ap (λ (b : ℕ). take i xs ++ b ∷ []) is in
     ap (λ (n : ℕ). take n xs) end_is ∙ more ∙ sym (ended (take i xs)) ∙ ap whole_lines (sym more)
 
-pub line_goes_on : (xs : List ℕ) (end i : ℕ) → i < length xs → get_or xs i 0 ≢ 10 → take end xs ≡ whole_lines (take i xs) → take end xs ≡ whole_lines (take (i + 1) xs)
-line_goes_on xs end i lt isnt so_far =
+pub no_line_here : (xs : List ℕ) (i : ℕ) → i < length xs → get_or xs i 0 ≢ 10 → whole_lines (take (i + 1) xs) ≡ whole_lines (take i xs)
+no_line_here xs i lt isnt =
     let not_ten : (get_or xs i 0 == 10) ≡ false = grind (arith, nat_tests) in
-    so_far ∙ sym (not_ended (take i xs) (get_or xs i 0) not_ten) ∙ ap whole_lines (sym (take_more xs i 0 lt))
+    ap whole_lines (take_more xs i 0 lt) ∙ not_ended (take i xs) (get_or xs i 0) not_ten
 
 pub used_here : (xs : List ℕ) (i : ℕ) → i < length xs → get_or xs i 0 ≢ 0 → i + 1 ≡ used_length (take (i + 1) xs)
 used_here xs i lt isnt =
     let is : used_length (take (i + 1) xs) ≡ length (take i xs) + 1 = ap used_length (take_more xs i 0 lt) ∙ used-push (take i xs) (get_or xs i 0) isnt in
     omega (arith, is, length-take i xs)
 
-pub used_not_here : (xs : List ℕ) (used i : ℕ) → i < length xs → get_or xs i 0 ≡ 0 → used ≡ used_length (take i xs) → used ≡ used_length (take (i + 1) xs)
-used_not_here xs used i lt is so_far =
-    so_far ∙ sym (used-push_zero (take i xs)) ∙ ap used_length (ap (λ (b : ℕ). take i xs ++ b ∷ []) (sym is)) ∙ ap used_length (sym (take_more xs i 0 lt))
+pub used_not_here : (xs : List ℕ) (i : ℕ) → i < length xs → get_or xs i 0 ≡ 0 → used_length (take (i + 1) xs) ≡ used_length (take i xs)
+used_not_here xs i lt is =
+    ap used_length (take_more xs i 0 lt) ∙ ap used_length (ap (λ (b : ℕ). take i xs ++ b ∷ []) is) ∙ used-push_zero (take i xs)
 
 -- what the ends of the walks tell
 

@@ -21,13 +21,14 @@ fn lines_end(text: &[u8]) -> usize
     ensures within { result ≤ length text.now }
     ensures lines { take result text.now ≡ whole_lines text.now }
 {
-    let mut end = 0;
-    for (place, byte) in text.iter().enumerate() {
-        if *byte == b'\n' {
-            end = place + 1;
+    let mut end = text.len();
+    'bytes: while end > 0 {
+        if text[end - 1] == b'\n' {
+            return end;
         }
+        end -= 1;
     }
-    end
+    0
 }
 
 /// Returns where the text of a file ends.
@@ -42,13 +43,14 @@ pub fn text_end(bytes: &[u8]) -> usize
 pub fn used_len(bytes: &[u8]) -> usize
     ensures { result ≡ used_length bytes.now }
 {
-    let mut used = 0;
-    for (place, byte) in bytes.iter().enumerate() {
-        if *byte != 0 {
-            used = place + 1;
+    let mut used = bytes.len();
+    'bytes: while used > 0 {
+        if bytes[used - 1] != 0 {
+            return used;
         }
+        used -= 1;
     }
-    used
+    0
 }
 
 /// Returns whether no byte is 0.

@@ -1,13 +1,28 @@
-use Rattle.std.proofs.Common.{ℕ, ◌∙◌, ap, take, arith}
-use Rattle.gu_journal.proofs.Scans.{line_ended, line_goes_on}
+use Rattle.std.proofs.Common.{◌≡◌, ◌<◌, ◌+◌, ◌-◌, ◌∙◌, ℕ, length, take, sym, ap, arith}
+use Rattle.gu_journal.specs.Text.{whole_lines}
+use Rattle.gu_journal.proofs.Scans.{line_ended, no_line_here}
 use Rattle.gu_journal.proofs.scanning.lines_end.Goals as goal
-use Rattle.gu_journal.proofs.scanning.lines_end.Goals.{then-byte-eq10, else-byte-eq10}
 
-pub loop-place-preserved : goal.loop-place-preserved
-loop-place-preserved c = elim c.if-byte-eq10.branch [
-  | then-byte-eq10 w ↦ record { within = omega arith; lines = line_ended c.args.text.now _ c.loop-place.place (omega arith) w.if-byte-eq10.true w.end-is }
-  | else-byte-eq10 w ↦ record {
-    within = omega arith;
-    lines = ap (λ (n : ℕ). take n c.args.text.now) w.end-is ∙ line_goes_on c.args.text.now c.loop-place.end c.loop-place.place (omega arith) w.if-byte-eq10.false c.loop-place.invariant.lines;
-  }
-]
+pub returns-then-text-end-eq10-clause-lines : goal.returns-then-text-end-eq10-clause-lines
+returns-then-text-end-eq10-clause-lines c =
+    let text = c.args.text.now in
+    let end = c.bytes.end in
+    let here : end - 1 < length text = omega (arith, c.bytes-test.true, c.bytes.invariant.within) in
+    let again : end - 1 + 1 ≡ end = omega (arith, c.bytes-test.true) in
+    line_ended text end (end - 1) here c.if-text-end-eq10.true (sym again)
+    ∙ ap (λ (n : ℕ). whole_lines (take n text)) again
+    ∙ sym c.bytes.invariant.lines
+
+pub bytes-preserved : goal.bytes-preserved
+bytes-preserved c =
+    let text = c.args.text.now in
+    let end = c.bytes.end in
+    let here : end - 1 < length text = omega (arith, c.bytes-test.true, c.bytes.invariant.within) in
+    let again : end - 1 + 1 ≡ end = omega (arith, c.bytes-test.true) in
+    record {
+      within = omega (arith, c.bytes.invariant.within);
+      lines =
+          c.bytes.invariant.lines
+          ∙ ap (λ (n : ℕ). whole_lines (take n text)) (sym again)
+          ∙ no_line_here text (end - 1) here c.if-text-end-eq10.false;
+    }
