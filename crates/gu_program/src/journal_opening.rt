@@ -9,14 +9,15 @@ use crate::heading::Heading;
 use crate::journal_file::{FileLog, FoundFile, fault_at, opened_at, refused};
 use crate::journal_name::{JournalName, NewFile};
 use crate::locking::Locks;
+use gu_days::play_day;
 use gu_journal::{
     DeviceError, FileDevice, Log, OpenError, Opened, STEP, Sink, SinkError, Stopped, is_batch,
 };
 use gu_keeping::{Chain, DigestFault, Unkept, check_digests, keep_opening, resume_text};
 use gu_ref::Reference;
-use gu_script::{ScriptError, play_opening};
+use gu_script::ScriptError;
 use gu_server::DayJournal;
-use gu_streams::{CountedReads, StreamError};
+use gu_streams::StreamError;
 use gu_terms::{History, Seed};
 use gu_world::World;
 use std::alloc::Global;
@@ -146,11 +147,8 @@ fn world_of_text<'a>(
     seed: Seed,
     text: &[u8],
 ) -> Result<World, Fault<'a>> {
-    match play_opening(alloc, reference, seed, &mut CountedReads::new(text)) {
-        Ok((world, refused)) => {
-            drop(refused);
-            Ok(world)
-        }
+    match play_day(alloc, reference, seed, text) {
+        Ok(world) => Ok(world),
         Err(ScriptError::BadLine(line)) => Err(fault_at(path, JournalFault::BadLine(line))),
         Err(error) => Err(Fault::at(Place::File(path), RunError::from(error))),
     }

@@ -1,0 +1,6 @@
+pub mod Again
+pub mod Alike
+pub mod OneChoice
+pub mod Played
+pub mod Plays
+pub mod Whole

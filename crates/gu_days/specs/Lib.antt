@@ -1,0 +1,3 @@
+pub mod PlayedBack
+pub mod Resumed
+pub mod SameBooks

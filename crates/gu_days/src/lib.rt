@@ -1,0 +1,11 @@
+//! A day and its journal: what the lines of a day's text play to.
+#![tactic(auto)]
+
+mod laws;
+mod playing;
+
+pub use laws::{
+    a_journal_is_its_day, what_a_crash_leaves_plays_to_what_was_kept,
+    what_is_played_back_says_the_same, what_says_a_day_plays_to_it,
+};
+pub use playing::play_day;
