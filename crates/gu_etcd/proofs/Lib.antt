@@ -1,4 +1,4 @@
 mod Histories
 mod Results
 mod Asking
-mod Entries
+mod Recalling

@@ -1,7 +1,6 @@
 //! An etcd behind its JSON gateway.
 
 ghost use Rattle.std.specs.Prelude.{◌≡◌, ◌<◌, ℕ, List, []};
-ghost use Rattle.gu_etcd.specs.Log.{Entry};
 
 use crate::requests::{TXN_PATH, put_text};
 use crate::{Node, NodeError, PutAnswer, read_put};
@@ -70,9 +69,9 @@ impl<X: Exchange> Gateway<X> {
         };
     }
 
-    /// Sends the transaction that puts a batch, once.
-    fn ask(&mut self, alloc: Global, number: u64, batch: &[u8]) -> Result<PutAnswer, NodeError> {
-        let body = put_text(alloc, &self.name, &self.leader, number, batch)?;
+    /// Sends the transaction that puts an entry, once.
+    fn ask(&mut self, alloc: Global, number: u64, entry: &[u8]) -> Result<PutAnswer, NodeError> {
+        let body = put_text(alloc, &self.name, &self.leader, number, entry)?;
         let answer = self.exchange.post(alloc, self.endpoint, TXN_PATH, &body)?;
         read_put(alloc, &answer)
     }
@@ -92,14 +91,12 @@ impl<X: Exchange> Node for Gateway<X> {
 
     ghost held_since = { λ _ _ _. ⊥ };
 
-    ghost failures = { λ _. 0 };
-
-    ghost refusals = { λ _. 0 };
+    ghost counts = { record { failures = λ _. 0; refusals = λ _. 0; shortages = λ _. 0 } };
 
     ghost only_now = { λ _ _ held. held };
 
-    fn put(&mut self, alloc: Global, number: u64, batch: &[u8]) -> Result<PutAnswer, NodeError> {
-        match self.ask(alloc, number, batch) {
+    fn put(&mut self, alloc: Global, number: u64, entry: &[u8]) -> Result<PutAnswer, NodeError> {
+        match self.ask(alloc, number, entry) {
             Err(NodeError::Unanswered) => {
                 self.turn_on();
                 Err(NodeError::Unanswered)
