@@ -2,3 +2,5 @@ mod Histories
 mod Results
 mod Asking
 mod Recalling
+mod Splits
+mod Entries

@@ -1,5 +1,5 @@
 -- From one fact of a result to another.
-use Rattle.std.proofs.Common.{◌≡◌, Result, Ok, Err, IfErr, IfOk, OnOk, IsErrOf, sym, ◌∙◌}
+use Rattle.std.proofs.Common.{◌≡◌, Result, Ok, Err, IfErr, IfOk, OnOk, Option, None, Some, IfNone, IsErrOf, sym, ◌∙◌}
 
 pub on_ok_implies : {T E : Type 0} (P Q : Type 0) (result : Result T E) → OnOk result P → (P → Q) → OnOk result Q
 on_ok_implies P Q (Ok x) is implies = implies is
@@ -22,3 +22,7 @@ no_err one other differs of = differs (cc)
 pub if_ok_implies : {T E : Type 0} {P Q : T → Type 0} (result : Result T E) → IfOk result P → ((x : T) → P x → Q x) → IfOk result Q
 if_ok_implies (Ok x) is implies = implies x is
 if_ok_implies (Err e) is implies = is
+
+pub if_none : {T : Type 0} {P : Type 0} (option : Option T) → P → IfNone option P
+if_none None is = is
+if_none (Some x) is = tt

@@ -11,3 +11,4 @@ pub mod Answers
 pub mod InMemory
 pub mod Steps
 pub mod Splitting
+pub mod Pages

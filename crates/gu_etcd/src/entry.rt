@@ -4,7 +4,7 @@ ghost use Rattle.std.specs.Prelude.{◌≡◌, ◌≢◌, ℕ, List, IfNone, IfO
 ghost use Rattle.gu_etcd.specs.Keys.{IsName};
 ghost use Rattle.gu_etcd.specs.Log.{entry_of};
 
-use crate::{is_name, split_at_byte};
+use crate::{after_prefix, is_name, split_at_byte};
 use std::alloc::{AllocError, Global};
 
 /// What each entry begins with.
@@ -27,7 +27,7 @@ pub fn parts_of(entry: &[u8]) -> Option<(&[u8], &[u8])>
     ensures named { IfSome result (λ parts. IsName parts.0.now) }
     ensures none { IfNone result ((desk batch : List ℕ) → IsName desk → entry.now ≢ entry_of desk batch) }
 {
-    let rest = entry.strip_prefix(HEAD)?;
+    let rest = after_prefix(entry, HEAD)?;
     let (desk, batch) = split_at_byte(rest, b'\n')?;
     if is_name(desk) {
         Some((desk, batch))
@@ -39,5 +39,4 @@ pub fn parts_of(entry: &[u8]) -> Option<(&[u8], &[u8])>
 /// An entry is that of one desk, and has one batch: desks with other names don't put it.
 pub fn an_entry_is_of_one_desk()
     ensures { (a b x y : List ℕ) → IsName a → IsName b → entry_of a x ≡ entry_of b y → (a ≡ b) × (x ≡ y) }
-{
-}
+{}

@@ -13,6 +13,7 @@ mod memory_node;
 mod name;
 mod node;
 mod outcome;
+mod page;
 mod requests;
 mod splitting;
 
@@ -28,8 +29,9 @@ pub use memory_node::{Fate, MemoryNode};
 pub use name::{MAX_NAME, Name, is_name};
 pub use node::{LAST_NUMBER, MAX_BATCH, MAX_ENTRY, Node, NodeError, PutAnswer};
 pub use outcome::TRIES;
+pub use page::{PAGE, Page, read_page};
 pub use requests::{
     GRANT_PATH, KEEP_ALIVE_PATH, RANGE_PATH, TXN_PATH, grant_text, keep_alive_text, lead_text,
     put_text, range_text,
 };
-pub use splitting::split_at_byte;
+pub use splitting::{after_prefix, split_at_byte};
