@@ -1,4 +1,5 @@
-use Rattle.std.proofs.Common.{List, ℕ, subst}
+use Rattle.std.proofs.Common.{◌≡◌, ◌∷◌, ◌++◌, ◌+◌, ◌-◌, List, ℕ, length, take, drop, subst, sym, ◌∙◌, arith}
+use Rattle.std.proofs.lemmas.Grind.{common_steps}
 use Rattle.std.proofs.lemmas.List.{take_all}
 use Rattle.gu_etcd.specs.Splitting.{Lacks}
 use Rattle.gu_etcd.proofs.Splits.{has_it, lacks_front, one_split}
@@ -13,7 +14,12 @@ returns-clause-none c =
     (lacks_front c.args.byte c.args.text.now c.loop-i.i c.loop-i.invariant)
 
 pub returns-then-other-byte-clause-only : goal.returns-then-other-byte-clause-only
-returns-then-other-byte-clause-only c = λ first rest lacks is. ?
+returns-then-other-byte-clause-only c = λ first rest lacks is.
+    let text = c.args.text.now in
+    let byte = c.args.byte in
+    let i = c.loop-i.i in
+    let parts : text ≡ take i text ++ byte ∷ take (length text - (i + 1)) (drop (i + 1) text) = grind (arith, common_steps) in
+    one_split byte (take i text) first (take (length text - (i + 1)) (drop (i + 1) text)) rest (lacks_front byte text i c.loop-i.invariant) lacks (sym parts ∙ is)
 
 pub returns-clause-only : goal.returns-clause-only
 returns-clause-only c = λ first rest lacks is.
