@@ -33,10 +33,10 @@ fn end(
     world: &mut World,
     seat: Seat,
     entry: Vec<u8>,
-    result: Result<u64, AppendError>,
+    outcome: Result<u64, AppendError>,
 ) -> Result<(), AllocError> {
     let mut desk = world.desk(seat);
-    match result {
+    match outcome {
         Ok(count) => {
             desk.count = count;
             world.acknowledge(count, entry)?;
@@ -58,11 +58,11 @@ fn append(world: &mut World, seat: Seat) -> Result<(), AllocError> {
         return Ok(());
     };
     let (alloc, count) = (world.alloc, world.desk(seat).count.min(LAST_NUMBER));
-    let result = match Appender::new(Way { world, seat }, count).append(alloc, &entry) {
+    let outcome = match Appender::new(Way { world, seat }, count).append(alloc, &entry) {
         Ok(appender) => Ok(appender.count()),
         Err(stopped) => Err(stopped.error()),
     };
-    end(world, seat, entry, result)
+    end(world, seat, entry, outcome)
 }
 
 /// Has a desk append a batch, while the other one goes on.
@@ -71,11 +71,11 @@ fn append_amid(world: &mut World, seat: Seat) -> Result<(), AllocError> {
         return Ok(());
     };
     let (alloc, count) = (world.alloc, world.desk(seat).count.min(LAST_NUMBER));
-    let result = match Appender::new(BusyWay { world, seat }, count).append(alloc, &entry) {
+    let outcome = match Appender::new(BusyWay { world, seat }, count).append(alloc, &entry) {
         Ok(appender) => Ok(appender.count()),
         Err(stopped) => Err(stopped.error()),
     };
-    end(world, seat, entry, result)
+    end(world, seat, entry, outcome)
 }
 
 /// Returns whether a machine does anything now. One that sleeps may wake up.
@@ -97,7 +97,9 @@ fn act(world: &mut World, seat: Seat) -> Result<bool, AllocError> {
             let ms = world.draw(4_000);
             world.pass(ms)?;
         }
-        2 | 3 if world.desk(seat).is_stopped || world.desk(seat).lease.is_none() => world.lead(seat)?,
+        2 | 3 if world.desk(seat).is_stopped || world.desk(seat).lease.is_none() => world.lead(
+            seat,
+        )?,
         4 => world.renew(seat)?,
         5 | 6 => world.ask(seat),
         _ => return Ok(false),

@@ -7,8 +7,8 @@ use Rattle.gu_etcd.specs.Splitting.{Lacks}
 use Rattle.gu_exchange.specs.Addresses.{between_commas, onto_first}
 
 chosen : (A : Type 0) (x y : A) (b : Bool) (P : Type 0) → Decides b P → ¬ P → (if b then x else y) ≡ y
-chosen A x y true P decides not = absurd (not decides)
-chosen A x y false P decides not = refl
+chosen A x y true P decides no = absurd (no (decides.0 refl))
+chosen A x y false P decides no = refl
 
 -- a byte that is no comma goes onto the first text
 goes_onto : (byte : ℕ) (text : List ℕ) → byte ≢ 44 → between_commas (byte ∷ text) ≡ onto_first byte (between_commas text)

@@ -79,6 +79,13 @@ impl<S: Read + Write + Drop> Connection<S> {
         self.endpoint
     }
 
+    /// Returns the stream, to look at.
+    pub fn stream(&self) -> &S
+        ensures { result.now ≡ self.now.stream }
+    {
+        &self.stream
+    }
+
     /// Returns whether another request may be asked: the last answer is whole, and nothing came that wasn't asked for.
     pub fn is_idle(&self) -> bool {
         self.client.is_idle() && self.unread.is_empty()

@@ -17,7 +17,7 @@ fn is_ipv4_loopback(text: &[u8]) -> bool
 fn is_host(text: &[u8]) -> bool
     ensures { IsTrue result ↔ ((text.now ≡ codes "localhost") ⊎ IsIpv4Loopback text.now) }
 {
-    text == b"localhost" || is_ipv4_loopback(text)
+    text == b"localhost".as_slice() || is_ipv4_loopback(text)
 }
 
 /// Returns whether a text that has no plus is a number below 65536, in digits.
