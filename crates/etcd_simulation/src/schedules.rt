@@ -21,11 +21,7 @@ fn begin(world: &mut World, seat: Seat) -> Result<Option<Vec<u8>>, AllocError> {
     }
     desk.batches = desk.batches.saturating_add(1);
     world.set_desk(desk);
-    let entry = next_entry(world.alloc, desk.id, desk.batches)?;
-    if entry.len() > MAX_ENTRY {
-        return Ok(None);
-    }
-    Ok(Some(entry))
+    Ok(Some(next_entry(world.alloc, desk.id, desk.batches)?))
 }
 
 /// Ends an entry of a desk: it is kept, or the desk stops.
@@ -57,6 +53,9 @@ fn append(world: &mut World, seat: Seat) -> Result<(), AllocError> {
     let Some(entry) = begin(world, seat)? else {
         return Ok(());
     };
+    if entry.len() > MAX_ENTRY {
+        return Ok(());
+    }
     let (alloc, count) = (world.alloc, world.desk(seat).count.min(LAST_NUMBER));
     let outcome = match Appender::new(Way { world, seat }, count).append(alloc, &entry) {
         Ok(appender) => Ok(appender.count()),
@@ -70,6 +69,9 @@ fn append_amid(world: &mut World, seat: Seat) -> Result<(), AllocError> {
     let Some(entry) = begin(world, seat)? else {
         return Ok(());
     };
+    if entry.len() > MAX_ENTRY {
+        return Ok(());
+    }
     let (alloc, count) = (world.alloc, world.desk(seat).count.min(LAST_NUMBER));
     let outcome = match Appender::new(BusyWay { world, seat }, count).append(alloc, &entry) {
         Ok(appender) => Ok(appender.count()),

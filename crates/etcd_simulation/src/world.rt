@@ -1,5 +1,5 @@
 //! Two desks, an etcd, and what comes between them.
-use crate::cluster::{Cluster, DeskId, Question, Seat};
+use crate::cluster::{Cluster, DeskId, LEASE_MS, Question, Seat};
 use crate::desk::{Desk, MARGIN_MS, Trouble};
 use gu_etcd::{Lease, NodeError, PutAnswer};
 use rand_core::utils::NextWord;
@@ -175,7 +175,7 @@ impl World {
         desk.lease = None;
         if leads {
             self.coverage.takeovers = self.coverage.takeovers.saturating_add(1);
-            desk.lease = Some(Lease::new(asked, crate::cluster::LEASE_MS, MARGIN_MS));
+            desk.lease = Some(Lease::new(asked, LEASE_MS, MARGIN_MS));
             desk.count = self.cluster.count();
         }
         self.set_desk(desk);
@@ -187,14 +187,15 @@ impl World {
         let asked = self.desk(seat).clocks.moment();
         let there = self.draw(300);
         self.pass(there)?;
-        let goes_on = self.cluster.keep_alive(self.desk(seat).id);
+        let id = self.desk(seat).id;
+        let goes_on = self.cluster.keep_alive(id);
         let is_lost = self.draw(4) == 0;
         let back = self.draw(300);
         self.pass(back)?;
         if !is_lost {
             let mut desk = self.desk(seat);
             desk.lease = if goes_on {
-                Some(Lease::new(asked, crate::cluster::LEASE_MS, MARGIN_MS))
+                Some(Lease::new(asked, LEASE_MS, MARGIN_MS))
             } else {
                 None
             };

@@ -145,7 +145,11 @@ fn a_number_that_another_desk_took_fences(rt: HostRuntime) -> Result<(), Fail> {
     let second = append(rt.alloc(), &mut etcd, DESK_A, &[Fate::AnswerLost], b"\n");
     assert_eq!(rt; second, Err(AppendError::Fenced));
     let same = append(rt.alloc(), &mut etcd, DESK_A, &[], b"DAY 20260105\n");
-    assert_eq!(rt; same, Err(AppendError::Fenced), "the same batch of another desk");
+    assert_eq!(rt;
+        same,
+        Err(AppendError::Fenced),
+        "the same batch of another desk"
+    );
     assert_eq!(rt; etcd.pairs.len(), 1);
     assert_eq!(rt;
         etcd.pairs[0].value.as_str(),

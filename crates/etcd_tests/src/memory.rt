@@ -38,7 +38,12 @@ const ROWS: &[Row] = &[
     },
     Row {
         what: "several of both",
-        fates: &[Fate::RequestLost, Fate::AnswerLost, Fate::AnswerLost, Fate::RequestLost],
+        fates: &[
+            Fate::RequestLost,
+            Fate::AnswerLost,
+            Fate::AnswerLost,
+            Fate::RequestLost,
+        ],
         ..FREE
     },
     Row {
@@ -102,10 +107,12 @@ fn append(alloc: Global, row: &Row) -> Result<Result<u64, AppendError>, AllocErr
     }
     node.set_fates(Vec::from_slice(alloc, row.fates)?);
     let entry = entry_of(alloc, b"A-2", b"DAY 20260105\n")?;
-    Ok(match Appender::new(node, known as u64).append(alloc, &entry) {
-        Ok(appender) => Ok(appender.count()),
-        Err(stopped) => Err(stopped.error()),
-    })
+    Ok(
+        match Appender::new(node, known as u64).append(alloc, &entry) {
+            Ok(appender) => Ok(appender.count()),
+            Err(stopped) => Err(stopped.error()),
+        },
+    )
 }
 
 #[test]

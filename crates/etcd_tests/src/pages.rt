@@ -4,7 +4,8 @@ use std::alloc::Global;
 use std::test::Fail;
 
 /// The page of two entries at the numbers 1 and 2 of DAY, the second one empty.
-const TWO: &str = "{\"header\":{\"cluster_id\":\"17086039349274994302\",\"revision\":\"4\"},\"kvs\":[\
+const TWO: &str =
+    "{\"header\":{\"cluster_id\":\"17086039349274994302\",\"revision\":\"4\"},\"kvs\":[\
     {\"key\":\"REFZLzAwMDAwMDAwMDE=\",\"create_revision\":\"3\",\"mod_revision\":\"3\",\"version\":\"1\",\"value\":\"aGVsbG8K\"},\
     {\"key\":\"REFZLzAwMDAwMDAwMDI=\",\"create_revision\":\"4\",\"mod_revision\":\"4\",\"version\":\"1\"}],\"count\":\"2\"}";
 
