@@ -120,10 +120,13 @@ pub fn go_on(world: &mut World, seat: Seat) -> Result<(), AllocError> {
     Ok(())
 }
 
+/// How many steps a schedule has.
+const STEPS: u32 = 48;
+
 /// Plays the schedule of a seed.
 fn play(alloc: Global, seed: u64) -> Result<World, AllocError> {
     let mut world = World::new(alloc, seed);
-    for _ in 0..16 {
+    for _ in 0..STEPS {
         let seat = if world.draw(2) == 0 { Seat::A } else { Seat::B };
         if is_awake(&mut world, seat) && !act(&mut world, seat)? {
             append_amid(&mut world, seat)?;
