@@ -1,7 +1,8 @@
 //! Days over a model of etcd: the product's own appender, with lost requests and answers, doubled requests, and two desks.
 use crate::etcd::{Etcd, Fate, Way};
 use gu_etcd::{
-    AppendError, Appender, Gateway, LAST_NUMBER, MAX_BATCH, MAX_ENTRY, Name, TRIES, entry_of,
+    AppendError, Appender, Gateway, LAST_NUMBER, MAX_BATCH, MAX_ENTRY, Name, NodeError, TRIES,
+    entry_of,
 };
 use std::alloc::{AllocError, Global};
 use std::test::Fail;
@@ -185,6 +186,40 @@ fn a_batch_of_512_kib_is_appended(rt: HostRuntime) -> Result<(), Fail> {
     let result = append(rt.alloc(), &mut etcd, DESK_A, &[Fate::AnswerLost], &batch);
     assert_eq!(rt; result, Ok(1));
     assert_eq!(rt; etcd.pairs.len(), 1);
+    Ok(())
+}
+
+#[test]
+fn a_log_is_read_page_by_page(rt: HostRuntime) -> Result<(), Fail> {
+    let mut etcd = Etcd::new(rt.alloc(), b"desk-A")?;
+    for count in 0..18 {
+        let desk = Desk {
+            leader: "desk-A",
+            count,
+        };
+        let _ = append(rt.alloc(), &mut etcd, desk, &[], b"DAY 20260105\n")?;
+    }
+    let name = name_of(rt.alloc(), "DAY")?.ok_or("a name")?;
+    let leader = name_of(rt.alloc(), "desk-B")?.ok_or("a name")?;
+    let way = Way {
+        etcd: &mut etcd,
+        fates: &[Fate::RequestLost],
+    };
+    let mut gateway = Gateway::new(way, 3, name, leader);
+    assert!(rt; matches!(gateway.page(rt.alloc(), 1), Err(NodeError::Unanswered)));
+    let first = gateway.page(rt.alloc(), 1)?;
+    assert_eq!(rt; first.entries.len(), 16);
+    assert_eq!(rt;
+        first.entries[0].as_slice(),
+        b"# desk desk-A\nDAY 20260105\n".as_slice()
+    );
+    assert!(rt; first.has_more);
+    let second = gateway.page(rt.alloc(), 17)?;
+    assert_eq!(rt; second.entries.len(), 2);
+    assert!(rt; !second.has_more);
+    assert!(rt; gateway.page(rt.alloc(), 19)?.entries.is_empty());
+    let endpoints = gateway.exchange().etcd.endpoints.as_slice();
+    assert!(rt; endpoints.ends_with([0, 1, 1, 1].as_slice()));
     Ok(())
 }
 
