@@ -5,10 +5,16 @@ use std::test::Fail;
 /// Texts, and whether each is an address.
 const ADDRESSES: &[(&str, bool)] = &[
     ("etcd://127.0.0.1:2379/DAY", true),
-    ("etcd://127.0.0.1:2379,127.0.0.2:2379,127.255.255.255:1/DAY-1", true),
+    (
+        "etcd://127.0.0.1:2379,127.0.0.2:2379,127.255.255.255:1/DAY-1",
+        true,
+    ),
     ("etcd://localhost:2379/DAY", true),
     ("etcd://[::1]:65535/DAY", true),
-    ("etcd://localhost:2379,[::1]:2379,127.0.0.1:2379/a.b_c", true),
+    (
+        "etcd://localhost:2379,[::1]:2379,127.0.0.1:2379/a.b_c",
+        true,
+    ),
     ("", false),
     ("etcd://", false),
     ("etcd:///DAY", false),
@@ -65,10 +71,16 @@ fn an_address_names_hosts_of_this_machine(rt: HostRuntime) {
 
 #[test]
 fn its_endpoints_and_its_name_are_read(rt: HostRuntime) -> Result<(), Fail> {
-    let address = Address::parse(rt.alloc(), b"etcd://localhost:2379,[::1]:80,127.0.0.3:9/DAY-7")?;
+    let address = Address::parse(
+        rt.alloc(),
+        b"etcd://localhost:2379,[::1]:80,127.0.0.3:9/DAY-7",
+    )?;
     assert_eq!(rt; address.name.as_bytes(), b"DAY-7".as_slice());
     assert_eq!(rt; address.endpoints.len(), 3);
-    assert_eq!(rt; address.endpoints[0].as_slice(), b"localhost:2379".as_slice());
+    assert_eq!(rt;
+        address.endpoints[0].as_slice(),
+        b"localhost:2379".as_slice()
+    );
     assert_eq!(rt; address.endpoints[1].as_slice(), b"[::1]:80".as_slice());
     assert_eq!(rt; address.endpoints[2].as_slice(), b"127.0.0.3:9".as_slice());
     Ok(())

@@ -23,7 +23,9 @@ const ROWS: &[Row] = &[
     },
     Row {
         what: "byte by byte",
-        pieces: &[Piece::Bytes("HTTP/1.1 200 OK\r\nContent-Type: application/json\r\nContent-Length: 4\r\n\r\n[1] ")],
+        pieces: &[Piece::Bytes(
+            "HTTP/1.1 200 OK\r\nContent-Type: application/json\r\nContent-Length: 4\r\n\r\n[1] ",
+        )],
         body: Some("[1] "),
         is_idle: true,
     },
@@ -63,7 +65,9 @@ const ROWS: &[Row] = &[
     },
     Row {
         what: "the last one",
-        pieces: &[Piece::Text("HTTP/1.1 200 OK\r\nConnection: close\r\nContent-Length: 2\r\n\r\n{}")],
+        pieces: &[Piece::Text(
+            "HTTP/1.1 200 OK\r\nConnection: close\r\nContent-Length: 2\r\n\r\n{}",
+        )],
         body: Some("{}"),
         is_idle: false,
     },
@@ -107,7 +111,10 @@ const ROWS: &[Row] = &[
     },
     Row {
         what: "no answer in time",
-        pieces: &[Piece::Fault, Piece::Text("HTTP/1.1 200 OK\r\nContent-Length: 2\r\n\r\n{}")],
+        pieces: &[
+            Piece::Fault,
+            Piece::Text("HTTP/1.1 200 OK\r\nContent-Length: 2\r\n\r\n{}"),
+        ],
         body: None,
         is_idle: false,
     },
@@ -123,7 +130,9 @@ const ROWS: &[Row] = &[
     },
     Row {
         what: "two lengths",
-        pieces: &[Piece::Text("HTTP/1.1 200 OK\r\nContent-Length: 2\r\nContent-Length: 3\r\n\r\n{} ")],
+        pieces: &[Piece::Text(
+            "HTTP/1.1 200 OK\r\nContent-Length: 2\r\nContent-Length: 3\r\n\r\n{} ",
+        )],
         body: None,
         is_idle: false,
     },
@@ -181,9 +190,15 @@ fn a_request_has_its_length_and_one_host(rt: HostRuntime) -> Result<(), Fail> {
     let mut connection = Connection::new(rt.alloc(), 0, line(rt.alloc(), pieces));
     let _ = connection.ask(rt.alloc(), "/v3/kv/range", "{\"key\":\"\"}")?;
     let sent = std::str::from_utf8(&connection.stream().sent)?;
-    assert!(rt; sent.starts_with("POST /v3/kv/range HTTP/1.1\r\n"), "{sent}");
+    assert!(rt;
+        sent.starts_with("POST /v3/kv/range HTTP/1.1\r\n"),
+        "{sent}"
+    );
     assert!(rt; sent.contains("host: localhost\r\n"), "{sent}");
-    assert!(rt; sent.contains("content-type: application/json\r\n"), "{sent}");
+    assert!(rt;
+        sent.contains("content-type: application/json\r\n"),
+        "{sent}"
+    );
     assert!(rt; sent.contains("content-length: 10\r\n"), "{sent}");
     assert!(rt; sent.ends_with("\r\n\r\n{\"key\":\"\"}"), "{sent}");
     Ok(())

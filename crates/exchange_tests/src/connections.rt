@@ -90,6 +90,9 @@ fn a_peer_that_cannot_be_reached_gives_no_answer(rt: HostRuntime) -> Result<(), 
     assert_eq!(rt; said(&mut exchange, rt.alloc(), 0).as_str(), "");
     assert_eq!(rt; said(&mut exchange, rt.alloc(), 1).as_str(), "1");
     assert_eq!(rt; said(&mut exchange, rt.alloc(), 2).as_str(), "");
-    assert_eq!(rt; exchange.connector().opened.as_slice(), [0, 1, 2].as_slice());
+    assert_eq!(rt;
+        exchange.connector().opened.as_slice(),
+        [0, 1, 2].as_slice()
+    );
     Ok(())
 }

@@ -64,21 +64,23 @@ impl Line {
 impl Read for Line {
     fn read(&mut self, buf: &mut [u8]) -> io::Result<usize> {
         let room = buf.len();
-        let count = match self.pieces {
-            [] => 0,
-            [Piece::Text(text), ..] => self.read_text(text, room, buf),
-            [Piece::Bytes(text), ..] => self.read_text(text, 1, buf),
-            [Piece::Signal, ..] => {
+        let Some(piece) = self.pieces.first().copied() else {
+            return Ok(0);
+        };
+        let count = match piece {
+            Piece::Text(text) => self.read_text(text, room, buf),
+            Piece::Bytes(text) => self.read_text(text, 1, buf),
+            Piece::Signal => {
                 self.go_on();
                 return Err(io::Error::from(ErrorKind::Interrupted));
             }
-            [Piece::Fault, ..] => {
+            Piece::Fault => {
                 self.go_on();
                 return Err(io::Error::from(ErrorKind::TimedOut));
             }
-            [Piece::Endless(times), ..] => {
+            Piece::Endless(times) => {
                 self.read = self.read.saturating_add(1);
-                if self.read >= *times as usize {
+                if self.read >= times as usize {
                     self.go_on();
                 }
                 room
