@@ -1,7 +1,10 @@
 //! Days over a model of etcd: the product's own appender, with lost requests and answers, doubled requests, and two desks.
 use crate::etcd::{Etcd, Fate, Way};
-use gu_etcd::{AppendError, Appender, Gateway, LAST_NUMBER, MAX_BATCH, TRIES};
-use std::alloc::Global;
+use gu_etcd::{
+    AppendError, Appender, Gateway, LAST_NUMBER, MAX_BATCH, MAX_ENTRY, Name, NodeError, TRIES,
+    entry_of,
+};
+use std::alloc::{AllocError, Global};
 use std::test::Fail;
 
 /// A desk: its name for the leadership, and how many batches are kept as it knows.
@@ -9,6 +12,11 @@ use std::test::Fail;
 struct Desk<'a> {
     leader: &'a str,
     count: u64,
+}
+
+/// Returns a text as a name, if it is one.
+fn name_of(alloc: Global, text: &str) -> Result<Option<Name>, AllocError> {
+    Ok(Name::new(Vec::from_slice(alloc, text.as_bytes())?))
 }
 
 /// Has a desk append a batch to the log DAY of an etcd with three endpoints, and returns how many batches it knows to be kept.
@@ -19,24 +27,31 @@ fn append(
     fates: &[Fate],
     batch: &[u8],
 ) -> Result<u64, AppendError> {
-    if batch.len() > MAX_BATCH || desk.count > LAST_NUMBER {
+    if desk.count > LAST_NUMBER {
         return Err(AppendError::Full);
     }
-    let (Ok(name), Ok(leader)) = (
-        Vec::from_slice(alloc, b"DAY"),
-        Vec::from_slice(alloc, desk.leader.as_bytes()),
+    let (Ok(name), Ok(leader), Ok(entry)) = (
+        name_of(alloc, "DAY"),
+        name_of(alloc, desk.leader),
+        entry_of(alloc, desk.leader.as_bytes(), batch),
     ) else {
         return Err(AppendError::Memory);
     };
+    let (Some(name), Some(leader)) = (name, leader) else {
+        return Err(AppendError::Fenced);
+    };
+    if entry.len() > MAX_ENTRY {
+        return Err(AppendError::Full);
+    }
     let gateway = Gateway::new(Way { etcd, fates }, 3, name, leader);
-    match Appender::new(gateway, desk.count).append(alloc, batch) {
+    match Appender::new(gateway, desk.count).append(alloc, &entry) {
         Ok(appender) => Ok(appender.count()),
         Err(stopped) => Err(stopped.error()),
     }
 }
 
 const DESK_A: Desk<'static> = Desk {
-    leader: "desk A",
+    leader: "desk-A",
     count: 0,
 };
 
@@ -64,7 +79,7 @@ const FATES: &[(&str, &[Fate], Result<u64, AppendError>, usize)] = &[
 #[test]
 fn a_batch_is_there_once_whatever_got_lost(rt: HostRuntime) -> Result<(), Fail> {
     for (what, fates, said, asked) in FATES {
-        let mut etcd = Etcd::new(rt.alloc(), b"desk A")?;
+        let mut etcd = Etcd::new(rt.alloc(), b"desk-A")?;
         let result = append(rt.alloc(), &mut etcd, DESK_A, fates, b"DAY 20260105\n");
         assert_eq!(rt; result, *said, "{what}");
         assert_eq!(rt; etcd.asked, *asked, "{what}");
@@ -76,7 +91,7 @@ fn a_batch_is_there_once_whatever_got_lost(rt: HostRuntime) -> Result<(), Fail> 
         );
         assert_eq!(rt;
             etcd.pairs[0].value.as_str(),
-            "REFZIDIwMjYwMTA1Cg==",
+            "IyBkZXNrIGRlc2stQQpEQVkgMjAyNjAxMDUK",
             "{what}"
         );
     }
@@ -85,7 +100,7 @@ fn a_batch_is_there_once_whatever_got_lost(rt: HostRuntime) -> Result<(), Fail> 
 
 #[test]
 fn each_question_goes_to_the_next_endpoint(rt: HostRuntime) -> Result<(), Fail> {
-    let mut etcd = Etcd::new(rt.alloc(), b"desk A")?;
+    let mut etcd = Etcd::new(rt.alloc(), b"desk-A")?;
     let fates = &[Fate::RequestLost, Fate::TimedOut, Fate::AnswerLost];
     let result = append(rt.alloc(), &mut etcd, DESK_A, fates, b"\n");
     assert_eq!(rt; result, Ok(1));
@@ -95,7 +110,7 @@ fn each_question_goes_to_the_next_endpoint(rt: HostRuntime) -> Result<(), Fail> 
 
 #[test]
 fn a_desk_without_an_answer_stops(rt: HostRuntime) -> Result<(), Fail> {
-    let mut etcd = Etcd::new(rt.alloc(), b"desk A")?;
+    let mut etcd = Etcd::new(rt.alloc(), b"desk-A")?;
     let result = append(
         rt.alloc(),
         &mut etcd,
@@ -111,7 +126,7 @@ fn a_desk_without_an_answer_stops(rt: HostRuntime) -> Result<(), Fail> {
 
 #[test]
 fn a_desk_that_lost_the_leadership_is_fenced(rt: HostRuntime) -> Result<(), Fail> {
-    let mut etcd = Etcd::new(rt.alloc(), b"desk B")?;
+    let mut etcd = Etcd::new(rt.alloc(), b"desk-B")?;
     let result = append(rt.alloc(), &mut etcd, DESK_A, &[], b"\n");
     assert_eq!(rt; result, Err(AppendError::Fenced));
     assert!(rt; etcd.pairs.is_empty());
@@ -121,29 +136,38 @@ fn a_desk_that_lost_the_leadership_is_fenced(rt: HostRuntime) -> Result<(), Fail
 
 #[test]
 fn a_number_that_another_desk_took_fences(rt: HostRuntime) -> Result<(), Fail> {
-    let mut etcd = Etcd::new(rt.alloc(), b"desk B")?;
+    let mut etcd = Etcd::new(rt.alloc(), b"desk-B")?;
     let desk_b = Desk {
-        leader: "desk B",
+        leader: "desk-B",
         count: 0,
     };
     let first = append(rt.alloc(), &mut etcd, desk_b, &[], b"DAY 20260105\n");
     assert_eq!(rt; first, Ok(1));
     let second = append(rt.alloc(), &mut etcd, DESK_A, &[Fate::AnswerLost], b"\n");
     assert_eq!(rt; second, Err(AppendError::Fenced));
+    let same = append(rt.alloc(), &mut etcd, DESK_A, &[], b"DAY 20260105\n");
+    assert_eq!(rt;
+        same,
+        Err(AppendError::Fenced),
+        "the same batch of another desk"
+    );
     assert_eq!(rt; etcd.pairs.len(), 1);
-    assert_eq!(rt; etcd.pairs[0].value.as_str(), "REFZIDIwMjYwMTA1Cg==");
+    assert_eq!(rt;
+        etcd.pairs[0].value.as_str(),
+        "IyBkZXNrIGRlc2stQgpEQVkgMjAyNjAxMDUK"
+    );
     Ok(())
 }
 
 #[test]
 fn the_last_number_is_taken_and_none_after_it(rt: HostRuntime) -> Result<(), Fail> {
-    let mut etcd = Etcd::new(rt.alloc(), b"desk A")?;
+    let mut etcd = Etcd::new(rt.alloc(), b"desk-A")?;
     let before_last = Desk {
-        leader: "desk A",
+        leader: "desk-A",
         count: LAST_NUMBER - 1,
     };
     let last = Desk {
-        leader: "desk A",
+        leader: "desk-A",
         count: LAST_NUMBER,
     };
     let taken = append(rt.alloc(), &mut etcd, before_last, &[], b"\n");
@@ -157,11 +181,45 @@ fn the_last_number_is_taken_and_none_after_it(rt: HostRuntime) -> Result<(), Fai
 
 #[test]
 fn a_batch_of_512_kib_is_appended(rt: HostRuntime) -> Result<(), Fail> {
-    let mut etcd = Etcd::new(rt.alloc(), b"desk A")?;
+    let mut etcd = Etcd::new(rt.alloc(), b"desk-A")?;
     let batch = vec![in rt.alloc(); b'x'; MAX_BATCH]?;
     let result = append(rt.alloc(), &mut etcd, DESK_A, &[Fate::AnswerLost], &batch);
     assert_eq!(rt; result, Ok(1));
     assert_eq!(rt; etcd.pairs.len(), 1);
+    Ok(())
+}
+
+#[test]
+fn a_log_is_read_page_by_page(rt: HostRuntime) -> Result<(), Fail> {
+    let mut etcd = Etcd::new(rt.alloc(), b"desk-A")?;
+    for count in 0..18 {
+        let desk = Desk {
+            leader: "desk-A",
+            count,
+        };
+        let _ = append(rt.alloc(), &mut etcd, desk, &[], b"DAY 20260105\n")?;
+    }
+    let name = name_of(rt.alloc(), "DAY")?.ok_or("a name")?;
+    let leader = name_of(rt.alloc(), "desk-B")?.ok_or("a name")?;
+    let way = Way {
+        etcd: &mut etcd,
+        fates: &[Fate::RequestLost],
+    };
+    let mut gateway = Gateway::new(way, 3, name, leader);
+    assert!(rt; matches!(gateway.page(rt.alloc(), 1), Err(NodeError::Unanswered)));
+    let first = gateway.page(rt.alloc(), 1)?;
+    assert_eq!(rt; first.entries.len(), 16);
+    assert_eq!(rt;
+        first.entries[0].as_slice(),
+        b"# desk desk-A\nDAY 20260105\n".as_slice()
+    );
+    assert!(rt; first.has_more);
+    let second = gateway.page(rt.alloc(), 17)?;
+    assert_eq!(rt; second.entries.len(), 2);
+    assert!(rt; !second.has_more);
+    assert!(rt; gateway.page(rt.alloc(), 19)?.entries.is_empty());
+    let endpoints = gateway.exchange().etcd.endpoints.as_slice();
+    assert!(rt; endpoints.ends_with([0, 1, 1, 1].as_slice()));
     Ok(())
 }
 
@@ -182,7 +240,7 @@ fn two_batches(alloc: Global, etcd: &mut Etcd) -> Result<u64, AppendError> {
 
 #[test]
 fn a_desk_that_got_no_memory_goes_on_with_the_same_batch(rt: HostRuntime) {
-    if let Ok(mut etcd) = Etcd::new(rt.alloc(), b"desk A") {
+    if let Ok(mut etcd) = Etcd::new(rt.alloc(), b"desk-A") {
         let kept = two_batches(rt.alloc(), &mut etcd);
         assert!(rt;
             matches!(kept, Ok(2) | Err(AppendError::Memory | AppendError::Failed)),

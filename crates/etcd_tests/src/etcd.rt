@@ -56,6 +56,27 @@ impl Etcd {
         Some(pair.value.as_str())
     }
 
+    /// Returns the pairs from a key on, in the order in which they were put.
+    fn list(&self, alloc: Global, request: &RangeRequest) -> Result<String, AllocError> {
+        let mut text = String::from_str(alloc, "{\"header\":{\"revision\":\"3\"},\"kvs\":[")?;
+        let key = request.key.as_str();
+        let from = self.pairs.iter().position(|pair| pair.key.as_str() == key);
+        let pairs = match from {
+            Some(from) => self.pairs.get(from..).unwrap_or(&[]),
+            None => &[],
+        };
+        for (i, pair) in pairs.iter().take(request.limit).enumerate() {
+            let comma = if i == 0 { "" } else { "," };
+            let (key, value) = (pair.key.as_str(), pair.value.as_str());
+            text.push_str(format!(in alloc;
+                "{comma}{{\"key\":\"{key}\",\"value\":\"{value}\"}}"
+            )?.as_str())?;
+        }
+        let has_more = pairs.len() > request.limit;
+        text.push_str(format!(in alloc; "],\"more\":{has_more}}}")?.as_str())?;
+        Ok(text)
+    }
+
     /// Carries a transaction out, and returns the answer.
     fn answer(&mut self, alloc: Global, request: &Request) -> Result<String, AllocError> {
         if let Some(there) = self.value_at(request.key.as_str()) {
@@ -70,6 +91,23 @@ impl Etcd {
         })?;
         format!(in alloc; "{{\"succeeded\":true,\"responses\":[{{\"response_put\":{{}}}}]}}")
     }
+}
+
+/// A request for the pairs from a key on.
+#[derive(Drop)]
+struct RangeRequest {
+    key: String,
+    limit: usize,
+}
+
+/// Returns the request for pairs that a text is.
+fn range_request_of(alloc: Global, body: &str) -> Option<RangeRequest> {
+    let request = Value::from_str(alloc, body).ok()?;
+    let limit = text_at(alloc, &request, "/limit")?;
+    Some(RangeRequest {
+        key: text_at(alloc, &request, "/key")?,
+        limit: limit.as_str().parse::<usize>().ok()?,
+    })
 }
 
 /// The answer that a value is at a key.
@@ -149,6 +187,19 @@ impl Way<'_> {
     }
 }
 
+impl Way<'_> {
+    /// Answers a request for pairs, or loses it.
+    fn post_range(&mut self, alloc: Global, body: &str) -> Result<Vec<u8>, NodeError> {
+        let Some(request) = range_request_of(alloc, body) else {
+            return Err(NodeError::Unanswered);
+        };
+        if self.next_fate() != Fate::Answered {
+            return Err(NodeError::Unanswered);
+        }
+        Ok(self.etcd.list(alloc, &request)?.into_bytes())
+    }
+}
+
 impl Exchange for Way<'_> {
     fn post(
         &mut self,
@@ -160,6 +211,9 @@ impl Exchange for Way<'_> {
         self.etcd.asked = self.etcd.asked.saturating_add(1);
         if self.etcd.endpoints.push(endpoint).is_err() {
             return Err(NodeError::Memory);
+        }
+        if path == "/v3/kv/range" {
+            return self.post_range(alloc, body);
         }
         let Some(request) = request_of(alloc, body) else {
             return Err(NodeError::Unanswered);

@@ -1,8 +1,8 @@
 //! Names of logs, and their keys.
-use gu_etcd::{LAST_NUMBER, batch_key, end_key, is_log_name, leader_key};
+use gu_etcd::{LAST_NUMBER, MAX_NAME, batch_key, end_key, is_name, leader_key};
 use std::test::Fail;
 
-/// Texts, and whether each is the name of a log.
+/// Texts, and whether each is the name of a log or of a desk.
 const NAMES: &[(&str, bool)] = &[
     ("DAY", true),
     ("day-2026_01.05", true),
@@ -24,11 +24,21 @@ const NAMES: &[(&str, bool)] = &[
 #[test]
 fn names_are_letters_digits_and_three_signs(rt: HostRuntime) {
     for (name, is) in NAMES {
-        assert_eq!(rt; is_log_name(name.as_bytes()), *is, "{name}");
+        assert_eq!(rt; is_name(name.as_bytes()), *is, "{name}");
     }
 }
 
-/// Numbers, and the keys of their batches in the log DAY.
+#[test]
+fn a_name_has_64_letters_at_most(rt: HostRuntime) -> Result<(), Fail> {
+    let longest = vec![in rt.alloc(); b'x'; MAX_NAME]?;
+    let longer = vec![in rt.alloc(); b'x'; MAX_NAME + 1]?;
+    assert_eq!(rt; longest.len(), 64);
+    assert!(rt; is_name(&longest));
+    assert!(rt; !is_name(&longer));
+    Ok(())
+}
+
+/// Numbers, and the keys of their entries in the log DAY.
 const KEYS: &[(u64, &str)] = &[
     (1, "DAY/0000000001"),
     (7, "DAY/0000000007"),
@@ -48,7 +58,7 @@ fn a_key_has_ten_digits(rt: HostRuntime) -> Result<(), Fail> {
 }
 
 #[test]
-fn the_leader_is_behind_the_batches(rt: HostRuntime) -> Result<(), Fail> {
+fn the_leader_comes_after_the_entries(rt: HostRuntime) -> Result<(), Fail> {
     let last = batch_key(rt.alloc(), b"DAY", LAST_NUMBER)?;
     let end = end_key(rt.alloc(), b"DAY")?;
     let leader = leader_key(rt.alloc(), b"DAY")?;

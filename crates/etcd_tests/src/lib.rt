@@ -6,10 +6,16 @@ mod answers;
 #[cfg(test)]
 mod appending;
 #[cfg(test)]
+mod entries;
+#[cfg(test)]
 mod etcd;
 #[cfg(test)]
 mod keys;
 #[cfg(test)]
 mod leases;
+#[cfg(test)]
+mod memory;
+#[cfg(test)]
+mod pages;
 #[cfg(test)]
 mod texts;

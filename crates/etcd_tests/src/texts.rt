@@ -3,7 +3,7 @@ use gu_etcd::{grant_text, keep_alive_text, lead_text, put_text, range_text};
 use std::test::Fail;
 
 #[test]
-fn a_batch_is_put_where_its_number_is_free_and_the_desk_leads(rt: HostRuntime) -> Result<(), Fail> {
+fn an_entry_is_put_if_its_number_is_free_and_the_desk_leads(rt: HostRuntime) -> Result<(), Fail> {
     let text = put_text(rt.alloc(), b"DAY", b"desk A", 7, b"LIMIT G1 EXEC E1 100\n")?;
     let expected = "{\"compare\":[\
         {\"target\":\"VERSION\",\"key\":\"REFZLzAwMDAwMDAwMDc=\",\"version\":\"0\"},\
@@ -15,7 +15,7 @@ fn a_batch_is_put_where_its_number_is_free_and_the_desk_leads(rt: HostRuntime) -
 }
 
 #[test]
-fn an_empty_batch_has_an_empty_value(rt: HostRuntime) -> Result<(), Fail> {
+fn an_empty_entry_has_an_empty_value(rt: HostRuntime) -> Result<(), Fail> {
     let text = put_text(rt.alloc(), b"DAY", b"desk A", 9_999_999_999, b"")?;
     let expected = "{\"compare\":[\
         {\"target\":\"VERSION\",\"key\":\"REFZLzk5OTk5OTk5OTk=\",\"version\":\"0\"},\
@@ -27,7 +27,7 @@ fn an_empty_batch_has_an_empty_value(rt: HostRuntime) -> Result<(), Fail> {
 }
 
 #[test]
-fn batches_are_asked_for_from_a_number_on(rt: HostRuntime) -> Result<(), Fail> {
+fn entries_are_asked_for_from_a_number_on(rt: HostRuntime) -> Result<(), Fail> {
     let text = range_text(rt.alloc(), b"DAY", 1, 16)?;
     let expected = "{\"key\":\"REFZLzAwMDAwMDAwMDE=\",\"range_end\":\"REFZLzo=\",\"limit\":\"16\"}";
     assert_eq!(rt; text.as_str(), expected);
@@ -44,7 +44,7 @@ fn a_lease_is_asked_for_and_kept_alive(rt: HostRuntime) -> Result<(), Fail> {
 }
 
 #[test]
-fn a_desk_leads_where_none_does(rt: HostRuntime) -> Result<(), Fail> {
+fn a_desk_leads_if_none_does(rt: HostRuntime) -> Result<(), Fail> {
     let text = lead_text(rt.alloc(), b"DAY", b"desk A", 42)?;
     let expected = "{\"compare\":[\
         {\"target\":\"VERSION\",\"key\":\"REFZL2xlYWRlcg==\",\"version\":\"0\"}],\

@@ -1,25 +1,25 @@
--- A desk asks for a batch, perhaps several times.
+-- A desk asks for an entry, perhaps several times.
 use Rattle.std.proofs.Common.{◌≡◌, ℕ, ◌+◌, ◌≤◌, List, length, inl, inr, ⊎_elim, refl, ◌∙◌, subst, arith}
 use Rattle.gu_journal.specs.Crashes.{Elapses, LeavesOnly}
 use Rattle.gu_etcd.specs.declared.node.Node.{Ghosts}
-use Rattle.gu_etcd.specs.Log.{Entry, IsSettled, HasBegun}
+use Rattle.gu_etcd.specs.Counts.{CountsStay}
+use Rattle.gu_etcd.specs.Log.{IsSettled, HasBegun}
 use Rattle.gu_etcd.specs.Node.{Follows, Puts}
 use Rattle.gu_etcd.proofs.Histories.{begun_goes_on}
 
 module _ {N : Type 0} (g : Ghosts N) where
   -- what is known of an honest etcd after it was asked
-  pub record HasAsked (batch : List ℕ) (old new : N) : Type 0 where
+  pub record HasAsked (entry : List ℕ) (old new : N) : Type 0 where
     pub before : g.is_honest old
     pub leader : g.leader new ≡ g.leader old
-    pub begun : (log : List Entry) → g.may_hold new log → HasBegun (g.known old) (g.leader old) batch log
-    pub moments : LeavesOnly g.moment g.held_since old new (HasBegun (g.known old) (g.leader old) batch)
-    pub failures_stay : g.failures old ≤ g.failures new
-    pub refusals_stay : g.refusals old ≤ g.refusals new
+    pub begun : (log : List (List ℕ)) → g.may_hold new log → HasBegun (g.known old) (g.leader old) entry log
+    pub moments : LeavesOnly g.moment g.held_since old new (HasBegun (g.known old) (g.leader old) entry)
+    pub stay : CountsStay g.counts old new
 
   -- before it is asked
-  pub not_yet_asked : (batch : List ℕ) (node : N) → g.is_honest node → ((log : List Entry) → g.may_hold node log → IsSettled (g.known node) (g.leader node) log)
-      → ((log : List Entry) → g.held_since node (g.moment node) log → g.may_hold node log) → HasAsked batch node node
-  not_yet_asked batch node honest settled only_now = record {
+  pub not_yet_asked : (entry : List ℕ) (node : N) → g.is_honest node → ((log : List (List ℕ)) → g.may_hold node log → IsSettled (g.known node) (g.leader node) log)
+      → ((log : List (List ℕ)) → g.held_since node (g.moment node) log → g.may_hold node log) → HasAsked entry node node
+  not_yet_asked entry node honest settled only_now = record {
     before = honest;
     leader = refl;
     begun = λ log may. inl (settled log may);
@@ -28,20 +28,19 @@ module _ {N : Type 0} (g : Ghosts N) where
       each = λ log held. inl (settled log (only_now log held));
       before = λ t log le held. inl held;
     };
-    failures_stay = omega arith;
-    refusals_stay = omega arith;
+    stay = record { failures = omega arith; refusals = omega arith; shortages = omega arith };
   }
 
   -- asked once more
-  pub asked_again : (number : ℕ) (batch : List ℕ) (old mid new : N) → number ≡ length (g.known old) + 1 → HasAsked batch old mid
-      → g.leader new ≡ g.leader mid → Follows (Puts (g.leader mid) number batch) (g.may_hold mid) (g.may_hold new)
-      → Elapses g.moment g.held_since mid new (g.may_hold new) → g.failures mid ≤ g.failures new → g.refusals mid ≤ g.refusals new → HasAsked batch old new
-  asked_again number batch old mid new next so_far leader order time failures refusals =
-      let begun : (log : List Entry) → g.may_hold new log → HasBegun (g.known old) (g.leader old) batch log =
-      λ (log : List Entry) (may : g.may_hold new log).
+  pub asked_again : (number : ℕ) (entry : List ℕ) (old mid new : N) → number ≡ length (g.known old) + 1 → HasAsked entry old mid
+      → g.leader new ≡ g.leader mid → Follows (Puts (g.leader mid) number entry) (g.may_hold mid) (g.may_hold new)
+      → Elapses g.moment g.held_since mid new (g.may_hold new) → CountsStay g.counts mid new → HasAsked entry old new
+  asked_again number entry old mid new next so_far leader order time stay =
+      let begun : (log : List (List ℕ)) → g.may_hold new log → HasBegun (g.known old) (g.leader old) entry log =
+      λ (log : List (List ℕ)) (may : g.may_hold new log).
       let from = order log may in
-      begun_goes_on (g.known old) (g.leader old) number batch next from.0 log (so_far.begun from.0 from.1)
-      (subst (λ (l : List ℕ). Puts l number batch from.0 log) so_far.leader from.2) in
+      begun_goes_on (g.known old) (g.leader old) number entry next from.0 log (so_far.begun from.0 from.1)
+      (subst (λ (l : List ℕ). Puts l number entry from.0 log) so_far.leader from.2) in
       record {
         before = so_far.before;
         leader = leader ∙ so_far.leader;
@@ -52,6 +51,9 @@ module _ {N : Type 0} (g : Ghosts N) where
           before = λ t log le held. ⊎_elim (so_far.moments.before t log le) (λ may. inr (begun log may))
               (time.nothing_else t log (omega (arith, le, so_far.moments.later)) held);
         };
-        failures_stay = omega (arith, so_far.failures_stay, failures);
-        refusals_stay = omega (arith, so_far.refusals_stay, refusals);
+        stay = record {
+          failures = omega (arith, so_far.stay.failures, stay.failures);
+          refusals = omega (arith, so_far.stay.refusals, stay.refusals);
+          shortages = omega (arith, so_far.stay.shortages, stay.shortages);
+        };
       }

@@ -1,59 +1,38 @@
--- How a log in memory goes on.
-use Rattle.std.proofs.Common.{◌≡◌, ◌≢◌, ◌⊎◌, inl, inr, ℕ, ◌+◌, ◌≤◌, List, [], ◌∷◌, ◌++◌, length, take, refl, sym, ◌∙◌, ap, arith, append-nil}
-use Rattle.std.proofs.Math.Nat.{eq-or-lt_of_le}
-use Rattle.std.proofs.lemmas.List.{length-append, map-append, take_all, take-append-le}
-use Rattle.std.proofs.lemmas.List.Elements.{All-nil}
-use Rattle.gu_etcd.specs.declared.memory_node.LogEntry.{LogEntry}
-use Rattle.gu_etcd.specs.Log.{Entry, entry_of, IsOthers, HoldsAt}
-use Rattle.gu_etcd.specs.Node.{Follows, Puts}
-use Rattle.gu_etcd.specs.InMemory.{HadSince, log_of}
+-- The desk and the batch of an entry.
+use Rattle.std.proofs.Common.{◌≡◌, List, [], ◌∷◌, ◌++◌, ℕ, sym, ◌∙◌, ap, subst, append_assoc, codes}
+use Rattle.gu_etcd.specs.Keys.{IsName}
+use Rattle.gu_etcd.specs.Log.{entry_of}
+use Rattle.gu_etcd.specs.Splitting.{Lacks}
+use Rattle.gu_etcd.proofs.Splits.{has_it, name_lacks, one_split}
 
--- the log that it has, and one with an entry more
-module _ (now : List Entry) (entry : Entry) (next : List Entry) (is : next ≡ now ++ entry ∷ []) where
-  longer : length next ≡ length now + 1
-  longer = omega (arith, ap (λ (l : List Entry). length l) is, length-append now (entry ∷ []))
+-- what follows the head of an entry
+pub after_head : (desk batch : List ℕ) → (desk ++ 10 ∷ []) ++ batch ≡ desk ++ 10 ∷ batch
+after_head desk batch = append_assoc desk (10 ∷ []) batch
 
-  front : (k : ℕ) → k ≤ length now → take k next ≡ take k now
-  front k fits = ap (λ (l : List Entry). take k l) is ∙ take-append-le k now (entry ∷ []) fits
+-- an entry is of one desk
+pub one_desk : (a b x y : List ℕ) → IsName a → IsName b → entry_of a x ≡ entry_of b y → (a ≡ b) × (x ≡ y)
+one_desk a b x y named_a named_b same =
+    let rest : (a ++ 10 ∷ []) ++ x ≡ (b ++ 10 ∷ []) ++ y = cc in
+    one_split 10 a b x y (name_lacks a named_a.each) (name_lacks b named_b.each) (sym (after_head a x) ∙ rest ∙ after_head b y)
 
-  pub later : length now ≤ length next
-  later = omega (arith, longer)
+-- a text is an entry from its parts on
+pub entry_from : (text rest desk batch : List ℕ) → text ≡ codes "# desk " ++ rest → rest ≡ desk ++ 10 ∷ batch → text ≡ entry_of desk batch
+entry_from text rest desk batch head parts = head ∙ ap (λ (r : List ℕ). codes "# desk " ++ r) (parts ∙ sym (after_head desk batch))
 
-  pub nothing_else : (t : ℕ) (log : List Entry) → HadSince next t log → HadSince now t log ⊎ (log ≡ next)
-  nothing_else t log had = elim (eq-or-lt_of_le had.2) [
-    | inl all ↦ inr (had.3 ∙ take_all had.0 next (omega (arith, all)))
-    | inr fewer ↦
-        let within : had.0 ≤ length now = omega (arith, fewer, longer) in
-        inl (had.0, had.1, within, had.3 ∙ front had.0 within)
-  ]
+-- and its parts are from an entry on
+pub rest_of : (text rest desk batch : List ℕ) → text ≡ codes "# desk " ++ rest → text ≡ entry_of desk batch → rest ≡ desk ++ 10 ∷ batch
+rest_of text rest desk batch head is =
+    let same : rest ≡ (desk ++ 10 ∷ []) ++ batch = cc in
+    same ∙ after_head desk batch
 
-  pub keeps : (t : ℕ) (log : List Entry) → HadSince now t log → HadSince next t log
-  keeps t log had = (had.0, had.1, omega (arith, had.2, longer), had.3 ∙ sym (front had.0 had.2))
+-- no entry has no end of a line after its head
+pub no_entry : (text rest desk batch : List ℕ) → text ≡ codes "# desk " ++ rest → Lacks 10 rest → text ≡ entry_of desk batch → ⊥
+no_entry text rest desk batch head lacks is =
+    has_it 10 desk batch (subst (λ (r : List ℕ). Lacks 10 r) (rest_of text rest desk batch head is) lacks)
 
-  -- the batch is at the last number
-  pub is_last : (number : ℕ) → number ≡ length now + 1 → HoldsAt number entry.batch next
-  is_last number place = record {
-    entry = entry;
-    place = record { before = now; after = []; number_is = sym place; log_is = is };
-    batch_is = refl;
-  }
-
--- an entry more
-pub pushed : (entries next : List LogEntry) (entry : LogEntry) (leader batch : List ℕ) → next ≡ entries ++ entry ∷ [] → entry.leader.items ≡ leader → entry.batch.items ≡ batch
-    → log_of next ≡ log_of entries ++ entry_of leader batch ∷ []
-pushed entries next entry leader batch is by put =
-    ap (λ (l : List LogEntry). log_of l) is ∙ map-append (λ (e : LogEntry). entry_of e.leader.items e.batch.items) entries (entry ∷ [])
-    ∙ ap (λ (l : List ℕ). log_of entries ++ entry_of l entry.batch.items ∷ []) by ∙ ap (λ (b : List ℕ). log_of entries ++ entry_of leader b ∷ []) put
-
--- nothing was put by others
-none_by_others : (leader : List ℕ) → IsOthers leader []
-none_by_others leader = All-nil (λ (entry : Entry). entry.leader ≢ leader)
-
--- the log stays
-pub stays : (leader : List ℕ) (number : ℕ) (batch : List ℕ) (now : List Entry) → Follows (Puts leader number batch) (λ log. log ≡ now) (λ log. log ≡ now)
-stays leader number batch now log is = (now, refl, record { others = []; are_others = none_by_others leader; is = inl (is ∙ sym (append-nil now)) })
-
--- a batch of the desk is put at its end
-pub goes_on : (leader : List ℕ) (number : ℕ) (batch : List ℕ) (now next : List Entry) → length now + 1 ≡ number → next ≡ now ++ entry_of leader batch ∷ []
-    → Follows (Puts leader number batch) (λ log. log ≡ now) (λ log. log ≡ next)
-goes_on leader number batch now next place more log is = (now, refl, record { others = []; are_others = none_by_others leader; is = inr (place, is ∙ more) })
+-- nor is its desk's name another than the one before the first end of a line
+pub name_before : (text rest first last desk batch : List ℕ) → text ≡ codes "# desk " ++ rest → rest ≡ first ++ 10 ∷ last → Lacks 10 first → IsName desk
+    → text ≡ entry_of desk batch → IsName first
+name_before text rest first last desk batch head parts lacks named is =
+    subst (λ (d : List ℕ). IsName d)
+    (sym (one_split 10 first desk last batch lacks (name_lacks desk named.each) (sym parts ∙ rest_of text rest desk batch head is)).0) named

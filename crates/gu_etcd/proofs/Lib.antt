@@ -1,4 +1,6 @@
 mod Histories
 mod Results
 mod Asking
+mod Recalling
+mod Splits
 mod Entries

@@ -8,7 +8,7 @@ module _ {N : Type 0} {g : Ghosts N} where
   abbrev pub node_of : Appender N g → N
   node_of appender = appender.node
 
-  -- the batches that it kept, in order: those at the first numbers of the log
+  -- the entries that it kept, in order: those at the first numbers of the log
   abbrev pub kept_by : Appender N g → List (List ℕ)
   kept_by appender = g.known appender.node
 

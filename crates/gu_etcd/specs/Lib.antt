@@ -1,3 +1,4 @@
+pub mod Counts
 pub mod Log
 pub mod Node
 pub mod Appending
@@ -8,3 +9,6 @@ pub mod Requests
 pub mod Lease
 pub mod Answers
 pub mod InMemory
+pub mod Steps
+pub mod Splitting
+pub mod Pages

@@ -35,13 +35,13 @@ abbrev pub transaction_text : List ℕ → List ℕ → List ℕ → List ℕ
 transaction_text conditions put question =
     codes "{\"compare\":[" ++ (conditions ++ (codes "],\"success\":[" ++ (put ++ (codes "],\"failure\":[" ++ (question ++ codes "]}")))))
 
--- Put a batch at a number. The number is to be free, and this desk is to lead; if not, the answer is what is at the number.
+-- Put an entry at a number. The number is to be free, and this desk is to lead; if not, the answer is what is at the number.
 abbrev pub put_text : List ℕ → List ℕ → ℕ → List ℕ → List ℕ
-put_text name leader number batch =
+put_text name leader number entry =
     let key = batch_key name number in
-    transaction_text (conditions_text key (leader_key name) leader) (value_text key batch) (question_text key)
+    transaction_text (conditions_text key (leader_key name) leader) (value_text key entry) (question_text key)
 
--- The batches from a number on, in order, as many as a limit at most.
+-- The entries from a number on, in order, as many as a limit at most.
 abbrev pub range_text : List ℕ → ℕ → ℕ → List ℕ
 range_text name from limit =
     codes "{\"key\":\"" ++ (coded (batch_key name from) ++ (codes "\",\"range_end\":\"" ++ (coded (end_key name)

@@ -12,8 +12,8 @@ use base64::engine::general_purpose::STANDARD;
 use serde_json::Value;
 use std::alloc::Global;
 
-/// The most bytes that an answer may have: a batch in base64, and what is around it.
-pub const MAX_ANSWER: usize = 1 << 20;
+/// The most bytes that an answer may have: a page of the longest entries in base64, and what is around them.
+pub const MAX_ANSWER: usize = 12 << 20;
 
 /// Returns the JSON of an answer, which is bounded.
 pub(crate) fn json_of(alloc: Global, answer: &[u8]) -> Result<Value, NodeError>
@@ -43,7 +43,7 @@ fn is_carried_out(answer: &Value) -> bool
 }
 
 /// Returns the value of a pair.
-fn value_of(alloc: Global, pair: &Value) -> Result<Vec<u8>, NodeError>
+pub(crate) fn value_of(alloc: Global, pair: &Value) -> Result<Vec<u8>, NodeError>
     ensures { IfOk result (λ bytes. HasValue (view pair.now) bytes.items) }
 {
     let Some(value) = pair.get("value") else {
@@ -79,7 +79,7 @@ fn found_in(alloc: Global, range: &Value) -> Result<PutAnswer, NodeError>
     }
 }
 
-/// Returns what the answer to a transaction that puts a batch says. An answer that can't be read is none.
+/// Returns what the answer to a transaction that puts an entry says. An answer that can't be read is none.
 pub fn read_put(alloc: Global, answer: &[u8]) -> Result<PutAnswer, NodeError>
     ensures { IfOk result (λ said. (json : Data) × (read answer.now ≡ Some json) × SaysPut json said) }
 {

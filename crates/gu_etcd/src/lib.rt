@@ -3,27 +3,35 @@
 
 mod answers;
 mod appender;
+mod entry;
 mod gateway;
 mod granting;
 mod keys;
 mod leading;
 mod lease;
 mod memory_node;
+mod name;
 mod node;
 mod outcome;
+mod page;
 mod requests;
+mod splitting;
 
 pub use answers::{MAX_ANSWER, read_put};
 pub use appender::{AppendError, Appender};
+pub use entry::{an_entry_is_of_one_desk, entry_of, parts_of};
 pub use gateway::{Exchange, Gateway};
 pub use granting::{Granted, read_alive, read_granted};
-pub use keys::{batch_key, end_key, is_log_name, leader_key};
+pub use keys::{batch_key, end_key, leader_key};
 pub use leading::{LeadAnswer, read_lead};
 pub use lease::{Lease, Moment};
-pub use memory_node::{LogEntry, MemoryNode};
-pub use node::{LAST_NUMBER, MAX_BATCH, Node, NodeError, PutAnswer};
+pub use memory_node::{Fate, MemoryNode};
+pub use name::{MAX_NAME, Name, is_name};
+pub use node::{LAST_NUMBER, MAX_BATCH, MAX_ENTRY, Node, NodeError, PutAnswer};
 pub use outcome::TRIES;
+pub use page::{PAGE, Page, read_page};
 pub use requests::{
     GRANT_PATH, KEEP_ALIVE_PATH, RANGE_PATH, TXN_PATH, grant_text, keep_alive_text, lead_text,
     put_text, range_text,
 };
+pub use splitting::{after_prefix, split_at_byte};

@@ -2,7 +2,8 @@
 
 ghost use Rattle.std.specs.Prelude.{◌≡◌, ◌+◌, ◌≤◌, ◌<◌, List, ℕ, length, IfOk, OnErr};
 ghost use Rattle.gu_journal.specs.Crashes.{Elapses};
-ghost use Rattle.gu_etcd.specs.Log.{Entry};
+ghost use Rattle.gu_etcd.specs.Counts.{Counts};
+ghost use Rattle.gu_etcd.specs.Log.{IsOf};
 ghost use Rattle.gu_etcd.specs.Node.{Follows, HasCause, Puts, Says, known_after};
 
 use std::alloc::{AllocError, AllocFailed, Global};
@@ -11,15 +12,18 @@ use thiserror::Error;
 /// The most bytes that a batch may have.
 pub const MAX_BATCH: usize = 512 << 10;
 
-/// The last number that a batch may have: numbers are written with ten digits.
+/// The most bytes that an entry may have: a batch under the name of a desk.
+pub const MAX_ENTRY: usize = MAX_BATCH + 128;
+
+/// The last number that an entry may have: numbers are written with ten digits.
 pub const LAST_NUMBER: u64 = 9_999_999_999;
 
-/// What etcd answers to a batch that is to be put at a number.
+/// What etcd answers to an entry that is to be put at a number.
 #[derive(Drop)]
 pub enum PutAnswer {
-    /// The batch has been put at the number, and is kept.
+    /// The entry has been put at the number, and is kept.
     Kept,
-    /// This batch was at the number before.
+    /// This entry was at the number before.
     Holds(Vec<u8>),
     /// The number is free, but this desk doesn't lead any more.
     NotLeading,
@@ -31,7 +35,7 @@ pub enum NodeError {
     /// No memory was left.
     #[error("out of memory")]
     Memory,
-    /// No answer came, or none that could be read. The batch may be put at any later moment.
+    /// No answer came, or none that could be read. The entry may be put at any later moment.
     #[error("no answer")]
     Unanswered,
 }
@@ -56,8 +60,8 @@ impl<T: Drop> From<AllocFailed<T>> for NodeError {
     }
 }
 
-/// An etcd with the log of a day, to which one desk appends. The clauses hold if etcd is honest, as four premises say: batches are
-/// put at the end of the log alone (`order`); one batch wins a number for good, and what was acknowledged is kept (`answer`); and a
+/// An etcd with the log of a day, to which one desk appends. The clauses hold if etcd is honest, as four premises say: entries are
+/// put at the end of the log alone (`order`); one entry wins a number for good, and what was acknowledged is kept (`answer`); and a
 /// desk that has lost the leadership never leads again under the same name (`answer` at `NotLeading`). No contract can say that an
 /// etcd that runs is.
 pub trait Node: Drop {
@@ -67,41 +71,39 @@ pub trait Node: Drop {
     /// The name under which this desk leads, and no other.
     ghost leader: { Self → List ℕ };
 
-    /// The batches at the first numbers, as far as they are known for good.
+    /// The entries at the first numbers, as far as they are known for good.
     ghost known: { Self → List (List ℕ) };
 
     /// What the log may have, from this moment until the next call.
-    ghost may_hold: { Self → List Entry → Type 0 };
+    ghost may_hold: { Self → List (List ℕ) → Type 0 };
 
     /// The moment, as a number that never falls.
     ghost moment: { Self → ℕ };
 
     /// What the log might have had at some moment from that one on, during a call or between two. Of this `Elapses` and `LeavesOnly`
     /// speak, as in gu_journal of what a crash might have left.
-    ghost held_since: { Self → ℕ → List Entry → Type 0 };
+    ghost held_since: { Self → ℕ → List (List ℕ) → Type 0 };
 
-    /// How many calls got no answer.
-    ghost failures: { Self → ℕ };
+    /// How many exchanges got no answer, how many calls etcd refused, and how many allocations failed.
+    ghost counts: { Counts Self };
 
-    /// How many calls etcd has refused.
-    ghost refusals: { Self → ℕ };
-
-    /// Asks for a batch to be put at a number: if the number is free, and if this desk leads, both in one transaction.
-    fn put(&mut self, alloc: Global, number: u64, batch: &[u8]) -> Result<PutAnswer, NodeError>
+    /// Asks for an entry to be put at a number: if the number is free, and if this desk leads, both in one transaction.
+    fn put(&mut self, alloc: Global, number: u64, entry: &[u8]) -> Result<PutAnswer, NodeError>
         requires number { number ≤ LAST_NUMBER }
-        requires short { length batch.now ≤ MAX_BATCH }
+        requires short { length entry.now ≤ MAX_ENTRY }
         requires next { is_honest self.old → number ≡ length (known self.old) + 1 }
+        requires own { is_honest self.old → IsOf (leader self.old) entry.now }
         ensures before { is_honest self.new → is_honest self.old }
         ensures leader { is_honest self.new → leader self.new ≡ leader self.old }
         ensures order { is_honest self.new
-            → Follows (Puts (leader self.old) number batch.now) (may_hold self.old) (may_hold self.new) }
+            → Follows (Puts (leader self.old) number entry.now) (may_hold self.old) (may_hold self.new) }
         ensures answer { IfOk result (λ answer. is_honest self.new
-            → (log : List Entry) → may_hold self.new log → Says (leader self.old) number batch.now answer log) }
-        ensures known { IfOk result (λ answer. is_honest self.new → known self.new ≡ known_after (known self.old) batch.now answer) }
+            → (log : List (List ℕ)) → may_hold self.new log → Says (leader self.old) number entry.now answer log) }
+        ensures known { IfOk result (λ answer. is_honest self.new → known self.new ≡ known_after (known self.old) entry.now answer) }
         ensures unknown { OnErr result (is_honest self.new → known self.new ≡ known self.old) }
         ensures time { is_honest self.new → Elapses moment held_since self.old self.new (may_hold self.new) }
-        ensures cause { is_honest self.new → HasCause failures refusals self.old self.new result };
+        ensures cause { is_honest self.new → HasCause counts self.old self.new result };
 
     /// Since this moment there is no other.
-    ghost only_now: { (node : Self) (log : List Entry) → held_since node (moment node) log → may_hold node log };
+    ghost only_now: { (node : Self) (log : List (List ℕ)) → held_since node (moment node) log → may_hold node log };
 }

@@ -99,20 +99,20 @@ fn transaction_text(
     format!(in alloc; "{{\"compare\":[{conditions}],\"success\":[{put}],\"failure\":[{question}]}}")
 }
 
-/// Returns the transaction that puts a batch at a number, if the number is free and this desk leads, and that else asks what is
+/// Returns the transaction that puts an entry at a number, if the number is free and this desk leads, and that else asks what is
 /// at the number.
 pub fn put_text(
     alloc: Global,
     name: &[u8],
     leader: &[u8],
     number: u64,
-    batch: &[u8],
+    entry: &[u8],
 ) -> Result<String, AllocError>
-    ensures { IfOk result (λ text. string_bytes text ≡ put_text name.now leader.now number batch.now) }
+    ensures { IfOk result (λ text. string_bytes text ≡ put_text name.now leader.now number entry.now) }
 {
     let key = batch_key(alloc, name, number)?;
     let conditions = conditions_text(alloc, &key, &leader_key(alloc, name)?, leader)?;
-    let put = value_text(alloc, &key, batch)?;
+    let put = value_text(alloc, &key, entry)?;
     let question = question_text(alloc, &key)?;
     transaction_text(alloc, &conditions, &put, &question)
 }

@@ -6,7 +6,8 @@ use Rattle.gu_etcd.proofs.appender.Appender.append.Goals as goal
 pub put_until_settled-requires : goal.put_until_settled-requires
 put_until_settled-requires g c = record {
   number = omega (arith, c.args.self.within);
-  short = c.requires;
+  short = c.requires.short;
+  own = c.requires.own;
   next = λ honest. omega (arith, c.args.self.counted honest);
   settled = c.args.self.settled;
 }
@@ -17,7 +18,7 @@ invariant_of-result g c = record {
   counted = λ honest.
       let kept = c.in-Ok.ensures.kept honest in
       let long = ap (λ (l : List (List ℕ)). length l) kept in
-      let more = length-append (g.N.Node.known c.args.self.node) (c.args.batch.now ∷ []) in
+      let more = length-append (g.N.Node.known c.args.self.node) (c.args.entry.now ∷ []) in
       omega (arith, c.args.self.counted (c.put_until_settled.ensures.before honest), long, more);
   settled = λ honest log may.
       subst (λ (l : List ℕ). IsSettled (g.N.Node.known c.put_until_settled.new.node) l log) (sym (c.put_until_settled.ensures.leader honest))

@@ -1,0 +1,6 @@
+use Rattle.std.proofs.Common.{◌≢◌, ℕ, ◌<◌, get_or}
+use Rattle.gu_etcd.proofs.splitting.split_at_byte.Given as goal
+
+-- none of the bytes so far is such a one
+abbrev pub invariant-loop-i : goal.invariant-loop-i
+invariant-loop-i l = (k : ℕ) → k < l.i → get_or l.text k 0 ≢ l.byte
