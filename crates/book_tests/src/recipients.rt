@@ -43,17 +43,11 @@ struct Kept {
 
 /// Takes a give-up in, whose offers are of a group.
 pub fn give_up(offers: &mut Offers, command: &Command, group: Group) -> Result<(), AllocError> {
-    if let Command::GiveUp {
-        firm,
-        id: _,
-        report,
-        lines,
-    } = command
-    {
+    if let Command::GiveUp(it) = command {
         // The lines tell how many they are.
-        let _ = lines.as_slice();
+        let _ = it.lines.as_slice();
         if offers.count() < 10_000 {
-            offers.give_up(*firm, *report, group, lines)?;
+            offers.give_up(it.firm, it.report, group, &it.lines)?;
         }
     }
     Ok(())

@@ -1,6 +1,6 @@
 //! Lines that ask for steps, and what is told of these.
 
-use gu_terms::{Command, Day, Entry, Group, SweepEntry};
+use gu_terms::{Command, Day, Entry, Group, ReportSide, SweepEntry};
 use gu_text::texts::{append_last_number, append_last_word, append_number, append_word};
 use gu_text::{Line, TextError, append_outcome};
 use gu_world::{Outcome, Step, Worker, World};
@@ -9,27 +9,10 @@ use std::alloc::{AllocError, Global};
 /// A report on a day that it names.
 fn report_on(command: &Command, on: Day) -> Option<Step> {
     match command {
-        Command::ReportSide {
-            firm,
-            id,
-            match_id,
-            symbol,
-            lots,
-            price,
-            day: _,
-            side,
-            account,
-        } => Some(Step::Enter(Command::ReportSide {
-            firm: *firm,
-            id: *id,
-            match_id: *match_id,
-            symbol: *symbol,
-            lots: *lots,
-            price: *price,
+        Command::ReportSide(report) => Some(Step::Enter(Command::ReportSide(ReportSide {
             day: Some(on),
-            side: *side,
-            account: *account,
-        })),
+            ..*report
+        }))),
         _ => None,
     }
 }

@@ -31,26 +31,16 @@ REPORT E2 R8 M7 S XF6 10 101.5 H2  = is of a trade
 pub fn report_of(command: &Command) -> Option<Report> {
     let day = Day::new(2026, 1, 5)?;
     match command {
-        Command::ReportSide {
-            firm,
-            id,
-            match_id,
-            symbol,
-            lots,
-            price,
-            day: _,
-            side,
-            account,
-        } => Some(Report {
-            firm: *firm,
-            id: *id,
-            match_id: *match_id,
-            symbol: *symbol,
-            lots: *lots,
-            price: *price,
+        Command::ReportSide(it) => Some(Report {
+            firm: it.firm,
+            id: it.id,
+            match_id: it.match_id,
+            symbol: it.symbol,
+            lots: it.lots,
+            price: it.price,
             day,
-            side: *side,
-            account: *account,
+            side: it.side,
+            account: it.account,
         }),
         _ => None,
     }

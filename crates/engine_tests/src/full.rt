@@ -5,7 +5,7 @@ use crate::exchanges::{Desk, told};
 use crate::rows::check_told;
 use gu_book::Book;
 use gu_houses::OverBook;
-use gu_terms::{Command, Day};
+use gu_terms::{Command, Day, OpenDay};
 use std::alloc::Global;
 use std::process::Abort;
 use trials::{AMPLE, Talk};
@@ -26,7 +26,8 @@ fn full_book(rt: &impl Abort, alloc: Global) -> Book {
     let mut book = Book::new(alloc, sample(alloc).expect(rt, "the sample"));
     let day = Day::new(2026, 1, 5).expect(rt, "a day");
     for _ in 0..1_000_000 {
-        book.enter(Command::OpenDay { day }).expect(rt, "an entry");
+        book.enter(Command::OpenDay(OpenDay { day }))
+            .expect(rt, "an entry");
     }
     book
 }

@@ -11,7 +11,7 @@ use Rattle.gu_terms.specs.Same.{same_group}
 use Rattle.gu_terms.specs.declared.account.AccountId.{AccountId}
 use Rattle.gu_terms.specs.declared.alloc_reject.AllocReject.{AllocReject}
 use Rattle.gu_terms.specs.declared.command.Command.{Command}
-use Rattle.gu_terms.specs.declared.command.Command.TheVariants.{Claim, Refuse, Reverse}
+use Rattle.gu_terms.specs.declared.command.Command.TheVariants.{Refuse}
 use Rattle.gu_terms.specs.declared.entry.Entry.{Entry}
 use Rattle.gu_terms.specs.declared.firm.FirmId.{FirmId}
 use Rattle.gu_terms.specs.declared.group.Group.{Group}
@@ -49,7 +49,7 @@ use Rattle.gu_rules.proofs.Takers.{TakesOne, claim-takes, claimed}
 use Rattle.gu_book.specs.Accepted.{MayTakeIn, TakesIn}
 use Rattle.gu_book.specs.Beside.{IsBeside, IsKept, state_in}
 use Rattle.gu_book.specs.Effects.{HoldsMoved, SameEntries, UsesLess, UsesMore}
-use Rattle.gu_book.specs.Deeds.{AreFound, MovesLots}
+use Rattle.gu_book.specs.Deeds.{AreFound, MovesLots, claim_of, reversal_of}
 use Rattle.gu_book.specs.declared.deed.Moved.{Moved}
 use Rattle.gu_book.specs.declared.totals.Totals.{Totals}
 use Rattle.gu_book.proofs.KeptOffers.{kept-refused, kept-taken, kept-taken_back, within-taken}
@@ -130,14 +130,14 @@ lots-taken reference history old new entry n lots offer report found row seen ta
 
 -- what a claim of some firm moves
 abbrev pub ClaimsAll : Tables → Totals → Command → Moved → Type 0
-ClaimsAll reference totals command it = MovesLots reference totals command Claim it (left_in totals.offers it.number)
+ClaimsAll reference totals command it = MovesLots reference totals command claim_of it (left_in totals.offers it.number)
 
 -- a claim has room, and its lots are there
 pub claim-fits : (reference : Tables) (totals : Totals) (command : Command) (it : Moved) → MayTakeIn reference totals command → (is : ClaimsAll reference totals command it)
     → MayCharge totals.limits it.group (path_after reference is.offer) it.lots it.limits × (it.lots ≤ lots_in totals.positions it.report.side it.report.account it.report.symbol)
 claim-fits reference totals command it may is = (record { under = is.under; once = path_after-once reference is.offer; room = room }, there)
   where
-    asked : MayTakeIn reference totals (Claim is.firm it.number)
+    asked : MayTakeIn reference totals (claim_of is.firm it.number)
     asked = subst (MayTakeIn reference totals) is.is may
 
     history : List Entry
@@ -184,7 +184,7 @@ claim-taken reference old new command it is same offers uses holds =
 
 -- a refusal is taken in
 pub refusal-taken : (reference : Tables) (old new : Totals) (n : ℕ) → SameEntries old new → new.offers ≡ changed old.offers n closed → new.limits ≡ old.limits → new.positions ≡ old.positions
-    → (firm : FirmId) (why : AllocReject) → TakesIn reference old new (Refuse firm n why)
+    → (firm : FirmId) (why : AllocReject) → TakesIn reference old new (Refuse (record { firm = firm; offer = n; why = why }))
 refusal-taken reference old new n same offers limits positions firm why history kept accepted =
     let f = refusable reference history firm n why (in_order history kept.orderly) accepted in
     kept-refused reference history old new firm n why (left_in (standing_of history) n) f.0 f.1 kept f.2 same offers limits positions
@@ -199,14 +199,14 @@ key_at (key ∷ path) (suc k) d within = either-true (key_eq key (slice_index_or
 
 -- what a reversal of some firm moves
 abbrev pub TakesBack : Tables → Totals → Command → Moved → Type 0
-TakesBack reference totals command it = MovesLots reference totals command Reverse it (today_in totals.offers it.number)
+TakesBack reference totals command it = MovesLots reference totals command reversal_of it (today_in totals.offers it.number)
 
 -- what is reversed was used, and its lots are there
 pub reversal-fits : (reference : Tables) (totals : Totals) (command : Command) (it : Moved) → MayTakeIn reference totals command → (is : TakesBack reference totals command it)
     → MayReturn totals.limits it.group (path_after reference is.offer) it.lots it.limits × (it.lots ≤ lots_in totals.positions it.report.side it.account it.report.symbol)
 reversal-fits reference totals command it may is = (record { under = is.under; once = path_after-once reference is.offer; used = used }, there)
   where
-    asked : MayTakeIn reference totals (Reverse is.firm it.number)
+    asked : MayTakeIn reference totals (reversal_of is.firm it.number)
     asked = subst (MayTakeIn reference totals) is.is may
 
     history : List Entry

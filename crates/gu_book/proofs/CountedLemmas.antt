@@ -11,7 +11,7 @@ use Rattle.indexmap.specs.IndexMap.{get, get_key_by, IsUnique, Updates, values, 
 use Rattle.gu_terms.proofs.SameNames.{same_group-own, same_group-true}
 use Rattle.gu_terms.specs.Same.{same_group}
 use Rattle.gu_terms.specs.declared.command.Command.{Command}
-use Rattle.gu_terms.specs.declared.command.Command.TheVariants.{OpenDay, SetLimit, ReportSide, GiveUp, Claim, Refuse, Reverse}
+use Rattle.gu_terms.specs.declared.command.Command.TheVariants.{OpenDay}
 use Rattle.gu_terms.specs.declared.entry.Entry.{Entry}
 use Rattle.gu_terms.specs.declared.entry.Entry.TheVariants.{Asked}
 use Rattle.gu_terms.specs.declared.group.Group.{Group}
@@ -108,35 +108,31 @@ of-group history totals group at n offers here =
     ap (λ (o : Option Group). option_map_or (λ (at : Group). same_group at group) o false) (here ∙ ap (λ (rs : List Row). option_map (λ (row : Row). row.offer.group) (row_at rs n)) offers)
     ∙ of-row history group n
 
+-- the group of an offer that is found
+pub group-found : (found : Option Row) (offer : Offer) → Some offer ≡ option_map (λ (row : Row). row.offer) found → Some offer.group ≡ option_map (λ (row : Row). row.offer.group) found
+group-found None offer e = cc
+group-found (Some row) offer e = ap (λ (o : Option Offer). option_map (λ (o : Offer). o.group) o) e
+
 -- and so is one that is known
 of-offer : (history : List Entry) (totals : Totals) (group : Group) (offer : Offer) (n : ℕ) → totals.offers ≡ standing_of history → Some offer ≡ option_map (λ (row : Row). row.offer) (row_at totals.offers n)
     → same_group offer.group group ≡ is_of_group history group n
-of-offer history totals group offer n offers shown = of-group history totals group offer.group n offers (of (row_at totals.offers n) shown)
-  where
-    of : (found : Option Row) → Some offer ≡ option_map (λ (row : Row). row.offer) found → Some offer.group ≡ option_map (λ (row : Row). row.offer.group) found
-    of None e = cc
-    of (Some row) e = ap (λ (o : Option Offer). option_map (λ (o : Offer). o.group) o) e
+of-offer history totals group offer n offers shown = of-group history totals group offer.group n offers (group-found (row_at totals.offers n) offer shown)
 
 -- a deed touches the groups that its entry touches
 pub accepted-touches : (reference : Tables) (history : List Entry) (totals : Totals) (command : Command) (deed : Deed) (group : Group) → totals.offers ≡ standing_of history → IsDeedOf reference totals command deed
     → is_touched (touched_by deed) group ≡ touches history group (Asked command (Accepted (done_by deed)))
-accepted-touches reference history totals command (Opens day) group offers is = rw is refl
-accepted-touches reference history totals command (SetsLimit at key lots) group offers is = rw is refl
-accepted-touches reference history totals command (Reports report waiting) group offers is = rw is.is refl
-accepted-touches reference history totals command (GivesUp asked at first) group offers is = rw is.is refl
+accepted-touches reference history totals command (Opens opening) group offers is = rw is refl
+accepted-touches reference history totals command (SetsLimit limit) group offers is = rw is refl
+accepted-touches reference history totals command (Reports report today waiting) group offers is = rw is.is refl
+accepted-touches reference history totals command (GivesUp give_up at first) group offers is = rw is.is refl
 accepted-touches reference history totals command (Claims claimed) group offers is = rw (is.is, is.group_is) (of-offer history totals group is.offer claimed.number offers is.seen.shown)
 accepted-touches reference history totals command (Refuses number at lots) group offers is = rw is.is (of-group history totals group at number offers is.group_is)
 accepted-touches reference history totals command (Reverses reversed) group offers is = rw (is.is, is.group_is) (of-offer history totals group is.offer reversed.number offers is.seen.shown)
 
 -- and a refused command touches none
 pub denied-touches : (history : List Entry) (command : Command) (why : Refusal) (group : Group) → false ≡ touches history group (Asked command (Denied why))
-denied-touches history (OpenDay day) why group = refl
-denied-touches history (SetLimit at key lots) why group = refl
-denied-touches history (ReportSide firm id match_id symbol lots price day side account) why group = refl
-denied-touches history (GiveUp firm id report lines) why group = refl
-denied-touches history (Claim firm offer) why group = refl
-denied-touches history (Refuse firm offer reason) why group = refl
-denied-touches history (Reverse firm offer) why group = refl
+denied-touches history (OpenDay it) why group = refl
+denied-touches history command why group = refl
 
 -- ---- the counts after one more entry
 

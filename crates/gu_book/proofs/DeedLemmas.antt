@@ -9,23 +9,19 @@ use Rattle.gu_terms.specs.declared.refusal.Refusal.{Refusal}
 use Rattle.gu_terms.specs.declared.reply.Reply.TheVariants.{Accepted}
 use Rattle.gu_terms.specs.declared.report.Report.{Report}
 use Rattle.gu_ref.specs.Tables.{Tables}
-use Rattle.gu_trades.specs.Reports.{report_by, with_match}
-use Rattle.gu_trades.specs.declared.terms.Terms.{Terms}
+use Rattle.gu_trades.specs.Reports.{report_by}
 use Rattle.gu_offers.specs.Rows.{Row, row_at}
 use Rattle.gu_rules.specs.Answer.{answer, answer_in}
 use Rattle.gu_rules.specs.Offers.{standing_of}
 use Rattle.gu_rules.specs.Positions.{report_after}
-use Rattle.gu_rules.specs.Reports.{Fits}
 use Rattle.gu_rules.proofs.AcceptedCommands.{is-accepted}
 use Rattle.gu_rules.proofs.InOrder.{in_order}
 use Rattle.gu_rules.proofs.OrderlyLemmas.{all-at}
-use Rattle.gu_book.specs.Accepted.{MayDo, MayTakeIn, TakesIn}
+use Rattle.gu_book.specs.Accepted.{MayDo}
 use Rattle.gu_book.specs.Beside.{IsKept, state_in}
-use Rattle.gu_book.specs.Deeds.{Deed, HaveReports, IsDeedOf, MakesReport, done_by, reply_by}
-use Rattle.gu_book.specs.Effects.{HoldsMore, made_a_trade}
+use Rattle.gu_book.specs.Deeds.{Deed, HaveReports, IsDeedOf, done_by, reply_by}
 use Rattle.gu_book.specs.declared.totals.Totals.{Totals}
 use Rattle.gu_book.proofs.Accepting.{answer_is}
-use Rattle.gu_book.proofs.TakenIn.{report-fits, report-taken}
 
 -- what is kept has the reports of its offers
 pub have_reports : (reference : Tables) (history : List Entry) (totals : Totals) → IsKept reference history totals → HaveReports totals
@@ -52,18 +48,3 @@ may-do does reference history totals command asked decided deed same kept room o
     ap (reply_by does) (sym ok) ∙ told ∙ ap (answer_in reference (state_in totals)) (sym same) ∙ answer_is reference history totals command kept.beside in
     let its : IsDeedOf reference totals command (does deed) = subst (λ (c : Command). IsDeedOf reference totals c (does deed)) (sym same) is in
     (reply, (record { command = command; may = record { history = history; kept = kept; accepted = is-accepted reference history command (Accepted (done_by (does deed))) room reply refl }; is = its }, its))
-
--- ---- reports
-
--- a report that is made fits those before it
-pub made-fits : (reference : Tables) (totals : Totals) (command : Command) (report : Report) (waiting : Option Terms) → MayTakeIn reference totals command → MakesReport totals command report waiting → Fits totals.trades report
-made-fits reference totals command report waiting may is =
-    report-fits reference report.firm report.id report.match_id report.symbol report.lots report.price is.day report.side report.account report.day totals is.today (subst (MayTakeIn reference totals) is.is may)
-
--- and is taken in
-pub made-taken : (reference : Tables) (old new : Totals) (command : Command) (report : Report) (waiting : Option Terms) → MakesReport old command report waiting
-    → new.today ≡ old.today → new.give_ups.keys ≡ old.give_ups.keys → new.offers ≡ old.offers → new.limits ≡ old.limits
-    → new.trades ≡ old.trades ++ report ∷ [] → HoldsMore old.positions new.positions (made_a_trade (with_match report.match_id old.trades) report) → TakesIn reference old new command
-made-taken reference old new command report waiting is today give_ups offers limits trades holds =
-    subst (TakesIn reference old new) (sym is.is)
-    (report-taken reference report.firm report.id report.match_id report.symbol report.lots report.price is.day report.side report.account report.day old new is.today today give_ups offers limits trades holds)

@@ -22,19 +22,16 @@ ghost use Rattle.gu_offers.specs.Rows.{Row, left_in, row_at, today_in};
 ghost use Rattle.gu_book.specs.Beside.{answer_to_match, group_named_by, some_lots, standing_given_up, state_in, waiting_of};
 ghost use Rattle.gu_book.specs.Deeds.{HaveReports, IsDeedOf, reply_by};
 
-use crate::asked::{
-    Asked, ClaimAsked, GiveUpAsked, LimitAsked, OpeningAsked, RefusalAsked, ReportAsked,
-    ReversalAsked,
-};
-use crate::deed::{Claim, Closing, LimitChange, Moved, NewOffers, NewReport, Opening, Reversal};
+use crate::deciding::Decide;
+use crate::deed::{Closing, Moved, NewClaim, NewOffers, NewReport, Reversal};
 use crate::totals::Totals;
 use gu_limits::{LimitTable, PathLimits, path_by};
 use gu_ref::{Partner, Reference};
 use gu_terms::{
-    Day, FirmId, Group, Id, LimitKey, Line, Lots, MOST_LIMIT, MOST_OPEN_OFFERS, Offer, OfferNo,
-    Path, Refusal,
+    Claim, Day, FirmId, GiveUp, Group, Id, LimitKey, Line, Lots, MOST_LIMIT, MOST_OPEN_OFFERS,
+    Offer, OfferNo, OpenDay, Path, Refusal, Refuse, ReportSide, Reverse, SetLimit,
 };
-use gu_trades::{Counterpart, ReportRef, Standing, Terms};
+use gu_trades::{Counterpart, Standing, Terms};
 
 /// Whether a day comes after the open one.
 fn is_later(today: Option<Day>, day: Day) -> bool
@@ -81,65 +78,65 @@ fn waiting_of(counterpart: &Counterpart) -> Result<Option<Terms>, Refusal>
     }
 }
 
-impl<'a> Asked for ReportAsked<'a> {
+impl<'a> Decide<'a> for ReportSide {
     type Does = NewReport<'a>;
 
-    ghost command = { λ a. Command.ReportSide a.firm.now a.id.now a.match_id.now a.symbol.now a.lots.now a.price.now a.day.now a.side.now a.account.now };
+    ghost command = { Command.ReportSide };
 
-    fn decide(&self, reference: &Reference, totals: &Totals) -> Result<NewReport<'a>, Refusal> {
+    fn decide(&'a self, reference: &Reference, totals: &Totals) -> Result<NewReport<'a>, Refusal> {
         let Some(today) = totals.today else {
             return Err(Refusal::NoDay);
         };
-        if is_other_day(today, *self.day) {
+        if is_other_day(today, self.day) {
             return Err(Refusal::WrongDay);
         }
-        if !reference.is_instrument(*self.symbol) {
+        if !reference.is_instrument(self.symbol) {
             return Err(Refusal::UnknownInstrument);
         }
-        let Some(row) = reference.account(*self.account) else {
+        let Some(row) = reference.account(self.account) else {
             return Err(Refusal::UnknownAccount);
         };
-        if row.firm != *self.firm {
+        if row.firm != self.firm {
             return Err(Refusal::NotYours);
         }
-        if totals.trades.has(self.firm, self.id) {
+        if totals.trades.has(&self.firm, &self.id) {
             return Err(Refusal::DuplicateId);
         }
-        let report = self.report_on(today);
-        let counterpart = totals.trades.counterpart(self.match_id, report.terms());
+        let terms = Terms::on(today, self);
+        let counterpart = totals.trades.counterpart(&self.match_id, &terms);
         let waiting = waiting_of(&counterpart)?;
-        Ok(NewReport { report, waiting })
-    }
-}
-
-impl<'a> Asked for LimitAsked<'a> {
-    type Does = LimitChange;
-
-    ghost command = { λ a. Command.SetLimit a.group.now a.key.now a.lots.now };
-
-    fn decide(&self, reference: &Reference, _totals: &Totals) -> Result<LimitChange, Refusal> {
-        if !(reference.group(*self.group) && is_known_key(reference, *self.key)) {
-            return Err(Refusal::UnknownKey);
-        }
-        if *self.lots > MOST_LIMIT {
-            return Err(Refusal::TooHigh);
-        }
-        Ok(LimitChange {
-            group: *self.group,
-            key: *self.key,
-            lots: *self.lots,
+        Ok(NewReport {
+            report: self,
+            today,
+            waiting,
         })
     }
 }
 
-impl<'a> Asked for OpeningAsked<'a> {
-    type Does = Opening;
+impl<'a> Decide<'a> for SetLimit {
+    type Does = SetLimit;
 
-    ghost command = { λ a. Command.OpenDay a.day.now };
+    ghost command = { Command.SetLimit };
 
-    fn decide(&self, _reference: &Reference, totals: &Totals) -> Result<Opening, Refusal> {
-        if is_later(totals.today, *self.day) {
-            Ok(Opening { day: *self.day })
+    fn decide(&'a self, reference: &Reference, _totals: &Totals) -> Result<SetLimit, Refusal> {
+        if !(reference.group(self.group) && is_known_key(reference, self.key)) {
+            return Err(Refusal::UnknownKey);
+        }
+        if self.lots > MOST_LIMIT {
+            return Err(Refusal::TooHigh);
+        }
+        Ok(*self)
+    }
+}
+
+impl<'a> Decide<'a> for OpenDay {
+    type Does = OpenDay;
+
+    ghost command = { Command.OpenDay };
+
+    fn decide(&'a self, _reference: &Reference, totals: &Totals) -> Result<OpenDay, Refusal> {
+        if is_later(totals.today, self.day) {
+            Ok(*self)
         } else {
             Err(Refusal::WrongDay)
         }
@@ -205,12 +202,12 @@ fn lacks_agreement(reference: &Reference, firm: &FirmId, lines: &[Line]) -> bool
 /// Why lines of a firm's report can't be given up in its group, if they can't.
 fn refusal_of_lines(
     totals: &Totals,
-    asked: GiveUpAsked<'_>,
+    asked: &GiveUp,
     given: &(Standing, Group),
     lacks: bool,
 ) -> Option<Refusal>
-    ensures { (reference : Tables) → lacks ≡ lacks_agreement reference asked.entry.firm.now asked.entry.lines.now
-        → result ≡ refusal_in (tests_of_lines reference totals.now.offers asked.entry.firm.now asked.entry.report.now given.now.0 given.now.1 asked.entry.lines.now) }
+    ensures { (reference : Tables) → lacks ≡ lacks_agreement reference asked.now.firm asked.now.lines
+        → result ≡ refusal_in (tests_of_lines reference totals.now.offers asked.now.firm asked.now.report given.now.0 given.now.1 asked.now.lines) }
 {
     let (standing, group) = given;
     if !standing.is_of_trade {
@@ -219,7 +216,7 @@ fn refusal_of_lines(
     if lacks {
         return Some(Refusal::NoAgreement);
     }
-    let counted = totals.offers.counted(*asked.firm, *asked.report);
+    let counted = totals.offers.counted(asked.firm, asked.report);
     if standing.terms.lots.get().saturating_sub(counted) < asked.lines.lots() {
         return Some(Refusal::TooManyLots);
     }
@@ -229,30 +226,30 @@ fn refusal_of_lines(
     None
 }
 
-impl<'a> Asked for GiveUpAsked<'a> {
+impl<'a> Decide<'a> for GiveUp {
     type Does = NewOffers<'a>;
 
-    ghost command = { λ a. Command.GiveUp a.firm.now a.id.now a.report.now a.lines.now };
+    ghost command = { Command.GiveUp };
 
-    fn decide(&self, reference: &Reference, totals: &Totals) -> Result<NewOffers<'a>, Refusal> {
+    fn decide(&'a self, reference: &Reference, totals: &Totals) -> Result<NewOffers<'a>, Refusal> {
         if totals.today.is_none() {
             return Err(Refusal::NoDay);
         }
-        let lacks = lacks_agreement(reference, self.firm, self.lines.as_slice());
+        let lacks = lacks_agreement(reference, &self.firm, self.lines.as_slice());
         if has_unknown_account_without(reference, self.lines.as_slice(), lacks) {
             return Err(Refusal::UnknownAccount);
         }
-        if totals.has_give_up(self.firm, self.id) {
+        if totals.has_give_up(&self.firm, &self.id) {
             return Err(Refusal::DuplicateId);
         }
-        let Some(given) = given_up(reference, totals, self.firm, self.report) else {
+        let Some(given) = given_up(reference, totals, &self.firm, &self.report) else {
             return Err(Refusal::UnknownTrade);
         };
-        if let Some(refusal) = refusal_of_lines(totals, *self, &given, lacks) {
+        if let Some(refusal) = refusal_of_lines(totals, self, &given, lacks) {
             return Err(refusal);
         }
         Ok(NewOffers {
-            asked: *self,
+            give_up: self,
             group: given.1,
             first: OfferNo::known(totals.offers.count() as u64 + 1),
         })
@@ -374,14 +371,14 @@ fn terms_given_up(totals: &Totals, offer: &Offer) -> Terms
     report
 }
 
-impl<'a> Asked for ClaimAsked<'a> {
-    type Does = Claim;
+impl<'a> Decide<'a> for Claim {
+    type Does = NewClaim;
 
-    ghost command = { λ a. Command.Claim a.firm.now a.offer.now };
+    ghost command = { Command.Claim };
 
-    fn decide(&self, reference: &Reference, totals: &Totals) -> Result<Claim, Refusal> {
-        let (offer, partner) = offer_to(reference, totals, *self.firm, *self.offer)?;
-        let Some(lots) = lots_left(totals, *self.offer) else {
+    fn decide(&'a self, reference: &Reference, totals: &Totals) -> Result<NewClaim, Refusal> {
+        let (offer, partner) = offer_to(reference, totals, self.firm, self.offer)?;
+        let Some(lots) = lots_left(totals, self.offer) else {
             return Err(Refusal::OfferClosed);
         };
         let path = path_with(reference, &offer, &partner);
@@ -390,51 +387,51 @@ impl<'a> Asked for ClaimAsked<'a> {
             Err(key) => return Err(Refusal::LimitReached(key)),
         };
         let claimed = Moved {
-            number: *self.offer,
+            number: self.offer,
             group: offer.group,
             account: offer.account,
             report: terms_given_up(totals, &offer),
             limits,
             lots,
         };
-        Ok(Claim { claimed })
+        Ok(NewClaim { claimed })
     }
 }
 
-impl<'a> Asked for RefusalAsked<'a> {
+impl<'a> Decide<'a> for Refuse {
     type Does = Closing;
 
-    ghost command = { λ a. Command.Refuse a.firm.now a.offer.now a.why.now };
+    ghost command = { Command.Refuse };
 
-    fn decide(&self, reference: &Reference, totals: &Totals) -> Result<Closing, Refusal> {
-        let (offer, _) = offer_to(reference, totals, *self.firm, *self.offer)?;
-        let Some(lots) = lots_left(totals, *self.offer) else {
+    fn decide(&'a self, reference: &Reference, totals: &Totals) -> Result<Closing, Refusal> {
+        let (offer, _) = offer_to(reference, totals, self.firm, self.offer)?;
+        let Some(lots) = lots_left(totals, self.offer) else {
             return Err(Refusal::OfferClosed);
         };
         Ok(Closing {
-            number: *self.offer,
+            number: self.offer,
             group: offer.group,
             lots,
         })
     }
 }
 
-impl<'a> Asked for ReversalAsked<'a> {
+impl<'a> Decide<'a> for Reverse {
     type Does = Reversal;
 
-    ghost command = { λ a. Command.Reverse a.firm.now a.offer.now };
+    ghost command = { Command.Reverse };
 
-    fn decide(&self, reference: &Reference, totals: &Totals) -> Result<Reversal, Refusal> {
-        let (offer, partner) = offer_to(reference, totals, *self.firm, *self.offer)?;
-        if totals.offers.left(*self.offer) > 0 {
+    fn decide(&'a self, reference: &Reference, totals: &Totals) -> Result<Reversal, Refusal> {
+        let (offer, partner) = offer_to(reference, totals, self.firm, self.offer)?;
+        if totals.offers.left(self.offer) > 0 {
             return Err(Refusal::OfferOpen);
         }
-        let Some(lots) = lots_moved_today(totals, *self.offer) else {
+        let Some(lots) = lots_moved_today(totals, self.offer) else {
             return Err(Refusal::NothingToReverse);
         };
         let path = path_with(reference, &offer, &partner);
         let reversed = Moved {
-            number: *self.offer,
+            number: self.offer,
             group: offer.group,
             account: offer.account,
             report: terms_given_up(totals, &offer),

@@ -23,11 +23,8 @@ ghost use Rattle.gu_book.specs.Refusals.{commit_error_of};
 ghost use Rattle.gu_view.specs.View.{IsNested};
 
 use crate::answering::group_of;
-use crate::asked::{
-    Asked, ClaimAsked, GiveUpAsked, LimitAsked, OpeningAsked, RefusalAsked, ReportAsked,
-    ReversalAsked,
-};
 use crate::current::shows_all;
+use crate::deciding::Decide;
 use crate::deed::Deed;
 use crate::error::{AskError, CommitError, EnterError, SeenError};
 use crate::limits::rows_in_order;
@@ -134,9 +131,13 @@ impl Book {
     }
 
     /// Adds a command of one kind with its answer, and tells the answer.
-    fn append_asked<A: Asked>(&mut self, command: &Command, asked: &A) -> Result<Reply, AllocError>
+    fn append_asked<'a, C: Decide<'a>>(
+        &mut self,
+        command: &Command,
+        asked: &'a C,
+    ) -> Result<Reply, AllocError>
         requires room { length self.old.history < 1000000 }
-        requires same { command.now ≡ A.command asked.now }
+        requires same { command.now ≡ C.command asked.now }
         ensures entered { IfOk result (λ reply. self.new.history ≡ self.old.history ++ Entry.Asked command.now reply ∷ []) }
         ensures reply { IfOk result (λ reply. reply ≡ answer self.old.reference self.old.history command.now) }
         ensures stands { IfOk result (λ reply. StandsLast self.old.reference (length self.old.history + 1) (Entry.Asked command.now reply)) }
@@ -173,49 +174,13 @@ impl Book {
         ensures refused { OnErr result (self.new.history ≡ self.old.history) }
     {
         match command {
-            Command::OpenDay { day } => self.append_asked(command, &OpeningAsked { day }),
-            Command::SetLimit { group, key, lots } => {
-                self.append_asked(command, &LimitAsked { group, key, lots })
-            }
-            Command::ReportSide {
-                firm,
-                id,
-                match_id,
-                symbol,
-                lots,
-                price,
-                day,
-                side,
-                account,
-            } => {
-                let asked = ReportAsked {
-                    firm,
-                    id,
-                    match_id,
-                    symbol,
-                    lots,
-                    price,
-                    day,
-                    side,
-                    account,
-                };
-                self.append_asked(command, &asked)
-            }
-            Command::GiveUp {
-                firm,
-                id,
-                report,
-                lines,
-            } => self.append_asked(command, &GiveUpAsked::new(firm, id, report, lines)),
-            Command::Claim { firm, offer } => {
-                self.append_asked(command, &ClaimAsked { firm, offer })
-            }
-            Command::Refuse { firm, offer, why } => {
-                self.append_asked(command, &RefusalAsked { firm, offer, why })
-            }
-            Command::Reverse { firm, offer } => {
-                self.append_asked(command, &ReversalAsked { firm, offer })
-            }
+            Command::OpenDay(opening) => self.append_asked(command, opening),
+            Command::SetLimit(limit) => self.append_asked(command, limit),
+            Command::ReportSide(report) => self.append_asked(command, report),
+            Command::GiveUp(give_up) => self.append_asked(command, give_up),
+            Command::Claim(claim) => self.append_asked(command, claim),
+            Command::Refuse(refusal) => self.append_asked(command, refusal),
+            Command::Reverse(reversal) => self.append_asked(command, reversal),
         }
     }
 

@@ -6,12 +6,13 @@ ghost use Rattle.gu_book.specs.Accepted.{MayDo, TakesDeed};
 ghost use Rattle.gu_book.specs.Deeds.{Claims, Deed as DeedOf, GivesUp, Opens, Refuses, Reports, Reverses, SetsLimit, done_by, touched_by};
 ghost use Rattle.gu_book.specs.Effects.{SameAnswers};
 
-use crate::asked::GiveUpAsked;
 use crate::totals::Totals;
 use crate::versions::Touched;
 use gu_limits::PathLimits;
-use gu_terms::{AccountId, Day, Done, Group, LimitKey, Lots, OfferNo, Reply};
-use gu_trades::{ReportRef, Terms};
+use gu_terms::{
+    AccountId, Day, Done, GiveUp, Group, Lots, OfferNo, OpenDay, Reply, ReportSide, SetLimit,
+};
+use gu_trades::Terms;
 use std::alloc::AllocError;
 
 /// Lots of an offer that are claimed or taken back.
@@ -28,24 +29,11 @@ pub struct Moved {
     pub lots: Lots,
 }
 
-/// A day is opened.
-#[derive(Drop)]
-pub struct Opening {
-    pub day: Day,
-}
-
-/// A limit is set.
-#[derive(Drop)]
-pub struct LimitChange {
-    pub group: Group,
-    pub key: LimitKey,
-    pub lots: u64,
-}
-
-/// A report is made.
+/// A report is made on the open day.
 #[derive(Drop)]
 pub struct NewReport<'a> {
-    pub report: ReportRef<'a>,
+    pub report: &'a ReportSide,
+    pub today: Day,
     /// The terms of the report that waits for it, where one does.
     pub waiting: Option<Terms>,
 }
@@ -53,14 +41,14 @@ pub struct NewReport<'a> {
 /// Lines of a report are given up.
 #[derive(Drop)]
 pub struct NewOffers<'a> {
-    pub asked: GiveUpAsked<'a>,
+    pub give_up: &'a GiveUp,
     pub group: Group,
     pub first: OfferNo,
 }
 
 /// An offer is claimed.
 #[derive(Drop)]
-pub struct Claim {
+pub struct NewClaim {
     pub claimed: Moved,
 }
 
@@ -99,8 +87,8 @@ pub trait Deed: Drop {
         ensures refused { OnErr result (SameAnswers totals.old totals.new) };
 }
 
-impl Deed for Opening {
-    ghost does = { λ d. Opens d.day };
+impl Deed for OpenDay {
+    ghost does = { λ d. Opens d };
 
     fn reply(&self) -> Reply {
         Reply::Accepted(Done::Opened)
@@ -116,15 +104,15 @@ impl Deed for Opening {
     }
 }
 
-impl Deed for LimitChange {
-    ghost does = { λ d. SetsLimit d.group d.key d.lots };
+impl Deed for SetLimit {
+    ghost does = { λ d. SetsLimit d };
 
     fn reply(&self) -> Reply {
         Reply::Accepted(Done::LimitSet)
     }
 
     fn touched(&self) -> Touched {
-        let LimitChange { group, .. } = self;
+        let SetLimit { group, .. } = self;
         Touched::Only(*group)
     }
 
@@ -134,7 +122,7 @@ impl Deed for LimitChange {
 }
 
 impl<'a> Deed for NewReport<'a> {
-    ghost does = { λ d. Reports d.report d.waiting };
+    ghost does = { λ d. Reports d.report.now d.today d.waiting };
 
     fn reply(&self) -> Reply {
         Reply::Accepted(Done::Reported {
@@ -147,18 +135,18 @@ impl<'a> Deed for NewReport<'a> {
     }
 
     fn take_in(&self, totals: &mut Totals) -> Result<(), AllocError> {
-        totals.report(&self.report, &self.waiting)
+        totals.report(self.report, self.today, &self.waiting)
     }
 }
 
 impl<'a> Deed for NewOffers<'a> {
-    ghost does = { λ d. GivesUp d.asked d.group d.first };
+    ghost does = { λ d. GivesUp d.give_up.now d.group d.first };
 
     fn reply(&self) -> Reply {
         Reply::Accepted(Done::Offered {
             group: self.group,
             first: self.first,
-            count: self.asked.lines.as_slice().len() as u64,
+            count: self.give_up.lines.count(),
         })
     }
 
@@ -168,12 +156,12 @@ impl<'a> Deed for NewOffers<'a> {
 
     fn take_in(&self, totals: &mut Totals) -> Result<(), AllocError> {
         // Shows the prover: how many lines there may be.
-        let _ = self.asked.lines.as_slice();
-        totals.give_up(&self.asked, &self.group)
+        let _ = self.give_up.lines.as_slice();
+        totals.give_up(self.give_up, &self.group)
     }
 }
 
-impl Deed for Claim {
+impl Deed for NewClaim {
     ghost does = { λ d. Claims d.claimed };
 
     fn reply(&self) -> Reply {

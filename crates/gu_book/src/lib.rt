@@ -2,10 +2,10 @@
 #![tactic(auto)]
 
 mod answering;
-mod asked;
 mod asking;
 mod book;
 mod current;
+mod deciding;
 mod deed;
 mod error;
 mod limits;

@@ -13,20 +13,22 @@ ghost use Rattle.gu_terms.specs.declared.limit_key.LimitKey.{LimitKey as LimitKe
 ghost use Rattle.gu_terms.specs.declared.side.Side.{Side as SideOf};
 ghost use Rattle.gu_terms.specs.declared.symbol.Symbol.{Symbol as SymbolOf};
 ghost use Rattle.gu_trades.specs.Counterparts.{counterpart_of};
-ghost use Rattle.gu_trades.specs.Reports.{has_report, report_by, with_match};
+ghost use Rattle.gu_trades.specs.Reports.{has_report, made_on, report_by, with_match};
 ghost use Rattle.gu_trades.specs.Terms.{terms_of};
 ghost use Rattle.gu_rules.specs.Reports.{Fits};
 ghost use Rattle.gu_book.specs.Beside.{is_kept_give_up, waiting_of};
 ghost use Rattle.gu_book.specs.Effects.{HoldsMore, HoldsMoved, KeepsMade, SameAnswers, SameEntries, UsesNothing, made_a_trade};
 ghost use Rattle.gu_book.specs.Moving.{given_by};
 
-use crate::asked::GiveUpAsked;
 use crate::deed::Moved;
 use gu_limits::LimitTable;
 use gu_offers::Offers;
 use gu_positions::{Positions, RowNo};
-use gu_terms::{AccountId, Day, FirmId, Group, Id, LimitKey, Offer, OfferNo, Seed, Symbol, Take};
-use gu_trades::{ReportRef, Terms, Trades};
+use gu_terms::{
+    AccountId, Day, FirmId, GiveUp, Group, Id, LimitKey, Offer, OfferNo, ReportSide, Seed, Symbol,
+    Take,
+};
+use gu_trades::{Terms, Trades};
 use indexmap::IndexSet;
 use std::alloc::{AllocError, Global};
 
@@ -129,58 +131,59 @@ impl Totals {
         Ok(())
     }
 
-    /// A report is taken in. Once it makes a trade with one that waits, which is of these terms, the lots of both are held.
+    /// A report is taken in on this day. Once it makes a trade with one that waits, which is of these terms, the lots of both are held.
     pub fn report(
         &mut self,
-        report: &ReportRef<'_>,
+        report: &ReportSide,
+        today: Day,
         waiting: &Option<Terms>,
     ) -> Result<(), AllocError>
-        requires fits { Fits self.old.trades report.now }
-        requires waiting { waiting.now ≡ waiting_of (counterpart_of (with_match report.now.match_id self.old.trades) (terms_of report.now)) }
+        requires fits { Fits self.old.trades (made_on today report.now) }
+        requires waiting { waiting.now ≡ waiting_of (counterpart_of (with_match report.now.match_id self.old.trades) (terms_of (made_on today report.now))) }
         requires room { (side : SideOf) (symbol : SymbolOf) → lots_on self.old.positions side symbol + 2000000 < 2 ^ 64 }
         ensures today { self.new.today ≡ self.old.today }
         ensures give_ups { self.new.give_ups.keys ≡ self.old.give_ups.keys }
-        ensures trades { OnOk result (self.new.trades ≡ self.old.trades ++ report.now ∷ []) }
+        ensures trades { OnOk result (self.new.trades ≡ self.old.trades ++ made_on today report.now ∷ []) }
         ensures offers { self.new.offers ≡ self.old.offers }
         ensures limits { self.new.limits ≡ self.old.limits }
         ensures positions { OnOk result (HoldsMore self.old.positions self.new.positions
-            (made_a_trade (with_match report.now.match_id self.old.trades) report.now)) }
+            (made_a_trade (with_match report.now.match_id self.old.trades) (made_on today report.now))) }
         ensures refused { OnErr result (SameAnswers self.old self.new) }
     {
         let Some(waiting) = waiting else {
-            self.trades.push(report)?;
+            self.trades.push(report, today)?;
             return Ok(());
         };
-        let terms = report.terms();
+        let terms = Terms::on(today, report);
         let rows = make_rows(
             &mut self.positions,
             (&terms.account, &terms.symbol),
             (&waiting.account, &waiting.symbol),
         )?;
-        self.trades.push(report)?;
+        self.trades.push(report, today)?;
         hold(&mut self.positions, &rows.1, waiting);
-        hold(&mut self.positions, &rows.0, terms);
+        hold(&mut self.positions, &rows.0, &terms);
         Ok(())
     }
 
     /// Lines of a report are given up.
-    pub fn give_up(&mut self, asked: &GiveUpAsked<'_>, group: &Group) -> Result<(), AllocError>
-        requires new_id { is_kept_give_up self.old.give_ups.keys asked.now.firm.now asked.now.id.now ≡ false }
-        requires numbers { length self.old.offers + length asked.now.lines.now ≤ 16000000 }
+    pub fn give_up(&mut self, asked: &GiveUp, group: &Group) -> Result<(), AllocError>
+        requires new_id { is_kept_give_up self.old.give_ups.keys asked.now.firm asked.now.id ≡ false }
+        requires numbers { length self.old.offers + length asked.now.lines ≤ 16000000 }
         ensures today { self.new.today ≡ self.old.today }
         ensures trades { self.new.trades ≡ self.old.trades }
-        ensures give_ups { OnOk result (self.new.give_ups.keys ≡ self.old.give_ups.keys ++ record { firm = asked.now.firm.now; id = asked.now.id.now } ∷ []) }
-        ensures offers { OnOk result (self.new.offers ≡ with_lines self.old.offers asked.now.firm.now asked.now.report.now group.now asked.now.lines.now) }
+        ensures give_ups { OnOk result (self.new.give_ups.keys ≡ self.old.give_ups.keys ++ record { firm = asked.now.firm; id = asked.now.id } ∷ []) }
+        ensures offers { OnOk result (self.new.offers ≡ with_lines self.old.offers asked.now.firm asked.now.report group.now asked.now.lines) }
         ensures limits { self.new.limits ≡ self.old.limits }
         ensures positions { self.new.positions ≡ self.old.positions }
         ensures refused { OnErr result (SameAnswers self.old self.new) }
     {
         self.give_ups.reserve(1)?;
         self.offers
-            .give_up(*asked.firm, *asked.report, *group, asked.lines)?;
+            .give_up(asked.firm, asked.report, *group, &asked.lines)?;
         self.give_ups.insert(GiveUpKey {
-            firm: *asked.firm,
-            id: *asked.id,
+            firm: asked.firm,
+            id: asked.id,
         })?;
         Ok(())
     }

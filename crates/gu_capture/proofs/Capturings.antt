@@ -59,7 +59,7 @@ passes_unsent old frame fields fault read unsent = record {
 -- a firm's report is answered, where its acknowledgement is appended
 pub acknowledged : {E : Type 0} (result : Result (Unit {0}) E) (old new : Capture) (frame : List ℕ) (fields : List TagValue) (fault : Option FieldFault) (firm : FirmId) (report : TradeCaptureReport) (before behind : List ℕ)
     → HasFields frame fields fault → is_some fault ≡ false → Says fields (inbound.TradeCaptureReport report) → IsSentBy fields firm
-    → OnOk result ((text : List ℕ) × IsTextOf (acknowledgement old firm report) text × (behind ≡ before ++ text)) → OnOk result (new ≡ capture_after old (side_of firm report))
+    → OnOk result ((text : List ℕ) × IsTextOf (acknowledgement old firm report) text × (behind ≡ before ++ text)) → OnOk result (new ≡ capture_after old (ReportSide (side_of firm report)))
     → OnOk result ((text : List ℕ) × (behind ≡ before ++ text) × AnswersFrame old frame text new)
 acknowledged (Ok _) old new frame fields None firm report before behind read none says sent text_is new_is = (
   text_is.0,

@@ -2,7 +2,7 @@
 use Rattle.std.specs.Prelude.{◌≡◌, ℕ, ◌+◌, ◌⊎◌, ◌++◌, false, List, [], ◌∷◌, length, min, nat_lt, None, Some, Option, if◌then◌else◌}
 use Rattle.std.specs.Io.KnownBytes.{Consumes, Appends, IsAtEnd}
 use Rattle.gu_terms.specs.declared.command.Command.{Command}
-use Rattle.gu_terms.specs.declared.command.Command.TheVariants.{OpenDay}
+use Rattle.gu_terms.specs.declared.command.Command.TheVariants.{OpenDay, ReportSide}
 use Rattle.gu_terms.specs.declared.day.Day.{Day}
 use Rattle.gu_terms.specs.declared.firm.FirmId.{FirmId}
 use Rattle.gu_terms.specs.declared.entry.Entry.TheVariants.{Asked}
@@ -84,7 +84,7 @@ message_to capture firm report rejection = record {
 
 -- the acknowledgement of a firm's report
 abbrev pub acknowledgement : Capture → FirmId → TradeCaptureReport → Outbound
-acknowledgement capture firm report = message_to capture firm report (rejection_in capture.book (side_of firm report))
+acknowledgement capture firm report = message_to capture firm report (rejection_in capture.book (ReportSide (side_of firm report)))
 
 -- the engine after a command and its acknowledgement
 abbrev pub capture_after : Capture → Command → Capture
@@ -106,7 +106,7 @@ pub record Acknowledges (old : Capture) (frame text : List ℕ) (new : Capture) 
   pub report : TradeCaptureReport
   pub reported : Reports frame firm report
   pub answered : IsTextOf (acknowledgement old firm report) text
-  pub new_is : new ≡ capture_after old (side_of firm report)
+  pub new_is : new ≡ capture_after old (ReportSide (side_of firm report))
 
 -- anything else by nothing
 pub record PassesOver (old : Capture) (frame text : List ℕ) (new : Capture) : Type 0 where
@@ -139,7 +139,7 @@ capturing = record {
 -- the engine at its start: the day is open, nothing else was entered, and messages are sent at the day's midnight
 abbrev pub capture_at_start : Tables → Day → Capture
 capture_at_start reference day = record {
-  book = record { reference = reference; history = Asked (OpenDay day) (Accepted Opened) ∷ [] };
+  book = record { reference = reference; history = Asked (OpenDay (record { day = day })) (Accepted Opened) ∷ [] };
   sending_time = midnight_of day;
   next = 1;
 }

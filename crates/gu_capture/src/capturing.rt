@@ -24,7 +24,7 @@ use gu_msgs::{
 };
 use gu_ref::Reference;
 use gu_streams::{CountedReads, StreamError, send};
-use gu_terms::{Command, Day, FirmId, Moment, Seed};
+use gu_terms::{Command, Day, FirmId, Moment, OpenDay, Seed};
 use std::alloc::{AllocError, Global};
 use std::io::{Read, Write};
 use std::marker::Model;
@@ -121,9 +121,9 @@ impl Capturing {
     ) -> Result<(), AllocError>
         ensures text { OnOk result ((text : List ℕ) × IsTextOf (acknowledgement self.old firm.now report.now) text
             × (output.new.items ≡ output.old.items ++ text)) }
-        ensures after { OnOk result (self.new ≡ capture_after self.old (side_of firm.now report.now)) }
+        ensures after { OnOk result (self.new ≡ capture_after self.old (Command.ReportSide (side_of firm.now report.now))) }
     {
-        let command = report.side_of(*firm);
+        let command = Command::ReportSide(report.side_of(*firm));
         match self.enter(&command) {
             Ok(rejection) => self.answer_report(firm, report, rejection, output),
             Err(refused) => Err(refused),
@@ -194,7 +194,7 @@ fn opened(
     ensures { IfOk result (λ capturing. capturing ≡ capture_at_start reference day) }
 {
     let mut book = Book::seeded(alloc, reference, seed);
-    match book.enter(Command::OpenDay { day }) {
+    match book.enter(Command::OpenDay(OpenDay { day })) {
         Ok(_) => Ok(Capturing {
             alloc,
             book,

@@ -21,8 +21,8 @@ use Rattle.gu_days.proofs.Played.{alike-entry, follows-here, legal-on, none_apar
 
 -- a report that names no day has no days apart, and is itself without one
 none_undated : (today : Option Day) (command : Command) → days_apart today (undated command) ≡ None
-none_undated None (ReportSide firm id match_id symbol lots price day side account) = refl
-none_undated (Some today) (ReportSide firm id match_id symbol lots price day side account) = refl
+none_undated None (ReportSide it) = refl
+none_undated (Some today) (ReportSide it) = refl
 none_undated today command = none_apart today command tt
 
 command_said-again : (today : Option Day) (command : Command) (days : Option (Day × Day)) → command_said (played command days) (days_apart today (played command days)) ≡ command_said command days
@@ -30,9 +30,9 @@ command_said-again today command None =
     ap (command_said (undated command)) (none_undated today command) ∙ twice command
   where
     twice : (c : Command) → command_said (undated c) None ≡ command_said c None
-    twice (ReportSide firm id match_id symbol lots price day side account) = refl
+    twice (ReportSide it) = refl
     twice c = refl
-command_said-again today command (Some days) = ap (command_said (OpenDay days.1)) (none_apart today (OpenDay days.1) tt)
+command_said-again today command (Some days) = ap (command_said (OpenDay (record { day = days.1 }))) (none_apart today (OpenDay (record { day = days.1 })) tt)
 
 entry_said-again : (today : Option Day) (entry other : Entry) → IsPlayedBack today entry other → entry_said today other ≡ entry_said today entry
 entry_said-again today (Asked command reply) other back = ap (entry_said today) back ∙ command_said-again today command (days_apart today command)

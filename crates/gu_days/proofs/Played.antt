@@ -4,25 +4,19 @@ use Rattle.std.specs.Option.{option_map_or, option_or}
 use Rattle.std.proofs.Math.Seq.{take-append_seam}
 use Rattle.gu_terms.specs.Days.{date_number}
 use Rattle.gu_terms.specs.Same.{same_day, same_group}
-use Rattle.gu_terms.specs.declared.account.AccountId.{AccountId}
 use Rattle.gu_terms.specs.declared.command.Command.{Command}
 use Rattle.gu_terms.specs.declared.command.Command.TheVariants.{OpenDay, ReportSide, Claim, Refuse, Reverse}
+use Rattle.gu_terms.specs.declared.command.ReportSide.{ReportSide as ReportSideOf}
 use Rattle.gu_terms.specs.declared.day.Day.{Day}
 use Rattle.gu_terms.specs.declared.entry.Entry.{Entry}
 use Rattle.gu_terms.specs.declared.entry.Entry.TheVariants.{Asked, Swept}
 use Rattle.gu_terms.specs.declared.entry.SweepEntry.{SweepEntry}
-use Rattle.gu_terms.specs.declared.firm.FirmId.{FirmId}
 use Rattle.gu_terms.specs.declared.group.Group.{Group}
-use Rattle.gu_terms.specs.declared.id.Id.{Id}
-use Rattle.gu_terms.specs.declared.lots.Lots.{Lots}
-use Rattle.gu_terms.specs.declared.price.Price.{Price}
 use Rattle.gu_terms.specs.declared.refusal.Refusal.{Refusal}
 use Rattle.gu_terms.specs.declared.refusal.Refusal.TheVariants.{WrongDay}
 use Rattle.gu_terms.specs.declared.reply.Done.TheVariants.{Reported, Claimed, Refused, Reversed}
 use Rattle.gu_terms.specs.declared.reply.Reply.{Reply}
 use Rattle.gu_terms.specs.declared.reply.Reply.TheVariants.{Accepted, Denied}
-use Rattle.gu_terms.specs.declared.side.Side.{Side}
-use Rattle.gu_terms.specs.declared.symbol.Symbol.{Symbol}
 use Rattle.gu_ref.specs.Tables.{Tables}
 use Rattle.gu_rules.specs.Answer.{State, answer_in, state_of}
 use Rattle.gu_rules.specs.Legal.{IsLegal, MayFollow}
@@ -45,9 +39,9 @@ of_group-same before others group h zero = refl
 of_group-same before others group h (suc place) = ap (λ offers. option_map_or (λ o. same_group o.group group) (slice_get offers place) false) h
 
 touched-same : (before others : List Entry) (group : Group) → offers_of others ≡ offers_of before → (entry : Entry) → touches others group entry ≡ touches before group entry
-touched-same before others group h (Asked (Claim firm offer) (Accepted (Claimed lots))) = of_group-same before others group h offer
-touched-same before others group h (Asked (Refuse firm offer why) (Accepted (Refused lots))) = of_group-same before others group h offer
-touched-same before others group h (Asked (Reverse firm offer) (Accepted (Reversed lots))) = of_group-same before others group h offer
+touched-same before others group h (Asked (Claim it) (Accepted (Claimed lots))) = of_group-same before others group h it.offer
+touched-same before others group h (Asked (Refuse it) (Accepted (Refused lots))) = of_group-same before others group h it.offer
+touched-same before others group h (Asked (Reverse it) (Accepted (Reversed lots))) = of_group-same before others group h it.offer
 touched-same before others group h entry = refl
 
 alike-self : (entry : Entry) → IsAlike entry entry
@@ -63,9 +57,9 @@ alike-self entry = record {
   touched = λ before others group h. touched-same before others group h entry;
 }
 
-module _ (firm : FirmId) (id match_id : Id) (symbol : Symbol) (lots : Lots) (price : Price) (side : Side) (account : AccountId) where
+module _ (it : ReportSideOf) where
   abbrev report : Option Day → Command
-  report day = ReportSide firm id match_id symbol lots price day side account
+  report day = ReportSide (record it { day = day })
 
   undated-reported : (day today : Option Day) (reply : Reply) → report_on today (Asked (report None) reply) ≡ report_on today (Asked (report day) reply)
   undated-reported day None reply = refl
@@ -86,12 +80,12 @@ module _ (firm : FirmId) (id match_id : Id) (symbol : Symbol) (lots : Lots) (pri
     touched = λ before others group h. refl;
   }
 
-  unreported : (day today : Option Day) (opens : Day) (why : Refusal) → report_on today (Asked (OpenDay opens) (Denied why)) ≡ report_on today (Asked (report day) (Denied why))
+  unreported : (day today : Option Day) (opens : Day) (why : Refusal) → report_on today (Asked (OpenDay (record { day = opens })) (Denied why)) ≡ report_on today (Asked (report day) (Denied why))
   unreported day None opens why = refl
   unreported day (Some today) opens why = refl
 
   -- a report and an opening that are refused say nothing
-  alike-refused : (day : Option Day) (opens : Day) (why : Refusal) → IsAlike (Asked (report day) (Denied why)) (Asked (OpenDay opens) (Denied why))
+  alike-refused : (day : Option Day) (opens : Day) (why : Refusal) → IsAlike (Asked (report day) (Denied why)) (Asked (OpenDay (record { day = opens })) (Denied why))
   alike-refused day opens why = record {
     opened = refl;
     reported = λ today. unreported day today opens why;
@@ -127,7 +121,7 @@ module _ (firm : FirmId) (id match_id : Id) (symbol : Symbol) (lots : Lots) (pri
       by false e h = absurd cc
 
 -- the open day isn't opened again
-not_opened : (reference : Tables) (state : State) (today : Day) → state.today ≡ Some today → answer_in reference state (OpenDay today) ≡ Denied WrongDay
+not_opened : (reference : Tables) (state : State) (today : Day) → state.today ≡ Some today → answer_in reference state (OpenDay (record { day = today })) ≡ Denied WrongDay
 not_opened reference state today is =
     let same : nat_lt (date_number today.year today.month today.day) (date_number today.year today.month today.day) ≡ false = grind arith in
     rw (is, same) refl
@@ -136,29 +130,29 @@ not_opened reference state today is =
 
 -- a command that is no report
 abbrev pub IsOther : Command → Type 0
-IsOther (ReportSide firm id match_id symbol lots price day side account) = ⊥
+IsOther (ReportSide it) = ⊥
 IsOther command = Unit {0}
 
 -- has no days apart
 pub none_apart : (today : Option Day) (command : Command) → IsOther command → days_apart today command ≡ None
 none_apart None command is = refl
-none_apart (Some today) (ReportSide firm id match_id symbol lots price day side account) is = absurd is
+none_apart (Some today) (ReportSide it) is = absurd is
 none_apart (Some today) command is = refl
 
 -- a command that is played is answered as the one that was asked
 pub played-answered : (reference : Tables) (state : State) (command : Command)
     → answer_in reference state (played command (days_apart state.today command)) ≡ answer_in reference state command
-played-answered reference state (ReportSide firm id match_id symbol lots price day side account) = by (days_apart state.today (ReportSide firm id match_id symbol lots price day side account)) refl
+played-answered reference state (ReportSide it) = by (days_apart state.today (ReportSide it)) refl
   where
-    by : (days : Option (Day × Day)) → days_apart state.today (ReportSide firm id match_id symbol lots price day side account) ≡ days
-        → answer_in reference state (played (ReportSide firm id match_id symbol lots price day side account) days)
-        ≡ answer_in reference state (ReportSide firm id match_id symbol lots price day side account)
-    by None e = undated-answered firm id match_id symbol lots price side account reference state state.today day refl e
+    by : (days : Option (Day × Day)) → days_apart state.today (ReportSide it) ≡ days
+        → answer_in reference state (played (ReportSide it) days)
+        ≡ answer_in reference state (ReportSide it)
+    by None e = undated-answered it reference state state.today it.day refl e
     by (Some days) e =
-        let there = apart-today state.today day days e in
-        not_opened reference state days.1 there ∙ sym (wrong_day firm id match_id symbol lots price side account reference state state.today day days refl e)
+        let there = apart-today state.today it.day days e in
+        not_opened reference state days.1 there ∙ sym (wrong_day it reference state state.today it.day days refl e)
       where
-        apart-today : (today day : Option Day) (days : Day × Day) → days_apart today (ReportSide firm id match_id symbol lots price day side account) ≡ Some days → today ≡ Some days.1
+        apart-today : (today day : Option Day) (days : Day × Day) → days_apart today (report it day) ≡ Some days → today ≡ Some days.1
         apart-today None day days h = absurd cc
         apart-today (Some today) None days h = absurd cc
         apart-today (Some today) (Some day) days h = of (same_day today day) h
@@ -189,15 +183,15 @@ alike-swept sweep other same = record {
 -- a command that is played back with the answer that it had says the same
 pub alike-asked : (reference : Tables) (state : State) (command : Command) (reply : Reply) → reply ≡ answer_in reference state command
     → IsAlike (Asked command reply) (Asked (played command (days_apart state.today command)) reply)
-alike-asked reference state (ReportSide firm id match_id symbol lots price day side account) reply is = by (days_apart state.today (ReportSide firm id match_id symbol lots price day side account)) refl
+alike-asked reference state (ReportSide it) reply is = by (days_apart state.today (ReportSide it)) refl
   where
-    by : (days : Option (Day × Day)) → days_apart state.today (ReportSide firm id match_id symbol lots price day side account) ≡ days
-        → IsAlike (Asked (ReportSide firm id match_id symbol lots price day side account) reply) (Asked (played (ReportSide firm id match_id symbol lots price day side account) days) reply)
-    by None e = alike-undated firm id match_id symbol lots price side account day reply
+    by : (days : Option (Day × Day)) → days_apart state.today (ReportSide it) ≡ days
+        → IsAlike (Asked (ReportSide it) reply) (Asked (played (ReportSide it) days) reply)
+    by None e = alike-undated it it.day reply
     by (Some days) e =
-        let denied : Denied WrongDay ≡ reply = sym (is ∙ wrong_day firm id match_id symbol lots price side account reference state state.today day days refl e) in
-        subst (λ (r : Reply). IsAlike (Asked (ReportSide firm id match_id symbol lots price day side account) r) (Asked (OpenDay days.1) r)) denied
-        (alike-refused firm id match_id symbol lots price side account day days.1 WrongDay)
+        let denied : Denied WrongDay ≡ reply = sym (is ∙ wrong_day it reference state state.today it.day days refl e) in
+        subst (λ (r : Reply). IsAlike (Asked (ReportSide it) r) (Asked (OpenDay (record { day = days.1 })) r)) denied
+        (alike-refused it it.day days.1 WrongDay)
 alike-asked reference state command reply is =
     subst (λ (days : Option (Day × Day)). IsAlike (Asked command reply) (Asked (played command days) reply)) (sym (none_apart state.today command tt)) (alike-self (Asked command reply))
 

@@ -14,7 +14,7 @@ use Rattle.gu_script.specs.Journals.{days_apart, open_after}
 -- refused for its day too, and any other report names no day
 abbrev pub played : Command → Option (Day × Day) → Command
 played command None = undated command
-played command (Some days) = OpenDay days.1
+played command (Some days) = OpenDay (record { day = days.1 })
 
 -- a sweep of the same group that takes the same lots of each offer; its cut may differ
 pub record TakesAlike (sweep other : SweepEntry) : Type 0 where

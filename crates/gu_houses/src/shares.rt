@@ -208,12 +208,12 @@ impl FirmShare {
     }
 
     /// Counts these offers, for which there is room.
-    fn count_offers(&mut self, group: Group, first: OfferNo, count: u64) {
+    fn count_offers(&mut self, group: Group, first: OfferNo, count: u8) {
         let Some(offers) = self.groups.iter_mut().find(|row| row.group == group) else {
             return;
         };
         for more in 0..count {
-            if let Some(number) = OfferNo::new(first.get().saturating_add(more)) {
+            if let Some(number) = OfferNo::new(first.get().saturating_add(u64::from(more))) {
                 let _ = offers.numbers.push(number);
             }
         }

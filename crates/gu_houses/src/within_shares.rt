@@ -136,20 +136,14 @@ impl<'a, 'o, E: EntryLedger, S: LotLedger, R: Wait, I: Informs> WithinShares<'a,
         if !share.has_entry() {
             return Err(Withheld::Full(Part::Entries));
         }
-        let Command::GiveUp {
-            firm,
-            report,
-            lines,
-            ..
-        } = command
-        else {
+        let Command::GiveUp(give_up) = command else {
             return Ok(());
         };
         let mut asked = OffersAsked {
             share,
-            firm: *firm,
-            report: *report,
-            lines: lines.as_slice().len(),
+            firm: give_up.firm,
+            report: give_up.report,
+            lines: give_up.lines.as_slice().len(),
             has_offers: false,
         };
         self.house.put(&mut asked)?;

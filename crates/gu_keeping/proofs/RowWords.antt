@@ -212,7 +212,7 @@ silent_tell (row ∷ rows) all = (all.0, silent_tell rows all.1)
 
 apart_tell : (command : Command) (days : Option (Day × Day)) → IsWritableCommand command → Tell (rows_apart command days) (command_said command days ∷ [])
 apart_tell command None is = inr (command_says command is, tt)
-apart_tell command (Some days) is = inl (remark_is_silent command days.0 is, inr (command_says (OpenDay days.1) tt, tt))
+apart_tell command (Some days) is = inl (remark_is_silent command days.0 is, inr (command_says (OpenDay (record { day = days.1 })) tt, tt))
 
 entry_tells : (today : Option Day) (entry : Entry) → IsWritableEntry entry → Tell (entry_rows today entry) (entry_said today entry ∷ [])
 entry_tells today (Asked command reply) is = apart_tell command (days_apart today command) is

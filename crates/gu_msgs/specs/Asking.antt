@@ -1,7 +1,7 @@
 -- What a message of a firm asks of the house, and what the answer needs of it.
 use Rattle.std.specs.Prelude.{ℕ, Option, None, Some}
-use Rattle.gu_terms.specs.declared.command.Command.{Command}
 use Rattle.gu_terms.specs.declared.command.Command.TheVariants as command
+use Rattle.gu_terms.specs.declared.command.ReportSide.{ReportSide}
 use Rattle.gu_terms.specs.declared.firm.FirmId.{FirmId}
 use Rattle.gu_terms.specs.declared.query.Query.TheVariants as query
 use Rattle.gu_msgs.specs.declared.alloc_status.AllocStatus.{AllocStatus}
@@ -16,10 +16,19 @@ use Rattle.gu_msgs.specs.declared.inbound.Inbound.{Inbound}
 use Rattle.gu_msgs.specs.declared.inbound.Inbound.TheVariants as inbound
 use Rattle.gu_msgs.specs.declared.inbound.TradeCaptureReport.{TradeCaptureReport}
 
--- a firm's report asks that its side be entered
-abbrev pub side_of : FirmId → TradeCaptureReport → Command
-side_of firm m =
-    command.ReportSide firm m.trade_report_id m.trd_match_id m.symbol m.last_qty m.last_px m.trade_date m.side m.account
+-- the side that a firm's report asks for
+abbrev pub side_of : FirmId → TradeCaptureReport → ReportSide
+side_of firm m = record {
+  firm = firm;
+  id = m.trade_report_id;
+  match_id = m.trd_match_id;
+  symbol = m.symbol;
+  lots = m.last_qty;
+  price = m.last_px;
+  day = m.trade_date;
+  side = m.side;
+  account = m.account;
+}
 
 -- the report that a message is, if it is one
 abbrev pub report_in : Inbound → Option TradeCaptureReport
@@ -35,11 +44,11 @@ asked_on offer Reversed = Some (asking.Reversal offer)
 
 -- what a firm asks for: reports, give-ups and words on offers are to be entered, and positions are to be told
 abbrev pub request_of : FirmId → Asking → Request
-request_of firm (asking.Report m) = Enter (side_of firm m)
-request_of firm (asking.GiveUp m) = Enter (command.GiveUp firm m.alloc_id m.exec_id m.lines)
-request_of firm (asking.Claim offer) = Enter (command.Claim firm offer)
-request_of firm (asking.Refusal offer why) = Enter (command.Refuse firm offer why)
-request_of firm (asking.Reversal offer) = Enter (command.Reverse firm offer)
+request_of firm (asking.Report m) = Enter (command.ReportSide (side_of firm m))
+request_of firm (asking.GiveUp m) = Enter (command.GiveUp (record { firm = firm; id = m.alloc_id; report = m.exec_id; lines = m.lines }))
+request_of firm (asking.Claim offer) = Enter (command.Claim (record { firm = firm; offer = offer }))
+request_of firm (asking.Refusal offer why) = Enter (command.Refuse (record { firm = firm; offer = offer; why = why }))
+request_of firm (asking.Reversal offer) = Enter (command.Reverse (record { firm = firm; offer = offer }))
 request_of firm (asking.Positions m) = Ask (query.Positions firm m.account)
 
 -- what the answer needs of the message that asks: its ids, the offer, or the question for positions

@@ -8,7 +8,9 @@ use crate::boxed::Boxed;
 use crate::inbound::{
     AllocationInstruction, AllocationReportAck, Inbound, RequestForPositions, TradeCaptureReport,
 };
-use gu_terms::{AllocReject, Command, FirmId, Id, OfferNo, Query};
+use gu_terms::{
+    AllocReject, Claim, Command, FirmId, GiveUp, Id, OfferNo, Query, Refuse, ReportSide, Reverse,
+};
 
 /// What a firm asks for.
 #[derive(Drop)]
@@ -54,11 +56,11 @@ pub enum Asking {
 }
 
 impl TradeCaptureReport {
-    /// The command that it asks for as a firm's report.
-    pub fn side_of(&self, firm: FirmId) -> Command
+    /// Returns the side that it asks for as a firm's report.
+    pub fn side_of(&self, firm: FirmId) -> ReportSide
         ensures { result ≡ side_of firm self.now }
     {
-        Command::ReportSide {
+        ReportSide {
             firm,
             id: self.trade_report_id,
             match_id: self.trd_match_id,
@@ -105,19 +107,25 @@ impl Asking {
         ensures { result ≡ request_of firm self }
     {
         match self {
-            Asking::Report(report) => Request::Enter(report.get().side_of(firm)),
+            Asking::Report(report) => {
+                Request::Enter(Command::ReportSide(report.get().side_of(firm)))
+            }
             Asking::GiveUp(give_up) => {
                 let give_up = give_up.into_inner();
-                Request::Enter(Command::GiveUp {
+                Request::Enter(Command::GiveUp(GiveUp {
                     firm,
                     id: give_up.alloc_id,
                     report: give_up.exec_id,
                     lines: give_up.lines,
-                })
+                }))
             }
-            Asking::Claim(offer) => Request::Enter(Command::Claim { firm, offer }),
-            Asking::Refusal(offer, why) => Request::Enter(Command::Refuse { firm, offer, why }),
-            Asking::Reversal(offer) => Request::Enter(Command::Reverse { firm, offer }),
+            Asking::Claim(offer) => Request::Enter(Command::Claim(Claim { firm, offer })),
+            Asking::Refusal(offer, why) => Request::Enter(Command::Refuse(Refuse {
+                firm,
+                offer,
+                why,
+            })),
+            Asking::Reversal(offer) => Request::Enter(Command::Reverse(Reverse { firm, offer })),
             Asking::Positions(question) => {
                 let account = question.get().account;
                 Request::Ask(Query::Positions { firm, account })

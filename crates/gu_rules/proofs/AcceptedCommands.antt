@@ -3,9 +3,9 @@ use Rattle.std.proofs.Common.{◌≡◌, Bool, true, false, List, [], ◌∷◌,
 use Rattle.std.specs.Option.{option_and_then, option_map, option_map_or}
 use Rattle.gu_terms.proofs.SameNames.{same_firm-true, same_id-true}
 use Rattle.gu_terms.proofs.SameValues.{both}
-use Rattle.gu_terms.specs.declared.account.AccountId.{AccountId}
 use Rattle.gu_terms.specs.declared.command.Command.{Command}
 use Rattle.gu_terms.specs.declared.command.Command.TheVariants.{GiveUp, OpenDay, ReportSide, SetLimit}
+use Rattle.gu_terms.specs.declared.command.ReportSide.{ReportSide as ReportSideOf}
 use Rattle.gu_terms.specs.declared.day.Day.{Day}
 use Rattle.gu_terms.specs.declared.entry.Entry.{Entry}
 use Rattle.gu_terms.specs.declared.entry.Entry.TheVariants.{Asked}
@@ -14,8 +14,6 @@ use Rattle.gu_terms.specs.declared.group.Group.{Group}
 use Rattle.gu_terms.specs.declared.id.Id.{Id}
 use Rattle.gu_terms.specs.declared.limit_key.LimitKey.{LimitKey}
 use Rattle.gu_terms.specs.declared.lines.Line.{Line}
-use Rattle.gu_terms.specs.declared.lots.Lots.{Lots}
-use Rattle.gu_terms.specs.declared.price.Price.{Price}
 use Rattle.gu_terms.specs.declared.refusal.Refusal.{Refusal}
 use Rattle.gu_terms.specs.declared.refusal.Refusal.TheVariants.{DuplicateId, MatchConflict}
 use Rattle.gu_terms.specs.declared.reply.Done.{Done}
@@ -23,11 +21,9 @@ use Rattle.gu_terms.specs.declared.reply.Done.TheVariants.{LimitSet, Offered, Op
 use Rattle.gu_terms.specs.declared.reply.Reply.{Reply}
 use Rattle.gu_terms.specs.declared.reply.Reply.TheVariants.{Accepted, Denied}
 use Rattle.gu_terms.specs.declared.report.Report.{Report}
-use Rattle.gu_terms.specs.declared.side.Side.{Side}
-use Rattle.gu_terms.specs.declared.symbol.Symbol.{Symbol}
 use Rattle.gu_ref.specs.Tables.{Tables}
 use Rattle.gu_trades.specs.Matching.{conflicts}
-use Rattle.gu_trades.specs.Reports.{has_report, is_by, report_by, report_of, with_match}
+use Rattle.gu_trades.specs.Reports.{has_report, is_by, made_on, report_by, with_match}
 use Rattle.gu_positions.proofs.Changed.{find-passes}
 use Rattle.gu_rules.specs.Answer.{State, answer, done_of, first_standing, given_up, group_of, report_tests, state_of, tests_of}
 use Rattle.gu_rules.specs.Legal.{IsAccepted, accepts}
@@ -58,13 +54,13 @@ is-accepted reference history command reply room is accepted =
 
 -- the entries of an opening, a limit and a give-up
 abbrev pub opening : Day → Entry
-opening day = Asked (OpenDay day) (Accepted Opened)
+opening day = Asked (OpenDay (record { day = day })) (Accepted Opened)
 
 abbrev pub setting : Group → LimitKey → ℕ → Entry
-setting group key lots = Asked (SetLimit group key lots) (Accepted LimitSet)
+setting group key lots = Asked (SetLimit (record { group = group; key = key; lots = lots })) (Accepted LimitSet)
 
 abbrev pub giving_up : FirmId → Id → Id → List Line → Group → ℕ → Entry
-giving_up firm id report lines group first = Asked (GiveUp firm id report lines) (Accepted (Offered group first (length lines)))
+giving_up firm id report lines group first = Asked (GiveUp (record { firm = firm; id = id; report = report; lines = lines })) (Accepted (Offered group first (length lines)))
 
 -- the report that is given up is the firm's with this id
 pub report-is : (reference : Tables) (state : State) (firm : FirmId) (own : Id) (report : Report) (group : Group) → given_up reference state firm own ≡ Some (report, group) → report_by state.reports firm own ≡ Some report
@@ -87,33 +83,20 @@ pub not_not : (b : Bool) → not b ≡ false → b ≡ true
 not_not true e = refl
 not_not false e = cc
 
--- a report
-module _
-    (reference : Tables)
-    (firm : FirmId)
-    (id match_id : Id)
-    (symbol : Symbol)
-    (lots : Lots)
-    (price : Price)
-    (given : Option Day)
-    (side : Side)
-    (account : AccountId)
-    (day : Day) where
-  -- the report that is made
-  abbrev made : Report
-  made = report_of firm id match_id symbol lots price day side account
-
-  -- one that is accepted fits those before it
-  pub fits-in : (history : List Entry) → open_day history ≡ Some day → IsAccepted reference history (ReportSide firm id match_id symbol lots price given side account) → Fits (reports_of history) made
-  fits-in history opened is =
-      let state = state_of reference history in
-      let command = ReportSide firm id match_id symbol lots price given side account in
-      let tests = tests_of reference state command in
-      let done = done_of reference state command in
-      let tail : option_map_or (λ today. report_tests reference (reports_of history) (report_of firm id match_id symbol lots price today side account) given) (open_day history) [] ≡ report_tests reference (reports_of history) made given =
-      ap (λ (d : Option Day). option_map_or (λ today. report_tests reference (reports_of history) (report_of firm id match_id symbol lots price today side account) given) d []) opened in
-      let at : (k : ℕ) → slice_get tests (suc k) ≡ slice_get (report_tests reference (reports_of history) made given) k = λ k. ap (λ (ts : List (Bool × Refusal)). slice_get ts k) tail in
-      record {
-        new_id = none_stands tests done done is.accepted 5 (has_report (reports_of history) firm id) DuplicateId (at 4);
-        fits = none_stands tests done done is.accepted 6 (conflicts (with_match match_id (reports_of history)) made) MatchConflict (at 5);
-      }
+-- a report that is accepted fits those before it
+pub fits-in : (reference : Tables) (it : ReportSideOf) (day : Day) (history : List Entry) → open_day history ≡ Some day → IsAccepted reference history (ReportSide it)
+    → Fits (reports_of history) (made_on day it)
+fits-in reference it day history opened is =
+    let state = state_of reference history in
+    let command = ReportSide it in
+    let reports = reports_of history in
+    let made = made_on day it in
+    let tests = tests_of reference state command in
+    let done = done_of reference state command in
+    let tail : option_map_or (λ today. report_tests reference reports (made_on today it) it.day) (open_day history) [] ≡ report_tests reference reports made it.day =
+    ap (λ (d : Option Day). option_map_or (λ today. report_tests reference reports (made_on today it) it.day) d []) opened in
+    let at : (k : ℕ) → slice_get tests (suc k) ≡ slice_get (report_tests reference reports made it.day) k = λ k. ap (λ (ts : List (Bool × Refusal)). slice_get ts k) tail in
+    record {
+      new_id = none_stands tests done done is.accepted 5 (has_report reports it.firm it.id) DuplicateId (at 4);
+      fits = none_stands tests done done is.accepted 6 (conflicts (with_match it.match_id reports) made) MatchConflict (at 5);
+    }

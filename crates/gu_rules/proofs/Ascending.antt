@@ -13,7 +13,7 @@ use Rattle.gu_terms.specs.declared.reply.Done.{Done}
 use Rattle.gu_terms.specs.declared.reply.Reply.TheVariants.{Denied}
 use Rattle.gu_terms.specs.declared.report.Report.{Report}
 use Rattle.gu_ref.specs.Tables.{Tables}
-use Rattle.gu_trades.specs.Reports.{report_of}
+use Rattle.gu_trades.specs.Reports.{made_on}
 use Rattle.gu_offers.specs.Rows.{Row, left_in, row_at}
 use Rattle.gu_rules.specs.Answer.{State, answer_in, done_of, first_standing, given_up, lines_tests, report_tests, room_tests, tests_of}
 use Rattle.gu_rules.specs.Limits.{path_after}
@@ -50,16 +50,16 @@ climbs-lines reference state lines (Some given) = (omega arith, (omega arith, (o
 
 -- the numbers of a command's tests don't fall
 tests_climb : (reference : Tables) (state : State) (command : Command) → Climbs 0 (tests_of reference state command)
-tests_climb reference state (OpenDay day) = (omega arith, tt)
-tests_climb reference state (SetLimit group key lots) = (omega arith, (omega arith, tt))
-tests_climb reference state (ReportSide firm id match_id symbol lots price day side account) =
-    (omega arith, climbs-side reference state (λ today. report_of firm id match_id symbol lots price today side account) day state.today)
-tests_climb reference state (GiveUp firm id report lines) =
-    (omega arith, (omega arith, (omega arith, (omega arith, climbs-lines reference state lines (given_up reference state firm report)))))
-tests_climb reference state (Claim firm offer) =
-    (omega arith, (omega arith, (omega arith, (omega arith, climbs-claim reference state offer (row_at state.offers offer)))))
-tests_climb reference state (Refuse firm offer why) = (omega arith, (omega arith, (omega arith, (omega arith, tt))))
-tests_climb reference state (Reverse firm offer) = (omega arith, (omega arith, (omega arith, (omega arith, (omega arith, tt)))))
+tests_climb reference state (OpenDay it) = (omega arith, tt)
+tests_climb reference state (SetLimit it) = (omega arith, (omega arith, tt))
+tests_climb reference state (ReportSide it) =
+    (omega arith, climbs-side reference state (λ today. made_on today it) it.day state.today)
+tests_climb reference state (GiveUp it) =
+    (omega arith, (omega arith, (omega arith, (omega arith, climbs-lines reference state it.lines (given_up reference state it.firm it.report)))))
+tests_climb reference state (Claim it) =
+    (omega arith, (omega arith, (omega arith, (omega arith, climbs-claim reference state it.offer (row_at state.offers it.offer)))))
+tests_climb reference state (Refuse it) = (omega arith, (omega arith, (omega arith, (omega arith, tt))))
+tests_climb reference state (Reverse it) = (omega arith, (omega arith, (omega arith, (omega arith, (omega arith, tt)))))
 
 -- after a number all are at least as great
 above : (low : ℕ) (tests : List (Bool × Refusal)) → Climbs low tests → (place : ℕ) (d : Bool × Refusal) → place < length tests → low ≤ number (get_or tests place d)

@@ -13,15 +13,14 @@ use Rattle.gu_terms.specs.LimitKeys.{has_key, key_eq}
 use Rattle.gu_terms.specs.Same.{same_group}
 use Rattle.gu_terms.specs.Takes.{lots_of}
 use Rattle.gu_terms.specs.declared.command.Command.{Command}
-use Rattle.gu_terms.specs.declared.command.Command.TheVariants.{OpenDay, SetLimit, ReportSide, GiveUp, Claim, Refuse, Reverse}
+use Rattle.gu_terms.specs.declared.command.Command.TheVariants.{OpenDay, GiveUp, Claim, Refuse, Reverse}
+use Rattle.gu_terms.specs.declared.command.Claim.{Claim as ClaimOf}
+use Rattle.gu_terms.specs.declared.command.GiveUp.{GiveUp as GiveUpOf}
 use Rattle.gu_terms.specs.declared.entry.Entry.{Entry}
 use Rattle.gu_terms.specs.declared.entry.Entry.TheVariants.{Asked, Swept}
 use Rattle.gu_terms.specs.declared.entry.SweepEntry.{SweepEntry}
-use Rattle.gu_terms.specs.declared.firm.FirmId.{FirmId}
 use Rattle.gu_terms.specs.declared.group.Group.{Group}
-use Rattle.gu_terms.specs.declared.id.Id.{Id}
 use Rattle.gu_terms.specs.declared.limit_key.LimitKey.{LimitKey}
-use Rattle.gu_terms.specs.declared.lines.Line.{Line}
 use Rattle.gu_terms.specs.declared.reply.Done.{Done}
 use Rattle.gu_terms.specs.declared.reply.Reply.{Reply}
 use Rattle.gu_terms.specs.declared.reply.Reply.TheVariants.{Accepted, Denied}
@@ -35,7 +34,7 @@ use Rattle.gu_rules.specs.Limits.{limit_of, limit_set, path_after, room_of, use_
 use Rattle.gu_rules.specs.Offers.{standing_of}
 use Rattle.gu_rules.specs.Sweeps.{IsSweepOf, part, parts}
 use Rattle.gu_rules.specs.Views.{group_view, offers_shown}
-use Rattle.gu_rules.proofs.AcceptedCommands.{giving_up, is-accepted, opening, setting}
+use Rattle.gu_rules.proofs.AcceptedCommands.{giving_up, is-accepted, opening}
 use Rattle.gu_rules.proofs.ChangedSums.{use_in-closed, use_in-next_day, use_in-reversed, use_in-taken, use_in-with_lines}
 use Rattle.gu_rules.proofs.Facts.{claimable, refusable, reversible, row_at-other, today-is}
 use Rattle.gu_rules.proofs.GivenUp.{givable}
@@ -85,14 +84,15 @@ keyed-at P (first ∷ keys) key has each =
 
 module _ (reference : Tables) (history : List Entry) (group : Group) (key : LimitKey) (o : IsInOrder history) where
   -- a claim
-  claims : (firm : FirmId) (n : ℕ) → IsAccepted reference history (Claim firm n) → StaysWithin reference history (claimed firm n (left_in (standing_of history) n)) group key
-  claims firm n is =
-      let f = claimable reference history firm n o is in
+  claims : (it : ClaimOf) → IsAccepted reference history (Claim it) → StaysWithin reference history (claimed it.firm it.offer (left_in (standing_of history) it.offer)) group key
+  claims it is =
+      let n = it.offer in
+      let f = claimable reference history it.firm n o is in
       let row = f.0 in
       let may = f.2 in
       let lots = left_in (standing_of history) n in
-      let entry = claimed firm n lots in
-      let takes = claim-takes firm n lots in
+      let entry = claimed it.firm n lots in
+      let takes = claim-takes it.firm n lots in
       let path = path_after reference row.offer in
       let rows = standing_of-one history entry n row (taken lots) takes.only.opens takes.only.lines o.balanced (takes-others entry n lots takes) may.there.at (takes-own entry n lots row takes) in
       let more = ap (λ (rs : List Row). use_in reference rs group key) rows ∙ use_in-taken reference (standing_of history) n row lots may.there.at group key in
@@ -111,43 +111,41 @@ module _ (reference : Tables) (history : List Entry) (group : Group) (key : Limi
       ]
 
   -- a give-up
-  gives_up : (firm : FirmId) (id own : Id) (lines : List Line) → IsAccepted reference history (GiveUp firm id own lines)
-      → StaysWithin reference history (accepted_entry reference history (GiveUp firm id own lines)) group key
-  gives_up firm id own lines is =
-      let f = givable reference history firm id own lines is in
+  gives_up : (it : GiveUpOf) → IsAccepted reference history (GiveUp it)
+      → StaysWithin reference history (accepted_entry reference history (GiveUp it)) group key
+  gives_up it is =
+      let f = givable reference history it is in
       let report = f.0 in
       let at = f.1 in
       let may = f.2 in
-      let entry = giving_up firm id own lines at (length (standing_of history) + 1) in
+      let entry = giving_up it.firm it.id it.report it.lines at (length (standing_of history) + 1) in
       let idle : IsIdle entry = record { takes = λ n. refl; gives = λ n. refl; closed = λ n. refl } in
-      subst (λ (d : Done). StaysWithin reference history (Asked (GiveUp firm id own lines) (Accepted d)) group key) (sym may.did)
-      (lower reference history group key entry _ (standing_of-lines history entry firm own at lines refl idle refl o.balanced o.named)
-      (omega (arith, use_in-with_lines reference (standing_of history) firm own at lines group key)))
+      subst (λ (d : Done). StaysWithin reference history (Asked (GiveUp it) (Accepted d)) group key) (sym may.did)
+      (lower reference history group key entry _ (standing_of-lines history entry it.firm it.report at it.lines refl idle refl o.balanced o.named)
+      (omega (arith, use_in-with_lines reference (standing_of history) it.firm it.report at it.lines group key)))
 
   -- any command that is accepted
   accepted : (command : Command) → IsAccepted reference history command → StaysWithin reference history (accepted_entry reference history command) group key
-  accepted (OpenDay day) is =
-      lower reference history group key (opening day) _ (standing_of-opened history (opening day) day refl refl (record { takes = λ n. refl; gives = λ n. refl; closed = λ n. refl }) o.balanced)
+  accepted (OpenDay it) is =
+      lower reference history group key (opening it.day) _ (standing_of-opened history (opening it.day) it.day refl refl (record { takes = λ n. refl; gives = λ n. refl; closed = λ n. refl }) o.balanced)
       (omega (arith, use_in-next_day reference (standing_of history) group key))
-  accepted (SetLimit at on lots) is =
-      still reference history group key (setting at on lots) (standing_of-idle history (setting at on lots) refl refl o.balanced (record { takes = λ n. refl; gives = λ n. refl; closed = λ n. refl }))
-  accepted (ReportSide firm id match_id symbol lots price day side account) is =
-      let entry = accepted_entry reference history (ReportSide firm id match_id symbol lots price day side account) in
+  accepted (GiveUp it) is = gives_up it is
+  accepted (Claim it) is = claims it is
+  accepted (Refuse it) is =
+      let f = refusable reference history it.firm it.offer it.why o is in
+      let lots = left_in (standing_of history) it.offer in
+      lower reference history group key (refused it.firm it.offer it.why lots) _
+      (standing_of-one history (refused it.firm it.offer it.why lots) it.offer f.0 closed refl refl o.balanced (refused-others it.firm it.offer it.why lots) f.2.at (refused-own it.firm it.offer it.why lots f.0))
+      (omega (arith, use_in-closed reference (standing_of history) it.offer f.0 f.2.at group key))
+  accepted (Reverse it) is =
+      let f = reversible reference history it.firm it.offer o is in
+      subst (λ (lots : ℕ). StaysWithin reference history (taken_back it.firm it.offer lots) group key) (sym (today-is (standing_of history) it.offer f.0 f.2.there.at))
+      (lower reference history group key (taken_back it.firm it.offer f.0.today) _
+      (standing_of-one history (taken_back it.firm it.offer f.0.today) it.offer f.0 reversed refl refl o.balanced (taken_back-others it.firm it.offer f.0.today) f.2.there.at (taken_back-own it.firm it.offer f.0))
+      (omega (arith, use_in-reversed reference (standing_of history) it.offer f.0 f.2.there.at group key)))
+  accepted command is =
+      let entry = accepted_entry reference history command in
       still reference history group key entry (standing_of-idle history entry refl refl o.balanced (record { takes = λ n. refl; gives = λ n. refl; closed = λ n. refl }))
-  accepted (GiveUp firm id own lines) is = gives_up firm id own lines is
-  accepted (Claim firm n) is = claims firm n is
-  accepted (Refuse firm n why) is =
-      let f = refusable reference history firm n why o is in
-      let lots = left_in (standing_of history) n in
-      lower reference history group key (refused firm n why lots) _
-      (standing_of-one history (refused firm n why lots) n f.0 closed refl refl o.balanced (refused-others firm n why lots) f.2.at (refused-own firm n why lots f.0))
-      (omega (arith, use_in-closed reference (standing_of history) n f.0 f.2.at group key))
-  accepted (Reverse firm n) is =
-      let f = reversible reference history firm n o is in
-      subst (λ (lots : ℕ). StaysWithin reference history (taken_back firm n lots) group key) (sym (today-is (standing_of history) n f.0 f.2.there.at))
-      (lower reference history group key (taken_back firm n f.0.today) _
-      (standing_of-one history (taken_back firm n f.0.today) n f.0 reversed refl refl o.balanced (taken_back-others firm n f.0.today) f.2.there.at (taken_back-own firm n f.0))
-      (omega (arith, use_in-reversed reference (standing_of history) n f.0 f.2.there.at group key)))
 
 -- ---- sweeps
 

@@ -337,42 +337,42 @@ lines-other firm report at group [] other = tt
 lines-other firm report at group (line ∷ lines) other = (other, lines-other firm report at group lines other)
 
 leaves : (reference : Tables) (history : List Entry) (group : Group) (entry : Entry) → MayFollow reference history entry → touches history group entry ≡ false → Leaves history group entry
-leaves reference history group (Asked (OpenDay day) (Accepted Opened)) may untouched = cc
-leaves reference history group (Asked (SetLimit at key lots) (Accepted LimitSet)) may untouched = record {
+leaves reference history group (Asked (OpenDay it) (Accepted Opened)) may untouched = cc
+leaves reference history group (Asked (SetLimit it) (Accepted LimitSet)) may untouched = record {
   opens = refl;
   makes = tt;
   spares = λ place o there own. record { takes = refl; gives = refl; closed = refl };
   sets = λ on. rw untouched refl;
   untouched = untouched;
 }
-leaves reference history group (Asked (GiveUp firm id report lines) (Accepted (Offered at first count))) may untouched = record {
+leaves reference history group (Asked (GiveUp it) (Accepted (Offered at first count))) may untouched = record {
   opens = refl;
-  makes = lines-other firm report at group lines untouched;
+  makes = lines-other it.firm it.report at group it.lines untouched;
   spares = λ place o there own. record { takes = refl; gives = refl; closed = refl };
   sets = λ on. refl;
   untouched = untouched;
 }
-leaves reference history group (Asked (Claim firm offer) (Accepted (Claimed lots))) may untouched = record {
+leaves reference history group (Asked (Claim it) (Accepted (Claimed lots))) may untouched = record {
   opens = refl;
   makes = tt;
-  spares = λ place o there own. record { takes = rw (another history group offer place o there own untouched) refl; gives = refl; closed = refl };
+  spares = λ place o there own. record { takes = rw (another history group it.offer place o there own untouched) refl; gives = refl; closed = refl };
   sets = λ on. refl;
   untouched = untouched;
 }
-leaves reference history group (Asked (Refuse firm offer why) (Accepted (Refused lots))) may untouched = record {
+leaves reference history group (Asked (Refuse it) (Accepted (Refused lots))) may untouched = record {
   opens = refl;
   makes = tt;
-  spares = λ place o there own. record { takes = refl; gives = refl; closed = another history group offer place o there own untouched };
+  spares = λ place o there own. record { takes = refl; gives = refl; closed = another history group it.offer place o there own untouched };
   sets = λ on. refl;
   untouched = untouched;
 }
-leaves reference history group (Asked (Reverse firm offer) (Accepted (Reversed lots))) may untouched = record {
+leaves reference history group (Asked (Reverse it) (Accepted (Reversed lots))) may untouched = record {
   opens = refl;
   makes = tt;
   spares = λ place o there own. record {
     takes = refl;
-    gives = rw (another history group offer place o there own untouched) refl;
-    closed = another history group offer place o there own untouched;
+    gives = rw (another history group it.offer place o there own untouched) refl;
+    closed = another history group it.offer place o there own untouched;
   };
   sets = λ on. refl;
   untouched = untouched;

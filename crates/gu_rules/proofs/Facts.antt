@@ -81,12 +81,12 @@ pub record MayBeClaimed (reference : Tables) (history : List Entry) (n : ℕ) (r
   pub room : (k : ℕ) (d : LimitKey) → k < length (path_after reference row.offer)
       → left_in (standing_of history) n ≤ room_of reference history row.offer.group (slice_index_or (path_after reference row.offer) k d)
 
-pub claimable : (reference : Tables) (history : List Entry) (firm : FirmId) (n : ℕ) → IsInOrder history → IsAccepted reference history (Claim firm n)
+pub claimable : (reference : Tables) (history : List Entry) (firm : FirmId) (n : ℕ) → IsInOrder history → IsAccepted reference history (Claim (record { firm = firm; offer = n }))
     → (row : Row) × (report : Report) × MayBeClaimed reference history n row report
 claimable reference history firm n orderly is =
     let state = state_of reference history in
-    let tests = tests_of reference state (Claim firm n) in
-    let done = done_of reference state (Claim firm n) in
+    let tests = tests_of reference state (Claim (record { firm = firm; offer = n })) in
+    let done = done_of reference state (Claim (record { firm = firm; offer = n })) in
     let left = left_in (standing_of history) n in
     let passes = none_stands tests done done is.accepted in
     let one = there history n orderly (passes 2 (is_none (row_at (standing_of history) n)) UnknownOffer refl) in
@@ -111,11 +111,11 @@ claimable reference history firm n orderly is =
     )
 
 -- a refusal that is accepted
-pub refusable : (reference : Tables) (history : List Entry) (firm : FirmId) (n : ℕ) (why : AllocReject) → IsInOrder history → IsAccepted reference history (Refuse firm n why)
+pub refusable : (reference : Tables) (history : List Entry) (firm : FirmId) (n : ℕ) (why : AllocReject) → IsInOrder history → IsAccepted reference history (Refuse (record { firm = firm; offer = n; why = why }))
     → (row : Row) × (report : Report) × IsThere history n row report
 refusable reference history firm n why orderly is =
     let state = state_of reference history in
-    let passes = none_stands (tests_of reference state (Refuse firm n why)) (done_of reference state (Refuse firm n why)) (done_of reference state (Refuse firm n why)) is.accepted in
+    let passes = none_stands (tests_of reference state (Refuse (record { firm = firm; offer = n; why = why }))) (done_of reference state (Refuse (record { firm = firm; offer = n; why = why }))) (done_of reference state (Refuse (record { firm = firm; offer = n; why = why }))) is.accepted in
     there history n orderly (passes 2 (is_none (row_at (standing_of history) n)) UnknownOffer refl)
 
 -- a reversal that is accepted
@@ -124,12 +124,12 @@ pub record MayBeReversed (history : List Entry) (n : ℕ) (row : Row) (report : 
   pub nothing : left_in (standing_of history) n ≡ 0
   pub some : 0 < today_in (standing_of history) n
 
-pub reversible : (reference : Tables) (history : List Entry) (firm : FirmId) (n : ℕ) → IsInOrder history → IsAccepted reference history (Reverse firm n)
+pub reversible : (reference : Tables) (history : List Entry) (firm : FirmId) (n : ℕ) → IsInOrder history → IsAccepted reference history (Reverse (record { firm = firm; offer = n }))
     → (row : Row) × (report : Report) × MayBeReversed history n row report
 reversible reference history firm n orderly is =
     let state = state_of reference history in
-    let tests = tests_of reference state (Reverse firm n) in
-    let done = done_of reference state (Reverse firm n) in
+    let tests = tests_of reference state (Reverse (record { firm = firm; offer = n })) in
+    let done = done_of reference state (Reverse (record { firm = firm; offer = n })) in
     let left = left_in (standing_of history) n in
     let today = today_in (standing_of history) n in
     let passes = none_stands tests done done is.accepted in

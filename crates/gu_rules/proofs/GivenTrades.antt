@@ -8,7 +8,8 @@ use Rattle.gu_terms.proofs.SameNames.{same_account-turned, same_symbol-own}
 use Rattle.gu_terms.specs.Same.{same_account, same_id, same_side, same_symbol}
 use Rattle.gu_terms.specs.declared.account.AccountId.{AccountId}
 use Rattle.gu_terms.specs.declared.command.Command.{Command}
-use Rattle.gu_terms.specs.declared.command.Command.TheVariants.{OpenDay, SetLimit, ReportSide, GiveUp, Claim, Refuse, Reverse}
+use Rattle.gu_terms.specs.declared.command.Command.TheVariants.{ReportSide, GiveUp}
+use Rattle.gu_terms.specs.declared.command.GiveUp.{GiveUp as GiveUpOf}
 use Rattle.gu_terms.specs.declared.day.Day.{Day}
 use Rattle.gu_terms.specs.declared.entry.Entry.{Entry}
 use Rattle.gu_terms.specs.declared.entry.Entry.TheVariants.{Asked, Swept}
@@ -33,7 +34,7 @@ use Rattle.gu_ref.specs.declared.accounts.Account.{Account}
 use Rattle.gu_positions.specs.Changes.{lots_at, lots_at_side}
 use Rattle.gu_positions.specs.Rows.{Row as PositionRow, is_of}
 use Rattle.gu_trades.specs.Matching.{conflicts, is_other_side}
-use Rattle.gu_trades.specs.Reports.{is_by, report_of, with_match}
+use Rattle.gu_trades.specs.Reports.{is_by, made_on, with_match}
 use Rattle.gu_rules.specs.Legal.{IsAccepted, IsLegal, MayFollow, accepted_entry}
 use Rattle.gu_rules.specs.Answer.{done_of, report_tests, state_of, tests_of}
 use Rattle.gu_rules.specs.Laws.{AllGiveUpTrades, GivesUpTrade}
@@ -189,21 +190,21 @@ sourced-reported reference history entry r reports nothing fits mine sourced =
     }
 
 -- a give-up
-sourced-given : (reference : Tables) (history : List Entry) (firm : FirmId) (id own : Id) (lines : List Line) → IsAccepted reference history (GiveUp firm id own lines) → IsSourced reference history
-    → IsSourced reference (history ++ accepted_entry reference history (GiveUp firm id own lines) ∷ [])
-sourced-given reference history firm id own lines is sourced =
-    subst (λ (d : Done). IsSourced reference (history ++ Asked (GiveUp firm id own lines) (Accepted d) ∷ [])) (sym may.did)
-    (subst (λ (f : FirmId). IsSourced reference (history ++ giving_up f id own lines group first ∷ [])) may.of_firm
-    (subst (λ (o : Id). IsSourced reference (history ++ giving_up report.firm id o lines group first ∷ [])) may.of_id whole))
+sourced-given : (reference : Tables) (history : List Entry) (it : GiveUpOf) → IsAccepted reference history (GiveUp it) → IsSourced reference history
+    → IsSourced reference (history ++ accepted_entry reference history (GiveUp it) ∷ [])
+sourced-given reference history it is sourced =
+    subst (λ (d : Done). IsSourced reference (history ++ Asked (GiveUp it) (Accepted d) ∷ [])) (sym may.did)
+    (subst (λ (f : FirmId). IsSourced reference (history ++ giving_up f it.id it.report it.lines group first ∷ [])) may.of_firm
+    (subst (λ (o : Id). IsSourced reference (history ++ giving_up report.firm it.id o it.lines group first ∷ [])) may.of_id whole))
   where
     report : Report
-    report = (givable reference history firm id own lines is).0
+    report = (givable reference history it is).0
 
     group : Group
-    group = (givable reference history firm id own lines is).1
+    group = (givable reference history it is).1
 
-    may : MayBeGiven reference history firm id own lines report group
-    may = (givable reference history firm id own lines is).2
+    may : MayBeGiven reference history it report group
+    may = (givable reference history it is).2
 
     first : ℕ
     first = length (standing_of history) + 1
@@ -227,40 +228,32 @@ sourced-given reference history firm id own lines is sourced =
         )
     more (o ∷ offers) ls h known agreed = (h.0, more offers ls h.1 known agreed)
 
-    whole : IsSourced reference (history ++ giving_up report.firm id report.id lines group first ∷ [])
+    whole : IsSourced reference (history ++ giving_up report.firm it.id report.id it.lines group first ∷ [])
     whole =
-        let entry = giving_up report.firm id report.id lines group first in
+        let entry = giving_up report.firm it.id report.id it.lines group first in
         let reports = sym (reports_of-kept history entry (unreported entry (λ d. refl) (open_day history))) in
         record {
           reports = subst (AllByRecursion (λ (r : Report). is_there reference r.account)) reports sourced.reports;
           offers = subst (λ (os : List Offer). AllByRecursion (GivesUpTrade reference (reports_of (history ++ entry ∷ []))) os) (sym (offers_of-push history entry))
-              (subst (λ (rs : List Report). AllByRecursion (GivesUpTrade reference rs) (offers_of history ++ lines_by entry)) reports (more (offers_of history) lines sourced.offers may.known may.agreed));
+              (subst (λ (rs : List Report). AllByRecursion (GivesUpTrade reference rs) (offers_of history ++ lines_by entry)) reports (more (offers_of history) it.lines sourced.offers may.known may.agreed));
           even = λ once symbol. subst (λ (rs : List Report). traded_on reference.accounts once symbol rs Buy ≡ traded_on reference.accounts once symbol rs Sell) reports (sourced.even once symbol);
         }
 
 -- any command that is accepted
 sourced-accepted : (reference : Tables) (history : List Entry) (command : Command) → IsAccepted reference history command → IsSourced reference history → IsSourced reference (history ++ accepted_entry reference history command ∷ [])
-sourced-accepted reference history (ReportSide firm id match_id symbol lots price day side account) is sourced =
-    let command = ReportSide firm id match_id symbol lots price day side account in
+sourced-accepted reference history (ReportSide it) is sourced =
+    let command = ReportSide it in
     let entry = accepted_entry reference history command in
     let state = state_of reference history in
-    let today = day-there reference history firm id match_id symbol lots price day side account is in
-    let tail = ap (λ (d : Option Day). option_map_or (λ today. report_tests reference (reports_of history) (report_of firm id match_id symbol lots price today side account) day) d []) today.1 in
-    let mine = none_stands (tests_of reference state command) (done_of reference state command) (done_of reference state command) is.accepted 3 (is_none (account_row reference account)) UnknownAccount
+    let today = day-there reference history it is in
+    let tail = ap (λ (d : Option Day). option_map_or (λ today. report_tests reference (reports_of history) (made_on today it) it.day) d []) today.1 in
+    let mine = none_stands (tests_of reference state command) (done_of reference state command) (done_of reference state command) is.accepted 3 (is_none (account_row reference it.account)) UnknownAccount
     (ap (λ (ts : List (Bool × Refusal)). slice_get ts 2) tail) in
-    sourced-reported reference history entry (report_of firm id match_id symbol lots price today.0 side account) (ap (λ (d : Option Day). report_on d entry) today.1) refl
-    (fits-in reference firm id match_id symbol lots price day side account today.0 history today.1 is) (some-not-none (account_row reference account) mine) sourced
-sourced-accepted reference history (GiveUp firm id own lines) is sourced = sourced-given reference history firm id own lines is sourced
-sourced-accepted reference history (OpenDay day) is sourced =
-    let entry = accepted_entry reference history (OpenDay day) in sourced-still reference history entry (unreported entry (λ d. refl) (open_day history)) refl sourced
-sourced-accepted reference history (SetLimit group key lots) is sourced =
-    let entry = accepted_entry reference history (SetLimit group key lots) in sourced-still reference history entry (unreported entry (λ d. refl) (open_day history)) refl sourced
-sourced-accepted reference history (Claim firm n) is sourced =
-    let entry = accepted_entry reference history (Claim firm n) in sourced-still reference history entry (unreported entry (λ d. refl) (open_day history)) refl sourced
-sourced-accepted reference history (Refuse firm n why) is sourced =
-    let entry = accepted_entry reference history (Refuse firm n why) in sourced-still reference history entry (unreported entry (λ d. refl) (open_day history)) refl sourced
-sourced-accepted reference history (Reverse firm n) is sourced =
-    let entry = accepted_entry reference history (Reverse firm n) in sourced-still reference history entry (unreported entry (λ d. refl) (open_day history)) refl sourced
+    sourced-reported reference history entry (made_on today.0 it) (ap (λ (d : Option Day). report_on d entry) today.1) refl
+    (fits-in reference it today.0 history today.1 is) (some-not-none (account_row reference it.account) mine) sourced
+sourced-accepted reference history (GiveUp it) is sourced = sourced-given reference history it is sourced
+sourced-accepted reference history command is sourced =
+    let entry = accepted_entry reference history command in sourced-still reference history entry (unreported entry (λ d. refl) (open_day history)) refl sourced
 
 -- every legal history
 pub sourced : (reference : Tables) (history : List Entry) → IsLegal reference history → IsSourced reference history

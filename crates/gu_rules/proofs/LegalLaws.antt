@@ -62,8 +62,8 @@ has_path reference firm account agreement sound between =
 
 -- an entry makes an offer a line
 few-made : (entry : Entry) → MayBeEntered entry → length (lines_by entry) ≤ 16
-few-made (Asked (GiveUp firm id report lines) (Accepted (Offered group first count))) lines_are =
-    omega (arith, lines_are.most, length-map {B = Offer} lines (λ (l : Line). record { firm = firm; report = report; group = group; account = l.account; lots = l.lots }))
+few-made (Asked (GiveUp it) (Accepted (Offered group first count))) lines_are =
+    omega (arith, lines_are.most, length-map {B = Offer} it.lines (λ (l : Line). record { firm = it.firm; report = it.report; group = group; account = l.account; lots = l.lots }))
 few-made entry entered = omega arith
 
 few-offers : (history : List Entry) → ((k : ℕ) (entry : Entry) → slice_get history k ≡ Some entry → MayBeEntered entry) → length (offers_of history) ≤ 16 * length history

@@ -3,29 +3,25 @@ use Rattle.std.proofs.Common.{◌≡◌, ℕ, ◌+◌, ◌<◌, ◌≤◌, ◌++
 use Rattle.std.specs.List.{AllByRecursion}
 use Rattle.std.specs.Option.{option_map_or, option_to_list}
 use Rattle.gu_terms.proofs.Lists.{Later, Later-from_AllPairs, along, along2}
-use Rattle.gu_terms.specs.declared.account.AccountId.{AccountId}
 use Rattle.gu_terms.specs.declared.command.Command.{Command}
 use Rattle.gu_terms.specs.declared.command.Command.TheVariants.{OpenDay, SetLimit, ReportSide, GiveUp, Claim, Refuse, Reverse}
+use Rattle.gu_terms.specs.declared.command.GiveUp.{GiveUp as GiveUpOf}
+use Rattle.gu_terms.specs.declared.command.ReportSide.{ReportSide as ReportSideOf}
 use Rattle.gu_terms.specs.declared.day.Day.{Day}
 use Rattle.gu_terms.specs.declared.entry.Entry.{Entry}
 use Rattle.gu_terms.specs.declared.entry.Entry.TheVariants.{Asked, Swept}
 use Rattle.gu_terms.specs.declared.entry.SweepEntry.{SweepEntry}
 use Rattle.gu_terms.specs.declared.firm.FirmId.{FirmId}
 use Rattle.gu_terms.specs.declared.id.Id.{Id}
-use Rattle.gu_terms.specs.declared.lines.Line.{Line}
-use Rattle.gu_terms.specs.declared.lots.Lots.{Lots}
-use Rattle.gu_terms.specs.declared.price.Price.{Price}
 use Rattle.gu_terms.specs.declared.refusal.Refusal.{Refusal}
 use Rattle.gu_terms.specs.declared.refusal.Refusal.TheVariants.{NoDay}
 use Rattle.gu_terms.specs.declared.reply.Done.{Done}
 use Rattle.gu_terms.specs.declared.reply.Reply.{Reply}
 use Rattle.gu_terms.specs.declared.reply.Reply.TheVariants.{Accepted, Denied}
 use Rattle.gu_terms.specs.declared.report.Report.{Report}
-use Rattle.gu_terms.specs.declared.side.Side.{Side}
-use Rattle.gu_terms.specs.declared.symbol.Symbol.{Symbol}
 use Rattle.gu_terms.specs.declared.takes.Take.{Take}
 use Rattle.gu_ref.specs.Tables.{Tables}
-use Rattle.gu_trades.specs.Reports.{report_of}
+use Rattle.gu_trades.specs.Reports.{made_on}
 use Rattle.gu_offers.specs.Changes.{changed, taken}
 use Rattle.gu_offers.specs.Rows.{Row, left_in, left_of, row_at}
 use Rattle.gu_rules.specs.Legal.{IsAccepted, IsLegal, MayFollow, accepted_entry}
@@ -62,71 +58,60 @@ pub record IsOrdered (reference : Tables) (history : List Entry) : Type 0 where
 -- ---- commands
 
 -- a report
-module _
-    (reference : Tables)
-    (history : List Entry)
-    (firm : FirmId)
-    (id match_id : Id)
-    (symbol : Symbol)
-    (lots : Lots)
-    (price : Price)
-    (given : Option Day)
-    (side : Side)
-    (account : AccountId)
-    (is : IsAccepted reference history (ReportSide firm id match_id symbol lots price given side account)) where
+module _ (reference : Tables) (history : List Entry) (it : ReportSideOf) (is : IsAccepted reference history (ReportSide it)) where
   -- is made on an open day
   pub day-there : (day : Day) × (open_day history ≡ Some day)
   day-there =
-      let command = ReportSide firm id match_id symbol lots price given side account in
+      let command = ReportSide it in
       let state = state_of reference history in
       some-of (open_day history) (none_stands (tests_of reference state command) (done_of reference state command) (done_of reference state command) is.accepted 0 (is_none (open_day history)) NoDay refl)
 
-  reported : IsInOrder history → IsInOrder (history ++ accepted_entry reference history (ReportSide firm id match_id symbol lots price given side account) ∷ [])
+  reported : IsInOrder history → IsInOrder (history ++ accepted_entry reference history (ReportSide it) ∷ [])
   reported o =
-      let entry = accepted_entry reference history (ReportSide firm id match_id symbol lots price given side account) in
+      let entry = accepted_entry reference history (ReportSide it) in
       let day = day-there.0 in
-      let r = report_of firm id match_id symbol lots price day side account in
+      let r = made_on day it in
       let idle : IsIdle entry = record { takes = λ n. refl; gives = λ n. refl; closed = λ n. refl } in
       let reports : report_on (open_day history) entry ≡ Some r = ap (λ (d : Option Day). report_on d entry) day-there.1 in
-      ordered-reported history entry r o refl idle (fits-in reference firm id match_id symbol lots price given side account day history day-there.1 is)
+      ordered-reported history entry r o refl idle (fits-in reference it day history day-there.1 is)
       (reports_of-push history entry ∙ ap (λ (q : Option Report). reports_of history ++ option_to_list q) reports)
       (standing_of-idle history entry refl refl o.balanced idle)
 
 -- a give-up
-gave_up : (reference : Tables) (history : List Entry) (firm : FirmId) (id own : Id) (lines : List Line) → IsInOrder history → IsAccepted reference history (GiveUp firm id own lines)
-    → IsInOrder (history ++ accepted_entry reference history (GiveUp firm id own lines) ∷ [])
-gave_up reference history firm id own lines o is =
-    let f = givable reference history firm id own lines is in
+gave_up : (reference : Tables) (history : List Entry) (it : GiveUpOf) → IsInOrder history → IsAccepted reference history (GiveUp it)
+    → IsInOrder (history ++ accepted_entry reference history (GiveUp it) ∷ [])
+gave_up reference history it o is =
+    let f = givable reference history it is in
     let report = f.0 in
     let group = f.1 in
     let may = f.2 in
     let first = length (standing_of history) + 1 in
-    let entry = giving_up report.firm id report.id lines group first in
+    let entry = giving_up report.firm it.id report.id it.lines group first in
     let idle : IsIdle entry = record { takes = λ n. refl; gives = λ n. refl; closed = λ n. refl } in
-    subst (λ (d : Done). IsInOrder (history ++ Asked (GiveUp firm id own lines) (Accepted d) ∷ [])) (sym may.did)
-    (subst (λ (f : FirmId). IsInOrder (history ++ giving_up f id own lines group first ∷ [])) may.of_firm
-    (subst (λ (o : Id). IsInOrder (history ++ giving_up report.firm id o lines group first ∷ [])) may.of_id
-    (ordered-lines history entry report group lines o (unreported entry (λ d. refl) (open_day history)) refl idle refl may.there may.matched may.free)))
+    subst (λ (d : Done). IsInOrder (history ++ Asked (GiveUp it) (Accepted d) ∷ [])) (sym may.did)
+    (subst (λ (f : FirmId). IsInOrder (history ++ giving_up f it.id it.report it.lines group first ∷ [])) may.of_firm
+    (subst (λ (o : Id). IsInOrder (history ++ giving_up report.firm it.id o it.lines group first ∷ [])) may.of_id
+    (ordered-lines history entry report group it.lines o (unreported entry (λ d. refl) (open_day history)) refl idle refl may.there may.matched may.free)))
 
 -- any command that is accepted
 accepted : (reference : Tables) (history : List Entry) (command : Command) → IsInOrder history → IsAccepted reference history command
     → IsInOrder (history ++ accepted_entry reference history command ∷ [])
-accepted reference history (OpenDay day) o is =
-    ordered-opened history (opening day) day o (unreported (opening day) (λ d. refl) (open_day history)) refl refl (record { takes = λ n. refl; gives = λ n. refl; closed = λ n. refl })
-accepted reference history (SetLimit group key lots) o is =
-    ordered-idle history (setting group key lots) o (unreported (setting group key lots) (λ d. refl) (open_day history)) refl refl (record { takes = λ n. refl; gives = λ n. refl; closed = λ n. refl })
-accepted reference history (ReportSide firm id match_id symbol lots price day side account) o is = reported reference history firm id match_id symbol lots price day side account is o
-accepted reference history (GiveUp firm id own lines) o is = gave_up reference history firm id own lines o is
-accepted reference history (Claim firm n) o is =
-    let lots = left_in (standing_of history) n in
-    let f = claimable reference history firm n o is in
-    ordered-taken history (claimed firm n lots) n lots f.0 (claim-takes firm n lots) o f.2.there.at f.2.stands f.2.less
-accepted reference history (Refuse firm n why) o is =
-    let f = refusable reference history firm n why o is in
-    ordered-refused history firm n why (left_in (standing_of history) n) f.0 o f.2.at
-accepted reference history (Reverse firm n) o is =
-    let f = reversible reference history firm n o is in
-    subst (λ (lots : ℕ). IsInOrder (history ++ taken_back firm n lots ∷ [])) (sym (today-is (standing_of history) n f.0 f.2.there.at)) (ordered-taken_back history firm n f.0 o f.2.there.at)
+accepted reference history (OpenDay it) o is =
+    ordered-opened history (opening it.day) it.day o (unreported (opening it.day) (λ d. refl) (open_day history)) refl refl (record { takes = λ n. refl; gives = λ n. refl; closed = λ n. refl })
+accepted reference history (SetLimit it) o is =
+    ordered-idle history (setting it.group it.key it.lots) o (unreported (setting it.group it.key it.lots) (λ d. refl) (open_day history)) refl refl (record { takes = λ n. refl; gives = λ n. refl; closed = λ n. refl })
+accepted reference history (ReportSide it) o is = reported reference history it is o
+accepted reference history (GiveUp it) o is = gave_up reference history it o is
+accepted reference history (Claim it) o is =
+    let lots = left_in (standing_of history) it.offer in
+    let f = claimable reference history it.firm it.offer o is in
+    ordered-taken history (claimed it.firm it.offer lots) it.offer lots f.0 (claim-takes it.firm it.offer lots) o f.2.there.at f.2.stands f.2.less
+accepted reference history (Refuse it) o is =
+    let f = refusable reference history it.firm it.offer it.why o is in
+    ordered-refused history it.firm it.offer it.why (left_in (standing_of history) it.offer) f.0 o f.2.at
+accepted reference history (Reverse it) o is =
+    let f = reversible reference history it.firm it.offer o is in
+    subst (λ (lots : ℕ). IsInOrder (history ++ taken_back it.firm it.offer lots ∷ [])) (sym (today-is (standing_of history) it.offer f.0 f.2.there.at)) (ordered-taken_back history it.firm it.offer f.0 o f.2.there.at)
 
 -- one that is refused
 denied : (reference : Tables) (history : List Entry) (command : Command) (why : Refusal) → IsOrdered reference history → IsOrdered reference (history ++ Asked command (Denied why) ∷ [])

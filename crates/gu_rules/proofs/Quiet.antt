@@ -2,7 +2,7 @@
 use Rattle.std.proofs.Common.{◌≡◌, ◌||◌, false, List, [], ◌∷◌, ◌++◌, Option, Some, None, refl, ap, ◌∙◌}
 use Rattle.std.proofs.lemmas.List.Folds.{list_any-append}
 use Rattle.gu_terms.specs.declared.command.Command.{Command}
-use Rattle.gu_terms.specs.declared.command.Command.TheVariants.{OpenDay, SetLimit, ReportSide, GiveUp, Claim, Refuse, Reverse}
+use Rattle.gu_terms.specs.declared.command.Command.TheVariants.{OpenDay}
 use Rattle.gu_terms.specs.declared.day.Day.{Day}
 use Rattle.gu_terms.specs.declared.entry.Entry.{Entry}
 use Rattle.gu_terms.specs.declared.entry.Entry.TheVariants.{Asked}
@@ -47,25 +47,10 @@ unreported entry none (Some day) = none day
 
 -- a command that is refused is such an entry
 pub denied-quiet : (history : List Entry) (command : Command) (why : Refusal) → IsQuiet history (Asked command (Denied why))
-denied-quiet history (OpenDay day) why = record { opens = refl; reports = unreported (Asked (OpenDay day) (Denied why)) (λ d. refl) (open_day history); gives_up = λ f i. refl; sets = λ g k. refl }
-denied-quiet history (SetLimit group key lots) why = record { opens = refl; reports = unreported (Asked (SetLimit group key lots) (Denied why)) (λ d. refl) (open_day history); gives_up = λ f i. refl; sets = λ g k. refl }
-denied-quiet history (ReportSide firm id match_id symbol lots price day side account) why = record {
-  opens = refl;
-  reports = unreported (Asked (ReportSide firm id match_id symbol lots price day side account) (Denied why)) (λ d. refl) (open_day history);
-  gives_up = λ f i. refl;
-  sets = λ g k. refl;
-}
-denied-quiet history (GiveUp firm id report lines) why = record { opens = refl; reports = unreported (Asked (GiveUp firm id report lines) (Denied why)) (λ d. refl) (open_day history); gives_up = λ f i. refl; sets = λ g k. refl }
-denied-quiet history (Claim firm offer) why = record { opens = refl; reports = unreported (Asked (Claim firm offer) (Denied why)) (λ d. refl) (open_day history); gives_up = λ f i. refl; sets = λ g k. refl }
-denied-quiet history (Refuse firm offer reason) why = record { opens = refl; reports = unreported (Asked (Refuse firm offer reason) (Denied why)) (λ d. refl) (open_day history); gives_up = λ f i. refl; sets = λ g k. refl }
-denied-quiet history (Reverse firm offer) why = record { opens = refl; reports = unreported (Asked (Reverse firm offer) (Denied why)) (λ d. refl) (open_day history); gives_up = λ f i. refl; sets = λ g k. refl }
+denied-quiet history (OpenDay it) why = record { opens = refl; reports = unreported (Asked (OpenDay it) (Denied why)) (λ d. refl) (open_day history); gives_up = λ f i. refl; sets = λ g k. refl }
+denied-quiet history command why = record { opens = refl; reports = unreported (Asked command (Denied why)) (λ d. refl) (open_day history); gives_up = λ f i. refl; sets = λ g k. refl }
 
 -- which makes no offers
 pub denied-lines : (command : Command) (why : Refusal) → lines_by (Asked command (Denied why)) ≡ []
-denied-lines (OpenDay day) why = refl
-denied-lines (SetLimit group key lots) why = refl
-denied-lines (ReportSide firm id match_id symbol lots price day side account) why = refl
-denied-lines (GiveUp firm id report lines) why = refl
-denied-lines (Claim firm offer) why = refl
-denied-lines (Refuse firm offer reason) why = refl
-denied-lines (Reverse firm offer) why = refl
+denied-lines (OpenDay it) why = refl
+denied-lines command why = refl

@@ -2,7 +2,7 @@
 use Rattle.std.proofs.Common.{◌≡◌, ℕ, ◌+◌, ◌-◌, ◌||◌, Bool, true, false, refl, arith}
 use Rattle.gu_terms.specs.declared.alloc_reject.AllocReject.{AllocReject}
 use Rattle.gu_terms.specs.declared.command.Command.{Command}
-use Rattle.gu_terms.specs.declared.command.Command.TheVariants.{OpenDay, SetLimit, ReportSide, GiveUp, Claim, Refuse, Reverse}
+use Rattle.gu_terms.specs.declared.command.Command.TheVariants.{OpenDay, Refuse, Reverse}
 use Rattle.gu_terms.specs.declared.entry.Entry.{Entry}
 use Rattle.gu_terms.specs.declared.entry.Entry.TheVariants.{Asked}
 use Rattle.gu_terms.specs.declared.firm.FirmId.{FirmId}
@@ -18,10 +18,10 @@ use Rattle.gu_rules.proofs.Takers.{apart, same}
 
 -- an entry of a refusal, and of a reversal
 abbrev pub refused : FirmId → ℕ → AllocReject → ℕ → Entry
-refused firm n why lots = Asked (Refuse firm n why) (Accepted (Refused lots))
+refused firm n why lots = Asked (Refuse (record { firm = firm; offer = n; why = why })) (Accepted (Refused lots))
 
 abbrev pub taken_back : FirmId → ℕ → ℕ → Entry
-taken_back firm n lots = Asked (Reverse firm n) (Accepted (Reversed lots))
+taken_back firm n lots = Asked (Reverse (record { firm = firm; offer = n })) (Accepted (Reversed lots))
 
 -- each leaves the other offers
 pub refused-others : (firm : FirmId) (n : ℕ) (why : AllocReject) (lots : ℕ) → LeavesOthers (refused firm n why lots) n
@@ -56,10 +56,5 @@ idle : (entry : Entry) → ((n : ℕ) → taken_by n entry ≡ 0) → ((n : ℕ)
 idle entry takes gives shut = record { takes = takes; gives = gives; closed = shut }
 
 pub denied-idle : (command : Command) (why : Refusal) → IsIdle (Asked command (Denied why))
-denied-idle (OpenDay day) why = idle _ (λ n. refl) (λ n. refl) (λ n. refl)
-denied-idle (SetLimit group key lots) why = idle _ (λ n. refl) (λ n. refl) (λ n. refl)
-denied-idle (ReportSide firm id match_id symbol lots price day side account) why = idle _ (λ n. refl) (λ n. refl) (λ n. refl)
-denied-idle (GiveUp firm id report lines) why = idle _ (λ n. refl) (λ n. refl) (λ n. refl)
-denied-idle (Claim firm offer) why = idle _ (λ n. refl) (λ n. refl) (λ n. refl)
-denied-idle (Refuse firm offer reason) why = idle _ (λ n. refl) (λ n. refl) (λ n. refl)
-denied-idle (Reverse firm offer) why = idle _ (λ n. refl) (λ n. refl) (λ n. refl)
+denied-idle (OpenDay it) why = idle _ (λ n. refl) (λ n. refl) (λ n. refl)
+denied-idle command why = idle _ (λ n. refl) (λ n. refl) (λ n. refl)

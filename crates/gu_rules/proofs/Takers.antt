@@ -53,7 +53,7 @@ pub record TakesOne (entry : Entry) (n lots : ℕ) : Type 0 where
 
 -- an entry of a claim
 abbrev pub claimed : FirmId → ℕ → ℕ → Entry
-claimed firm n lots = Asked (Claim firm n) (Accepted (Claimed lots))
+claimed firm n lots = Asked (Claim (record { firm = firm; offer = n })) (Accepted (Claimed lots))
 
 -- takes of its offer
 pub claim-takes : (firm : FirmId) (n lots : ℕ) → TakesOne (claimed firm n lots) n lots

@@ -3,14 +3,15 @@ use Rattle.std.proofs.Common.{◌≡◌, ℕ, ◌&&◌, not, Bool, true, false, 
 use Rattle.std.specs.List.{filter_map, last_or}
 use Rattle.std.proofs.lemmas.Bool.{cases_Bool}
 use Rattle.gu_terms.proofs.SameNames.{same_group-true}
-use Rattle.gu_terms.specs.declared.command.Command.TheVariants.{OpenDay, SetLimit, ReportSide, GiveUp, Claim, Refuse, Reverse}
+use Rattle.gu_terms.specs.declared.command.Command.TheVariants.{SetLimit}
+use Rattle.gu_terms.specs.declared.command.SetLimit.{SetLimit as SetLimitOf}
 use Rattle.gu_terms.specs.declared.entry.Entry.{Entry}
-use Rattle.gu_terms.specs.declared.entry.Entry.TheVariants.{Asked, Swept}
+use Rattle.gu_terms.specs.declared.entry.Entry.TheVariants.{Asked}
 use Rattle.gu_terms.specs.declared.group.Group.{Group}
 use Rattle.gu_terms.specs.declared.limit_key.LimitKey.{LimitKey}
 use Rattle.gu_terms.specs.declared.refusal.Refusal.TheVariants.{UnknownKey}
-use Rattle.gu_terms.specs.declared.reply.Done.TheVariants.{Opened, LimitSet, Reported, Offered, Claimed, Refused, Reversed}
-use Rattle.gu_terms.specs.declared.reply.Reply.TheVariants.{Accepted, Denied}
+use Rattle.gu_terms.specs.declared.reply.Done.TheVariants.{LimitSet}
+use Rattle.gu_terms.specs.declared.reply.Reply.TheVariants.{Accepted}
 use Rattle.gu_terms.specs.Same.{same_group}
 use Rattle.gu_ref.specs.Reference.{is_group}
 use Rattle.gu_ref.specs.Tables.{Tables}
@@ -25,35 +26,22 @@ known true b h = refl
 known false b h = cc
 
 -- a limit that is accepted is of a known group
-limit_group : (reference : Tables) (before : List Entry) (at : Group) (on : LimitKey) (lots : ℕ) → MayFollow reference before (Asked (SetLimit at on lots) (Accepted LimitSet)) → is_group reference at ≡ true
-limit_group reference before at on lots may =
-    known (is_group reference at) (is_known_key reference on)
-    (none_stands (limit_tests reference at on lots) LimitSet LimitSet (sym may) 0 (not (is_group reference at && is_known_key reference on)) UnknownKey refl)
+limit_group : (reference : Tables) (before : List Entry) (it : SetLimitOf) → MayFollow reference before (Asked (SetLimit it) (Accepted LimitSet)) → is_group reference it.group ≡ true
+limit_group reference before it may =
+    known (is_group reference it.group) (is_known_key reference it.key)
+    (none_stands (limit_tests reference it.group it.key it.lots) LimitSet LimitSet (sym may) 0 (not (is_group reference it.group && is_known_key reference it.key)) UnknownKey refl)
 
 -- so that no entry sets one for an unknown group
 sets_nothing : (reference : Tables) (before : List Entry) (group : Group) (key : LimitKey) (entry : Entry) → is_group reference group ≡ false → MayFollow reference before entry
     → limit_set_by group key entry ≡ None
-sets_nothing reference before group key (Swept sweep) unknown may = refl
-sets_nothing reference before group key (Asked (OpenDay day) reply) unknown may = refl
-sets_nothing reference before group key (Asked (ReportSide firm id match_id symbol lots price day side account) reply) unknown may = refl
-sets_nothing reference before group key (Asked (GiveUp firm id report lines) reply) unknown may = refl
-sets_nothing reference before group key (Asked (Claim firm offer) reply) unknown may = refl
-sets_nothing reference before group key (Asked (Refuse firm offer why) reply) unknown may = refl
-sets_nothing reference before group key (Asked (Reverse firm offer) reply) unknown may = refl
-sets_nothing reference before group key (Asked (SetLimit at on lots) (Accepted (Offered given first count))) unknown may = refl
-sets_nothing reference before group key (Asked (SetLimit at on lots) (Accepted (Claimed moved))) unknown may = refl
-sets_nothing reference before group key (Asked (SetLimit at on lots) (Accepted (Refused closed))) unknown may = refl
-sets_nothing reference before group key (Asked (SetLimit at on lots) (Accepted (Reversed moved))) unknown may = refl
-sets_nothing reference before group key (Asked (SetLimit at on lots) (Denied why)) unknown may = refl
-sets_nothing reference before group key (Asked (SetLimit at on lots) (Accepted Opened)) unknown may = refl
-sets_nothing reference before group key (Asked (SetLimit at on lots) (Accepted (Reported matched))) unknown may = refl
-sets_nothing reference before group key (Asked (SetLimit at on lots) (Accepted LimitSet)) unknown may =
-    elim (cases_Bool (same_group at group)) [
+sets_nothing reference before group key (Asked (SetLimit it) (Accepted LimitSet)) unknown may =
+    elim (cases_Bool (same_group it.group group)) [
       | inl hit ↦
-          let here : is_group reference group ≡ true = subst (λ (g : Group). is_group reference g ≡ true) (same_group-true at group hit) (limit_group reference before at on lots may) in
+          let here : is_group reference group ≡ true = subst (λ (g : Group). is_group reference g ≡ true) (same_group-true it.group group hit) (limit_group reference before it may) in
           cc
       | inr miss ↦ rw miss refl
     ]
+sets_nothing reference before group key entry unknown may = refl
 
 gives_nothing : {X Y : Type 0} (given : X → Option Y) (items : List X) → ((k : ℕ) (x : X) → slice_get items k ≡ Some x → given x ≡ None) → filter_map given items ≡ []
 gives_nothing given [] none = refl

@@ -15,6 +15,7 @@ use Rattle.gu_terms.specs.declared.limit_key.LimitKey.TheVariants.{Exec, Agr, Ac
 use Rattle.gu_terms.specs.declared.lines.Line.{Line}
 use Rattle.gu_terms.specs.declared.report.Report.{Report}
 use Rattle.gu_terms.specs.declared.command.Command.{Command}
+use Rattle.gu_terms.specs.declared.command.ReportSide.{ReportSide as ReportSideOf}
 use Rattle.gu_terms.specs.declared.command.Command.TheVariants.{OpenDay, SetLimit, ReportSide, GiveUp, Claim, Refuse, Reverse}
 use Rattle.gu_terms.specs.declared.refusal.Refusal.{Refusal}
 use Rattle.gu_terms.specs.declared.refusal.Refusal.TheVariants.{NoDay, WrongDay, UnknownInstrument, UnknownAccount, NotYours, DuplicateId, MatchConflict, UnknownTrade, NotMatched, NoAgreement, TooManyLots, TooManyOffers, UnknownOffer, OfferClosed, LimitReached, UnknownKey, TooHigh, OfferOpen, NothingToReverse}
@@ -29,7 +30,7 @@ use Rattle.gu_ref.specs.declared.instruments.Instrument.{Instrument}
 use Rattle.gu_trades.specs.Counterparts.{standing_in}
 use Rattle.gu_trades.specs.Matching.{conflicts, is_waiting}
 use Rattle.gu_trades.specs.declared.standing.Standing.{Standing}
-use Rattle.gu_trades.specs.Reports.{has_report, report_by, report_of, with_match}
+use Rattle.gu_trades.specs.Reports.{has_report, report_by, made_on, with_match}
 use Rattle.gu_offers.specs.Rows.{Row, counted_under, left_in, open_count, row_at, today_in}
 use Rattle.gu_rules.specs.Limits.{path_after, room_of}
 use Rattle.gu_rules.specs.Offers.{has_give_up, standing_of}
@@ -183,32 +184,31 @@ refuse_tests state n = (left_in state.offers n == 0, OfferClosed) ∷ []
 abbrev pub reverse_tests : State → ℕ → List (Bool × Refusal)
 reverse_tests state n = (nat_lt 0 (left_in state.offers n), OfferOpen) ∷ (today_in state.offers n == 0, NothingToReverse) ∷ []
 
--- the tests of a report, where a day is open
-abbrev pub side_tests : Tables → State → (Day → Report) → Option Day → List (Bool × Refusal)
-side_tests reference state report day =
-    (is_none state.today, NoDay) ∷ option_map_or (λ today. report_tests reference state.reports (report today) day) state.today []
+-- the tests of a report that a firm asks for, which is made where a day is open
+abbrev pub side_tests : Tables → State → ReportSideOf → List (Bool × Refusal)
+side_tests reference state r =
+    (is_none state.today, NoDay) ∷ option_map_or (λ today. report_tests reference state.reports (made_on today r) r.day) state.today []
 
 -- the tests of a command, in their order
 abbrev pub tests_of : Tables → State → Command → List (Bool × Refusal)
-tests_of reference state (OpenDay day) = opening_tests state.today day
-tests_of reference state (SetLimit group key lots) = limit_tests reference group key lots
-tests_of reference state (ReportSide firm id match_id symbol lots price day side account) =
-    side_tests reference state (λ today. report_of firm id match_id symbol lots price today side account) day
-tests_of reference state (GiveUp firm id report lines) = give_up_tests reference state firm id lines (given_up reference state firm report)
-tests_of reference state (Claim firm offer) = offer_tests reference state firm offer ++ claim_tests reference state offer
-tests_of reference state (Refuse firm offer why) = offer_tests reference state firm offer ++ refuse_tests state offer
-tests_of reference state (Reverse firm offer) = offer_tests reference state firm offer ++ reverse_tests state offer
+tests_of reference state (OpenDay opening) = opening_tests state.today opening.day
+tests_of reference state (SetLimit limit) = limit_tests reference limit.group limit.key limit.lots
+tests_of reference state (ReportSide report) = side_tests reference state report
+tests_of reference state (GiveUp give_up) = give_up_tests reference state give_up.firm give_up.id give_up.lines (given_up reference state give_up.firm give_up.report)
+tests_of reference state (Claim claim) = offer_tests reference state claim.firm claim.offer ++ claim_tests reference state claim.offer
+tests_of reference state (Refuse refusal) = offer_tests reference state refusal.firm refusal.offer ++ refuse_tests state refusal.offer
+tests_of reference state (Reverse reversal) = offer_tests reference state reversal.firm reversal.offer ++ reverse_tests state reversal.offer
 
 -- what a command does where no test holds. (A give-up without a report, for which there is no group, is refused by a test.)
 abbrev pub done_of : Tables → State → Command → Done
-done_of reference state (OpenDay day) = Opened
-done_of reference state (SetLimit group key lots) = LimitSet
-done_of reference state (ReportSide firm id match_id symbol lots price day side account) = Reported (is_waiting (with_match match_id state.reports))
-done_of reference state (GiveUp firm id report lines) =
-    option_map_or (λ g. Offered g.1 (length state.offers + 1) (length lines)) (given_up reference state firm report) Opened
-done_of reference state (Claim firm offer) = Claimed (left_in state.offers offer)
-done_of reference state (Refuse firm offer why) = Refused (left_in state.offers offer)
-done_of reference state (Reverse firm offer) = Reversed (today_in state.offers offer)
+done_of reference state (OpenDay opening) = Opened
+done_of reference state (SetLimit limit) = LimitSet
+done_of reference state (ReportSide report) = Reported (is_waiting (with_match report.match_id state.reports))
+done_of reference state (GiveUp give_up) =
+    option_map_or (λ g. Offered g.1 (length state.offers + 1) (length give_up.lines)) (given_up reference state give_up.firm give_up.report) Opened
+done_of reference state (Claim claim) = Claimed (left_in state.offers claim.offer)
+done_of reference state (Refuse refusal) = Refused (left_in state.offers refusal.offer)
+done_of reference state (Reverse reversal) = Reversed (today_in state.offers reversal.offer)
 
 -- the answer to a command, where a history comes to this
 abbrev pub answer_in : Tables → State → Command → Reply

@@ -23,7 +23,7 @@ use Rattle.gu_rules.specs.Offers.{standing_of}
 
 -- the lots that an entry sets for a key in a group
 abbrev pub limit_set_by : Group → LimitKey → Entry → Option ℕ
-limit_set_by group key (Asked (SetLimit at on lots) (Accepted LimitSet)) = if same_group at group && key_eq on key then Some lots else None
+limit_set_by group key (Asked (SetLimit limit) (Accepted LimitSet)) = if same_group limit.group group && key_eq limit.key key then Some limit.lots else None
 limit_set_by group key _ = None
 
 -- the lots that were set last for a key in a group

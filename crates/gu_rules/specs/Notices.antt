@@ -83,11 +83,11 @@ told_of_trade number reports = told_on number Buy reports ++ told_on number Sell
 
 -- the notices of the entry of a number: of a report that makes a trade, a give-up by its lines, a claim, a refusal, a reversal, and a sweep by its takes; nothing else has any
 abbrev pub told_by : Register → ℕ → Entry → List Told
-told_by register number (Asked (ReportSide firm id match_id symbol lots price day side account) (Accepted (Reported true))) = told_of_trade number (with_match match_id register.reports)
-told_by register number (Asked (GiveUp firm id report lines) (Accepted (Offered group first count))) = flat_map (told_of_line register) (range_with_len first (length lines))
-told_by register number (Asked (Claim firm n) (Accepted (Claimed lots))) = told_of_event register n IsClaimed lots
-told_by register number (Asked (Refuse firm n why) (Accepted (Refused lots))) = told_of_event register n (IsRefused why) lots
-told_by register number (Asked (Reverse firm n) (Accepted (Reversed lots))) = told_of_event register n IsReversed lots
+told_by register number (Asked (ReportSide report) (Accepted (Reported true))) = told_of_trade number (with_match report.match_id register.reports)
+told_by register number (Asked (GiveUp give_up) (Accepted (Offered group first count))) = flat_map (told_of_line register) (range_with_len first (length give_up.lines))
+told_by register number (Asked (Claim claim) (Accepted (Claimed lots))) = told_of_event register claim.offer IsClaimed lots
+told_by register number (Asked (Refuse refusal) (Accepted (Refused lots))) = told_of_event register refusal.offer (IsRefused refusal.why) lots
+told_by register number (Asked (Reverse reversal) (Accepted (Reversed lots))) = told_of_event register reversal.offer IsReversed lots
 told_by register number (Swept sweep) = flat_map (told_of_take register) sweep.takes
 told_by register number _ = []
 

@@ -17,8 +17,8 @@ use Rattle.gu_rules.specs.Reports.{entries_today}
 
 -- the offers that an entry makes: the lines of an accepted give-up, in the group that its reply names
 abbrev pub lines_by : Entry → List Offer
-lines_by (Asked (GiveUp firm id report lines) (Accepted (Offered group first count))) =
-    map (λ (l : Line). record { firm = firm; report = report; group = group; account = l.account; lots = l.lots }) lines
+lines_by (Asked (GiveUp give_up) (Accepted (Offered group first count))) =
+    map (λ (l : Line). record { firm = give_up.firm; report = give_up.report; group = group; account = l.account; lots = l.lots }) give_up.lines
 lines_by _ = []
 
 -- the offers, in order
@@ -27,13 +27,13 @@ offers_of history = flat_map lines_by history
 
 -- the lots that an entry takes of the offer of a number: an accepted claim, or a sweep
 abbrev pub taken_by : ℕ → Entry → ℕ
-taken_by n (Asked (Claim firm offer) (Accepted (Claimed lots))) = if offer == n then lots else 0
+taken_by n (Asked (Claim claim) (Accepted (Claimed lots))) = if claim.offer == n then lots else 0
 taken_by n (Swept sweep) = lots_of sweep.takes n
 taken_by n _ = 0
 
 -- the lots that an entry gives back to it: an accepted reversal
 abbrev pub given_back_by : ℕ → Entry → ℕ
-given_back_by n (Asked (Reverse firm offer) (Accepted (Reversed lots))) = if offer == n then lots else 0
+given_back_by n (Asked (Reverse reversal) (Accepted (Reversed lots))) = if reversal.offer == n then lots else 0
 given_back_by n _ = 0
 
 -- the lots that entries moved of it
@@ -42,8 +42,8 @@ moved_of entries n = sum_by (taken_by n) entries - sum_by (given_back_by n) entr
 
 -- an entry closes it for good: an accepted refusal or reversal
 abbrev pub closes : ℕ → Entry → Bool
-closes n (Asked (Refuse firm offer why) (Accepted (Refused lots))) = offer == n
-closes n (Asked (Reverse firm offer) (Accepted (Reversed lots))) = offer == n
+closes n (Asked (Refuse refusal) (Accepted (Refused lots))) = refusal.offer == n
+closes n (Asked (Reverse reversal) (Accepted (Reversed lots))) = reversal.offer == n
 closes n _ = false
 
 -- it was closed for good
@@ -66,7 +66,7 @@ standing_of history = standing_from history 1 (offers_of history)
 
 -- an entry is an accepted give-up of this firm with this id
 abbrev pub gave_up : FirmId → Id → Entry → Bool
-gave_up firm id (Asked (GiveUp by own report lines) (Accepted (Offered group first count))) = same_firm by firm && same_id own id
+gave_up firm id (Asked (GiveUp give_up) (Accepted (Offered group first count))) = same_firm give_up.firm firm && same_id give_up.id id
 gave_up firm id _ = false
 
 -- the firm has given up with this id

@@ -10,11 +10,11 @@ use Rattle.gu_terms.specs.declared.reply.Reply.TheVariants.{Accepted}
 use Rattle.gu_terms.specs.declared.entry.Entry.{Entry}
 use Rattle.gu_terms.specs.declared.entry.Entry.TheVariants.{Asked}
 use Rattle.gu_trades.specs.Matching.{conflicts}
-use Rattle.gu_trades.specs.Reports.{has_report, report_of, with_match}
+use Rattle.gu_trades.specs.Reports.{has_report, made_on, with_match}
 
 -- the day that an entry opened
 abbrev pub opened_day : Entry → Option Day
-opened_day (Asked (OpenDay day) (Accepted Opened)) = Some day
+opened_day (Asked (OpenDay opening) (Accepted Opened)) = Some opening.day
 opened_day _ = None
 
 -- the open day: that of the last accepted opening
@@ -27,8 +27,8 @@ entries_today history = after_last (λ e. is_some (opened_day e)) history
 
 -- the report that was taken in by an entry, made while this day was open
 abbrev pub report_on : Option Day → Entry → Option Report
-report_on (Some today) (Asked (ReportSide firm id match_id symbol lots price day side account) (Accepted (Reported matched))) =
-    Some (report_of firm id match_id symbol lots price today side account)
+report_on (Some today) (Asked (ReportSide report) (Accepted (Reported matched))) =
+    Some (made_on today report)
 report_on _ _ = None
 
 -- the reports that later entries took in, where these entries came before

@@ -23,12 +23,12 @@ is_of_group history group n = option_map_or (λ (o : Offer). same_group o.group 
 -- an entry after these touches a group: an opening every group, a limit or a give-up its own, a claim, a refusal or a reversal that of its offer,
 -- and a sweep its own, where it takes nothing too; reports and refused commands touch none
 abbrev pub touches : List Entry → Group → Entry → Bool
-touches before group (Asked (OpenDay day) (Accepted Opened)) = true
-touches before group (Asked (SetLimit at key lots) (Accepted LimitSet)) = same_group at group
-touches before group (Asked (GiveUp firm id report lines) (Accepted (Offered at first count))) = same_group at group
-touches before group (Asked (Claim firm offer) (Accepted (Claimed lots))) = is_of_group before group offer
-touches before group (Asked (Refuse firm offer why) (Accepted (Refused lots))) = is_of_group before group offer
-touches before group (Asked (Reverse firm offer) (Accepted (Reversed lots))) = is_of_group before group offer
+touches before group (Asked (OpenDay opening) (Accepted Opened)) = true
+touches before group (Asked (SetLimit limit) (Accepted LimitSet)) = same_group limit.group group
+touches before group (Asked (GiveUp give_up) (Accepted (Offered at first count))) = same_group at group
+touches before group (Asked (Claim claim) (Accepted (Claimed lots))) = is_of_group before group claim.offer
+touches before group (Asked (Refuse refusal) (Accepted (Refused lots))) = is_of_group before group refusal.offer
+touches before group (Asked (Reverse reversal) (Accepted (Reversed lots))) = is_of_group before group reversal.offer
 touches before group (Swept sweep) = same_group sweep.group group
 touches before group (Asked command reply) = false
 

@@ -75,7 +75,7 @@ line_lots firm report group [] h = tt
 line_lots firm report group (l ∷ lines) h = (h.0, line_lots firm report group lines h.1)
 
 made_lots : (entry : Entry) → HasLots entry → AllByRecursion (λ (o : GivenUp). IsLots o.lots) (lines_by entry)
-made_lots (Asked (GiveUp firm id report lines) (Accepted (Offered group first count))) h = line_lots firm report group lines h
+made_lots (Asked (GiveUp it) (Accepted (Offered group first count))) h = line_lots it.firm it.report group it.lines h
 made_lots entry h = tt
 
 offers_lots : (history : List Entry) → AllByRecursion HasLots history → AllByRecursion (λ (o : GivenUp). IsLots o.lots) (offers_of history)
@@ -102,12 +102,12 @@ chosen false given lots low h = cc
 -- a limit that is set is a thousand million lots at most
 set_most : (reference : Tables) (before : List Entry) (entry : Entry) → length before < 1000000 → MayFollow reference before entry → (group : Group) (key : LimitKey) (lots : ℕ)
     → limit_set_by group key entry ≡ Some lots → lots ≤ 1000000000
-set_most reference before (Asked (SetLimit at on given) (Accepted LimitSet)) room may group key lots e =
-    let is = is-accepted reference before (SetLimit at on given) (Accepted LimitSet) room may refl in
+set_most reference before (Asked (SetLimit it) (Accepted LimitSet)) room may group key lots e =
+    let is = is-accepted reference before (SetLimit it) (Accepted LimitSet) room may refl in
     let state = state_of reference before in
-    let command = SetLimit at on given in
-    let low = ltb-false most_limit given (none_stands (tests_of reference state command) (done_of reference state command) (done_of reference state command) is.accepted 1 (nat_lt most_limit given) TooHigh refl) in
-    chosen (same_group at group && key_eq on key) given lots low e
+    let command = SetLimit it in
+    let low = ltb-false most_limit it.lots (none_stands (tests_of reference state command) (done_of reference state command) (done_of reference state command) is.accepted 1 (nat_lt most_limit it.lots) TooHigh refl) in
+    chosen (same_group it.group group && key_eq it.key key) it.lots lots low e
 set_most reference before entry room may group key lots e = cc
 
 limit_more : (history : List Entry) (entry : Entry) (group : Group) (key : LimitKey) → ((lots : ℕ) → limit_set_by group key entry ≡ Some lots → lots ≤ 1000000000) → limit_of history group key ≤ 1000000000

@@ -37,7 +37,7 @@ apart_says command None is =
     record { are = (row.are, tt); say = λ texts others all. inr (row.says, all) }
 apart_says command (Some days) is =
     let remark = remark_is_silent command days.0 is in
-    let opening = command_says (OpenDay days.1) tt in
+    let opening = command_says (OpenDay (record { day = days.1 })) tt in
     record { are = (remark.are, (opening.are, tt)); say = λ texts others all. inl (remark.silent, inr (opening.says, all)) }
 
 entry_says : (today : Option Day) (entry : Entry) → IsWritableEntry entry → SayFirst (entry_rows today entry) (entry_said today entry)

@@ -38,7 +38,7 @@ PrintRightSheets reference history =
 
 -- the lines of a give-up have 1 to 1,000,000 lots each
 abbrev pub HasLots : Entry → Type 0
-HasLots (Asked (GiveUp firm id report lines) reply) = AllByRecursion (λ l. IsLots l.lots) lines
+HasLots (Asked (GiveUp give_up) reply) = AllByRecursion (λ l. IsLots l.lots) give_up.lines
 HasLots entry = Unit {0}
 
 -- what the types of a reference and of commands keep, and these tables and lists alone don't: the reference is sound and its names are

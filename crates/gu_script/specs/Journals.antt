@@ -1,7 +1,7 @@
 -- A day as a script: each entry of a history as the line that makes it.
 use Rattle.std.specs.Prelude.{ℕ, List, [], ◌∷◌, ◌++◌, Option, Some, None, if◌then◌else◌}
 use Rattle.std.specs.List.{flat_map}
-use Rattle.std.specs.Option.{option_or}
+use Rattle.std.specs.Option.{option_and_then, option_or}
 use Rattle.gu_terms.specs.Same.{same_day}
 use Rattle.gu_terms.specs.declared.command.Command.{Command}
 use Rattle.gu_terms.specs.declared.command.Command.TheVariants.{OpenDay, ReportSide}
@@ -17,15 +17,14 @@ use Rattle.gu_text.specs.declared.script_line.Line.TheVariants as line
 
 -- the days of a report that names another day than the open one: the named and the open
 abbrev pub days_apart : Option Day → Command → Option (Day × Day)
-days_apart (Some today) (ReportSide firm id match_id symbol lots price (Some day) side account) =
-    if same_day today day then None else Some (day, today)
+days_apart (Some today) (ReportSide report) = option_and_then (λ day. if same_day today day then None else Some (day, today)) report.day
 days_apart today command = None
 
 -- the lines of a command, as words, where these are its days apart: a script has no line for a report of another day than the open one, so
 -- such a one is a comment, and an opening of the open day in its place, which is refused for its day too
 abbrev pub rows_apart : Command → Option (Day × Day) → List (List (List ℕ))
 rows_apart command None = command_words command ∷ []
-rows_apart command (Some days) = remark_words command days.0 ∷ command_words (OpenDay days.1) ∷ []
+rows_apart command (Some days) = remark_words command days.0 ∷ command_words (OpenDay (record { day = days.1 })) ∷ []
 
 -- the lines of an entry, as words, where this day is open before it: after a sweep its takes and its cut follow as comments
 abbrev pub entry_rows : Option Day → Entry → List (List (List ℕ))
@@ -48,7 +47,7 @@ journal_text history = flat_map line_of (rows_after None history)
 -- what a script says in the place of a command, where these are its days apart
 abbrev pub command_said : Command → Option (Day × Day) → Line
 command_said command None = line.Step (Enter (undated command))
-command_said command (Some days) = line.Step (Enter (OpenDay days.1))
+command_said command (Some days) = line.Step (Enter (OpenDay (record { day = days.1 })))
 
 -- what a script says for an entry, where this day is open before it
 abbrev pub entry_said : Option Day → Entry → Line

@@ -9,7 +9,7 @@ ghost use Rattle.gu_streams.specs.Written.{WrotePart};
 ghost use Rattle.gu_text.specs.Texts.{line_of};
 
 use gu_streams::{StreamError, send};
-use gu_terms::{Command, Day, Done, Entry, History, Reply};
+use gu_terms::{Command, Day, Done, Entry, History, OpenDay, Reply};
 use gu_text::{append_command, append_remark, append_sweep};
 use std::alloc::{AllocError, Global};
 use std::io::Write;
@@ -23,9 +23,9 @@ pub fn opened_day(entry: &Entry) -> Option<Day>
 {
     match entry {
         Entry::Asked {
-            command: Command::OpenDay { day },
+            command: Command::OpenDay(opening),
             reply: Reply::Accepted(Done::Opened),
-        } => Some(*day),
+        } => Some(opening.day),
         _ => None,
     }
 }
@@ -35,9 +35,10 @@ fn days_apart(today: Option<Day>, command: &Command) -> Option<(Day, Day)>
     ensures { result ≡ days_apart today command.now }
 {
     match (today, command) {
-        (Some(today), Command::ReportSide { day: Some(day), .. }) if !today.is_same(*day) => {
-            Some((*day, today))
-        }
+        (Some(today), Command::ReportSide(report)) => match report.day {
+            Some(day) if !today.is_same(day) => Some((day, today)),
+            _ => None,
+        },
         _ => None,
     }
 }
@@ -53,7 +54,7 @@ fn append_asked(
     match days {
         Some((day, today)) => {
             append_remark(output, command, day)?;
-            append_command(output, &Command::OpenDay { day: today })
+            append_command(output, &Command::OpenDay(OpenDay { day: today }))
         }
         None => append_command(output, command),
     }

@@ -21,13 +21,13 @@ text_at-front texts more at len within =
 -- and so do the texts of an entry
 texts_at-front : (texts more : List ℕ) (s : Span) → s.at + size_of s ≤ length texts → texts_at (texts ++ more) s ≡ texts_at texts s
 texts_at-front texts more s h =
-    let first = text_at-front texts more s.at s.first (omega (arith, h)) in
-    let second = text_at-front texts more (s.at + s.first) s.second (omega (arith, h)) in
-    let third = text_at-front texts more (s.at + s.first + s.second) s.third (omega (arith, h)) in
-    let fourth = text_at-front texts more (s.at + s.first + s.second + s.third) s.fourth (omega (arith, h)) in
-    let fifth = text_at-front texts more (s.at + s.first + s.second + s.third + s.fourth) s.fifth (omega (arith, h)) in
-    let reply = text_at-front texts more (s.at + s.first + s.second + s.third + s.fourth + s.fifth) s.reply (omega (arith, h)) in
-    rw (first, second, third, fourth, fifth, reply) refl
+    let own_id = text_at-front texts more s.at s.own_id (omega (arith, h)) in
+    let other_id = text_at-front texts more (s.at + s.own_id) s.other_id (omega (arith, h)) in
+    let symbol_or_group = text_at-front texts more (s.at + s.own_id + s.other_id) s.symbol_or_group (omega (arith, h)) in
+    let account_or_key = text_at-front texts more (s.at + s.own_id + s.other_id + s.symbol_or_group) s.account_or_key (omega (arith, h)) in
+    let firm = text_at-front texts more (s.at + s.own_id + s.other_id + s.symbol_or_group + s.account_or_key) s.firm (omega (arith, h)) in
+    let reply = text_at-front texts more (s.at + s.own_id + s.other_id + s.symbol_or_group + s.account_or_key + s.firm) s.reply (omega (arith, h)) in
+    rw (own_id, other_id, symbol_or_group, account_or_key, firm, reply) refl
 
 module _ (texts more : List ℕ) (kept : Packed) (h : end_of kept ≤ length texts) where
   -- so that the entry is the same
@@ -59,43 +59,43 @@ size_of-new : (t : Texts) → size_of (span_of 0 t) ≡ length (joined t)
 size_of-new t =
     omega (
       arith,
-      length-append t.first (t.second ++ (t.third ++ (t.fourth ++ (t.fifth ++ t.reply)))),
-      length-append t.second (t.third ++ (t.fourth ++ (t.fifth ++ t.reply))),
-      length-append t.third (t.fourth ++ (t.fifth ++ t.reply)),
-      length-append t.fourth (t.fifth ++ t.reply),
-      length-append t.fifth t.reply,
+      length-append t.own_id (t.other_id ++ (t.symbol_or_group ++ (t.account_or_key ++ (t.firm ++ t.reply)))),
+      length-append t.other_id (t.symbol_or_group ++ (t.account_or_key ++ (t.firm ++ t.reply))),
+      length-append t.symbol_or_group (t.account_or_key ++ (t.firm ++ t.reply)),
+      length-append t.account_or_key (t.firm ++ t.reply),
+      length-append t.firm t.reply,
     )
 
 -- there is room for the texts of an entry, which are not long
 pub joined_room : (texts : List ℕ) (t : Texts) → length texts ≤ 4000000000 → AreShort t → length (joined t) + length texts < 2 ^ 32
-joined_room texts t few h = omega (arith, few, size_of-new t, h.first, h.second, h.third, h.fourth, h.fifth, h.reply)
+joined_room texts t few h = omega (arith, few, size_of-new t, h.own_id, h.other_id, h.symbol_or_group, h.account_or_key, h.firm, h.reply)
 
 -- and so are those of an entry
 module _ (texts : List ℕ) (t : Texts) where
   texts_at-new : texts_at (texts ++ joined t) (span_of (length texts) t) ≡ t
   texts_at-new =
       let all : List ℕ = texts ++ joined t in
-      let one : List ℕ = texts ++ t.first in
-      let two : List ℕ = one ++ t.second in
-      let three : List ℕ = two ++ t.third in
-      let four : List ℕ = three ++ t.fourth in
-      let five : List ℕ = four ++ t.fifth in
-      let later : List ℕ = t.fifth ++ t.reply in
-      let first : text_at all (length texts) (length t.first) ≡ t.first =
-      text_at-new texts t.first (t.second ++ (t.third ++ (t.fourth ++ later))) all (length texts) refl refl in
-      let second : text_at all (length texts + length t.first) (length t.second) ≡ t.second =
-      text_at-new one t.second (t.third ++ (t.fourth ++ later)) all (length texts + length t.first) (simp append_assoc) (simp length-append) in
-      let third : text_at all (length texts + length t.first + length t.second) (length t.third) ≡ t.third =
-      text_at-new two t.third (t.fourth ++ later) all (length texts + length t.first + length t.second) (simp append_assoc) (simp length-append) in
-      let fourth : text_at all (length texts + length t.first + length t.second + length t.third) (length t.fourth) ≡ t.fourth =
-      text_at-new three t.fourth later all (length texts + length t.first + length t.second + length t.third) (simp append_assoc) (simp length-append) in
-      let fifth : text_at all (length texts + length t.first + length t.second + length t.third + length t.fourth) (length t.fifth) ≡ t.fifth =
-      text_at-new four t.fifth t.reply all (length texts + length t.first + length t.second + length t.third + length t.fourth)
+      let one : List ℕ = texts ++ t.own_id in
+      let two : List ℕ = one ++ t.other_id in
+      let three : List ℕ = two ++ t.symbol_or_group in
+      let four : List ℕ = three ++ t.account_or_key in
+      let five : List ℕ = four ++ t.firm in
+      let later : List ℕ = t.firm ++ t.reply in
+      let own_id : text_at all (length texts) (length t.own_id) ≡ t.own_id =
+      text_at-new texts t.own_id (t.other_id ++ (t.symbol_or_group ++ (t.account_or_key ++ later))) all (length texts) refl refl in
+      let other_id : text_at all (length texts + length t.own_id) (length t.other_id) ≡ t.other_id =
+      text_at-new one t.other_id (t.symbol_or_group ++ (t.account_or_key ++ later)) all (length texts + length t.own_id) (simp append_assoc) (simp length-append) in
+      let symbol_or_group : text_at all (length texts + length t.own_id + length t.other_id) (length t.symbol_or_group) ≡ t.symbol_or_group =
+      text_at-new two t.symbol_or_group (t.account_or_key ++ later) all (length texts + length t.own_id + length t.other_id) (simp append_assoc) (simp length-append) in
+      let account_or_key : text_at all (length texts + length t.own_id + length t.other_id + length t.symbol_or_group) (length t.account_or_key) ≡ t.account_or_key =
+      text_at-new three t.account_or_key later all (length texts + length t.own_id + length t.other_id + length t.symbol_or_group) (simp append_assoc) (simp length-append) in
+      let firm : text_at all (length texts + length t.own_id + length t.other_id + length t.symbol_or_group + length t.account_or_key) (length t.firm) ≡ t.firm =
+      text_at-new four t.firm t.reply all (length texts + length t.own_id + length t.other_id + length t.symbol_or_group + length t.account_or_key)
       (simp append_assoc) (simp length-append) in
-      let reply : text_at all (length texts + length t.first + length t.second + length t.third + length t.fourth + length t.fifth) (length t.reply) ≡ t.reply =
-      text_at-new five t.reply [] all (length texts + length t.first + length t.second + length t.third + length t.fourth + length t.fifth)
+      let reply : text_at all (length texts + length t.own_id + length t.other_id + length t.symbol_or_group + length t.account_or_key + length t.firm) (length t.reply) ≡ t.reply =
+      text_at-new five t.reply [] all (length texts + length t.own_id + length t.other_id + length t.symbol_or_group + length t.account_or_key + length t.firm)
       (simp (append_assoc, append-nil)) (simp length-append) in
-      rw (first, second, third, fourth, fifth, reply) refl
+      rw (own_id, other_id, symbol_or_group, account_or_key, firm, reply) refl
 
 -- an entry more, whose texts come after the others
 module _ (texts : List ℕ) (t : Texts) (entries : List Packed) (new : Packed) (h : AreKept texts entries)

@@ -5,5 +5,5 @@ use Rattle.gu_terms.specs.declared.command.Command.TheVariants.{GiveUp}
 
 -- a command that may be asked: a give-up has one to sixteen lines
 abbrev pub MayBeAsked : Command → Type 0
-MayBeAsked (GiveUp firm id report lines) = AreLines lines
+MayBeAsked (GiveUp give_up) = AreLines give_up.lines
 MayBeAsked command = Unit {0}

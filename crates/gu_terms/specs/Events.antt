@@ -12,11 +12,11 @@ use Rattle.gu_terms.specs.declared.takes.Take.{Take}
 -- what an entry did: a report made a trade, a give-up made an offer of each line, lots of an offer
 -- were claimed, refused or moved back, or a group was swept; all else is no event
 abbrev pub event_of : Entry → EntryEvent
-event_of (Asked (ReportSide firm id match_id symbol lots price day side account) (Accepted (Reported true))) = event.Matched match_id
-event_of (Asked (GiveUp firm id report lines) (Accepted (Offered group first count))) = event.Offered first (length lines)
-event_of (Asked (Claim firm offer) (Accepted (Claimed lots))) = event.Claimed offer lots
-event_of (Asked (Refuse firm offer why) (Accepted (Refused lots))) = event.Refused offer why lots
-event_of (Asked (Reverse firm offer) (Accepted (Reversed lots))) = event.Reversed offer lots
+event_of (Asked (ReportSide report) (Accepted (Reported true))) = event.Matched report.match_id
+event_of (Asked (GiveUp give_up) (Accepted (Offered group first count))) = event.Offered first (length give_up.lines)
+event_of (Asked (Claim claim) (Accepted (Claimed lots))) = event.Claimed claim.offer lots
+event_of (Asked (Refuse refusal) (Accepted (Refused lots))) = event.Refused refusal.offer refusal.why lots
+event_of (Asked (Reverse reversal) (Accepted (Reversed lots))) = event.Reversed reversal.offer lots
 event_of (Swept sweep) = event.Swept
 event_of entry = event.Other
 

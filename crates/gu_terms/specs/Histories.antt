@@ -23,5 +23,5 @@ lots_swept history = sum_by swept_by history
 
 -- the product group in the reply to an accepted give-up
 abbrev pub offered_group : Entry → Option Group
-offered_group (Asked (GiveUp firm id report lines) (Accepted (Offered group first count))) = Some group
+offered_group (Asked (GiveUp give_up) (Accepted (Offered group first count))) = Some group
 offered_group entry = None

@@ -9,6 +9,7 @@ use Rattle.gu_terms.specs.declared.command.Command.TheVariants as command
 use Rattle.gu_terms.specs.declared.entry.Entry.{Entry}
 use Rattle.gu_terms.specs.declared.entry.Entry.TheVariants.{Asked, Swept}
 use Rattle.gu_terms.specs.declared.firm.FirmId.{FirmId}
+use Rattle.gu_terms.specs.declared.lines.Line.{Line}
 use Rattle.gu_terms.specs.declared.kept_reply.KeptReply.{KeptReply}
 use Rattle.gu_terms.specs.declared.kept_reply.KeptReply.TheVariants as kept
 use Rattle.gu_terms.specs.declared.kept_texts.Span.{Span}
@@ -25,62 +26,58 @@ use Rattle.gu_terms.specs.declared.reply.Reply.TheVariants.{Accepted, Denied}
 abbrev pub text_at : List ℕ → ℕ → ℕ → List ℕ
 text_at texts at len = take len (drop at texts)
 
--- a command is a report
-abbrev pub IsReport : Command → Type 0
-IsReport (command.ReportSide firm id match_id symbol lots price day side account) = Unit {0}
-IsReport command = ⊥
-
--- the texts of an entry: ids and names of its command, and the name in its reply
+-- the texts of an entry: of its command its own id, its other id, its symbol or group, its account or the name of its key, and its firm,
+-- and the name in its reply
 pub record Texts : Type 0 where
-  pub first : List ℕ
-  pub second : List ℕ
-  pub third : List ℕ
-  pub fourth : List ℕ
-  pub fifth : List ℕ
+  pub own_id : List ℕ
+  pub other_id : List ℕ
+  pub symbol_or_group : List ℕ
+  pub account_or_key : List ℕ
+  pub firm : List ℕ
   pub reply : List ℕ
 
 -- no texts
 abbrev pub no_texts : Texts
-no_texts = record { first = []; second = []; third = []; fourth = []; fifth = []; reply = [] }
+no_texts = record { own_id = []; other_id = []; symbol_or_group = []; account_or_key = []; firm = []; reply = [] }
 
 -- they lie one after the other
 abbrev pub joined : Texts → List ℕ
-joined t = t.first ++ (t.second ++ (t.third ++ (t.fourth ++ (t.fifth ++ t.reply))))
+joined t = t.own_id ++ (t.other_id ++ (t.symbol_or_group ++ (t.account_or_key ++ (t.firm ++ t.reply))))
 
 -- where they lie, from a place on
 abbrev pub span_of : ℕ → Texts → Span
 span_of at t = record {
   at = at;
-  first = length t.first;
-  second = length t.second;
-  third = length t.third;
-  fourth = length t.fourth;
-  fifth = length t.fifth;
+  own_id = length t.own_id;
+  other_id = length t.other_id;
+  symbol_or_group = length t.symbol_or_group;
+  account_or_key = length t.account_or_key;
+  firm = length t.firm;
   reply = length t.reply;
 }
 
 -- how many bytes they have together
 abbrev pub size_of : Span → ℕ
-size_of span = span.first + span.second + span.third + span.fourth + span.fifth + span.reply
+size_of span = span.own_id + span.other_id + span.symbol_or_group + span.account_or_key + span.firm + span.reply
 
 -- the texts that lie there among all
 abbrev pub texts_at : List ℕ → Span → Texts
 texts_at texts span = record {
-  first = text_at texts span.at span.first;
-  second = text_at texts (span.at + span.first) span.second;
-  third = text_at texts (span.at + span.first + span.second) span.third;
-  fourth = text_at texts (span.at + span.first + span.second + span.third) span.fourth;
-  fifth = text_at texts (span.at + span.first + span.second + span.third + span.fourth) span.fifth;
-  reply = text_at texts (span.at + span.first + span.second + span.third + span.fourth + span.fifth) span.reply;
+  own_id = text_at texts span.at span.own_id;
+  other_id = text_at texts (span.at + span.own_id) span.other_id;
+  symbol_or_group = text_at texts (span.at + span.own_id + span.other_id) span.symbol_or_group;
+  account_or_key = text_at texts (span.at + span.own_id + span.other_id + span.symbol_or_group) span.account_or_key;
+  firm = text_at texts (span.at + span.own_id + span.other_id + span.symbol_or_group + span.account_or_key) span.firm;
+  reply = text_at texts (span.at + span.own_id + span.other_id + span.symbol_or_group + span.account_or_key + span.firm) span.reply;
 }
 
 -- no text is long
 pub record AreShort (t : Texts) : Type 0 where
-  pub first : length t.first ≤ 255
-  pub second : length t.second ≤ 255
-  pub third : length t.third ≤ 255
-  pub fourth : length t.fourth ≤ 255
-  pub fifth : length t.fifth ≤ 255
+  pub own_id : length t.own_id ≤ 255
+  pub other_id : length t.other_id ≤ 255
+  pub symbol_or_group : length t.symbol_or_group ≤ 255
+  pub account_or_key : length t.account_or_key ≤ 255
+  pub firm : length t.firm ≤ 255
   pub reply : length t.reply ≤ 255
 
 -- the reply that is kept so, with the name in it, where it has one
@@ -97,26 +94,39 @@ reply_by name (kept.LimitReached kind) = Denied (LimitReached (key_by kind name)
 
 -- the firm of these texts
 abbrev pub firm_by : Texts → FirmId
-firm_by t = record { name = t.fifth }
+firm_by t = record { name = t.firm }
 
 -- the report of these texts
 abbrev pub report_by : Texts → KeptReport → ℤ → Command
 report_by t r price =
-    command.ReportSide (firm_by t) t.first t.second (record { name = t.third }) r.lots price r.day r.side (record { name = t.fourth })
+    command.ReportSide (record {
+      firm = firm_by t;
+      id = t.own_id;
+      match_id = t.other_id;
+      symbol = record { name = t.symbol_or_group };
+      lots = r.lots;
+      price = price;
+      day = r.day;
+      side = r.side;
+      account = record { name = t.account_or_key };
+    })
+
+-- the give-up of these texts and lines
+abbrev pub given_up : Texts → List Line → Command
+given_up t lines = command.GiveUp (record { firm = firm_by t; id = t.own_id; report = t.other_id; lines = lines })
 
 -- the entry of these texts and this body, with its reply
 abbrev pub entry_by : Texts → Body → Reply → Entry
-entry_by t (body.OpenDay day) reply = Asked (command.OpenDay day) reply
-entry_by t (body.SetLimit kind lots) reply = Asked (command.SetLimit (record { name = t.third }) (key_by kind t.fourth) lots) reply
+entry_by t (body.OpenDay day) reply = Asked (command.OpenDay (record { day = day })) reply
+entry_by t (body.SetLimit kind lots) reply = Asked (command.SetLimit (record { group = record { name = t.symbol_or_group }; key = key_by kind t.account_or_key; lots = lots })) reply
 entry_by t (body.ReportSide report price) reply = Asked (report_by t report price) reply
 entry_by t (body.GiveUpOne lots) reply =
-    Asked (command.GiveUp (firm_by t) t.first t.second (record { account = record { name = t.fourth }; lots = lots } ∷ [])) reply
-entry_by t (body.GiveUp lines) reply = Asked (command.GiveUp (firm_by t) t.first t.second lines.value) reply
-entry_by t (body.Claim offer) reply = Asked (command.Claim (firm_by t) offer) reply
-entry_by t (body.Refuse why offer) reply = Asked (command.Refuse (firm_by t) offer why) reply
-entry_by t (body.Reverse offer) reply = Asked (command.Reverse (firm_by t) offer) reply
+    Asked (given_up t (record { account = record { name = t.account_or_key }; lots = lots } ∷ [])) reply
+entry_by t (body.GiveUp lines) reply = Asked (given_up t lines.value) reply
+entry_by t (body.Claim offer) reply = Asked (command.Claim (record { firm = firm_by t; offer = offer })) reply
+entry_by t (body.Refuse why offer) reply = Asked (command.Refuse (record { firm = firm_by t; offer = offer; why = why })) reply
+entry_by t (body.Reverse offer) reply = Asked (command.Reverse (record { firm = firm_by t; offer = offer })) reply
 entry_by t (body.Swept sweep) reply = Swept sweep.value
-entry_by t (body.Whole entry) reply = entry.value
 
 -- the entry that is kept so, with these texts
 abbrev pub entry_with : Texts → Packed → Entry
@@ -136,13 +146,13 @@ end_of_last entries = option_map_or end_of (slice_get entries (length entries - 
 
 -- a body has ids and names, and these are they
 abbrev pub AreTextsOf : Texts → Body → Type 0
-AreTextsOf t (body.SetLimit kind lots) = IsName t.third × IsName t.fourth
-AreTextsOf t (body.ReportSide report price) = (IsId t.first × IsId t.second) × (IsName t.third × IsName t.fourth × IsName t.fifth)
-AreTextsOf t (body.GiveUpOne lots) = (IsId t.first × IsId t.second) × (IsName t.fourth × IsName t.fifth)
-AreTextsOf t (body.GiveUp lines) = (IsId t.first × IsId t.second) × IsName t.fifth
-AreTextsOf t (body.Claim offer) = IsName t.fifth
-AreTextsOf t (body.Refuse why offer) = IsName t.fifth
-AreTextsOf t (body.Reverse offer) = IsName t.fifth
+AreTextsOf t (body.SetLimit kind lots) = IsName t.symbol_or_group × IsName t.account_or_key
+AreTextsOf t (body.ReportSide report price) = (IsId t.own_id × IsId t.other_id) × (IsName t.symbol_or_group × IsName t.account_or_key × IsName t.firm)
+AreTextsOf t (body.GiveUpOne lots) = (IsId t.own_id × IsId t.other_id) × (IsName t.account_or_key × IsName t.firm)
+AreTextsOf t (body.GiveUp lines) = (IsId t.own_id × IsId t.other_id) × IsName t.firm
+AreTextsOf t (body.Claim offer) = IsName t.firm
+AreTextsOf t (body.Refuse why offer) = IsName t.firm
+AreTextsOf t (body.Reverse offer) = IsName t.firm
 AreTextsOf t other = Unit {0}
 
 -- a reply has a name in it, and this is it

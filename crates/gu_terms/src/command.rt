@@ -2,7 +2,6 @@
 
 ghost use Rattle.std.specs.Prelude.{◌≡◌, ◌↔◌, IsTrue, IfOk};
 ghost use Rattle.gu_terms.specs.Commands.{MayBeAsked};
-ghost use Rattle.gu_terms.specs.PackedEntries.{IsReport};
 
 use crate::account::AccountId;
 use crate::alloc_reject::AllocReject;
@@ -19,69 +18,102 @@ use crate::side::Side;
 use crate::symbol::Symbol;
 use std::alloc::AllocError;
 
+/// The house opens a day, which is later than the one before.
+#[derive(Clone, Copy, Debug, PartialEq, Eq)]
+pub struct OpenDay {
+    pub day: Day,
+}
+
+/// A daily limit on lots, in one product group.
+#[derive(Clone, Copy, Debug, PartialEq, Eq)]
+pub struct SetLimit {
+    pub group: Group,
+    pub key: LimitKey,
+    pub lots: u64,
+}
+
+/// A firm reports its side of a trade (FIX: Trade Capture Report). Two sides with one match id are a trade.
+#[derive(Clone, Copy, Debug, PartialEq, Eq)]
+pub struct ReportSide {
+    pub firm: FirmId,
+    pub id: Id,
+    pub match_id: Id,
+    pub symbol: Symbol,
+    pub lots: Lots,
+    pub price: Price,
+    /// The open day, where none is given.
+    pub day: Option<Day>,
+    pub side: Side,
+    pub account: AccountId,
+}
+
+/// An executing firm gives lots of a report of its own up, a line an account (FIX: Allocation Instruction).
+#[derive(Debug, Drop)]
+pub struct GiveUp {
+    pub firm: FirmId,
+    /// The firm's own id of the give-up. Reports have ids apart from these.
+    pub id: Id,
+    /// The firm's id of the report.
+    pub report: Id,
+    pub lines: Lines,
+}
+
+/// A carrying firm claims all that is left of an offer (FIX: Allocation Report Ack).
+#[derive(Clone, Copy, Debug, PartialEq, Eq)]
+pub struct Claim {
+    pub firm: FirmId,
+    pub offer: OfferNo,
+}
+
+/// A carrying firm refuses what is left of an offer.
+#[derive(Clone, Copy, Debug, PartialEq, Eq)]
+pub struct Refuse {
+    pub firm: FirmId,
+    pub offer: OfferNo,
+    pub why: AllocReject,
+}
+
+/// A carrying firm takes back what was moved of an offer since the day was opened.
+#[derive(Clone, Copy, Debug, PartialEq, Eq)]
+pub struct Reverse {
+    pub firm: FirmId,
+    pub offer: OfferNo,
+}
+
 /// What a caller asks to be entered.
 #[derive(Debug, Drop)]
 pub enum Command {
-    /// The house opens a day, which is later than the one before.
-    OpenDay {
-        day: Day,
-    },
-    /// A daily limit on lots, in one product group.
-    SetLimit {
-        group: Group,
-        key: LimitKey,
-        lots: u64,
-    },
-    /// A firm reports its side of a trade (FIX: Trade Capture Report). Two sides with one match id are a trade.
-    ReportSide {
-        firm: FirmId,
-        id: Id,
-        match_id: Id,
-        symbol: Symbol,
-        lots: Lots,
-        price: Price,
-        /// The open day, where none is given.
-        day: Option<Day>,
-        side: Side,
-        account: AccountId,
-    },
-    /// An executing firm gives lots of a report of its own up, a line an account (FIX: Allocation Instruction).
-    GiveUp {
-        firm: FirmId,
-        /// The firm's own id of the give-up. Reports have ids apart from these.
-        id: Id,
-        /// The firm's id of the report.
-        report: Id,
-        lines: Lines,
-    },
-    /// A carrying firm claims all that is left of an offer (FIX: Allocation Report Ack).
-    Claim {
-        firm: FirmId,
-        offer: OfferNo,
-    },
-    /// A carrying firm refuses what is left of an offer.
-    Refuse {
-        firm: FirmId,
-        offer: OfferNo,
-        why: AllocReject,
-    },
-    /// A carrying firm takes back what was moved of an offer since the day was opened.
-    Reverse {
-        firm: FirmId,
-        offer: OfferNo,
-    },
+    OpenDay(OpenDay),
+    SetLimit(SetLimit),
+    ReportSide(ReportSide),
+    GiveUp(GiveUp),
+    Claim(Claim),
+    Refuse(Refuse),
+    Reverse(Reverse),
 }
 
-/// Whether two reports name one day, or neither a day.
-pub(crate) fn is_same_day(day: Option<Day>, other: Option<Day>) -> bool
-    ensures { IsTrue result ↔ (day ≡ other) }
-{
-    match day {
-        Some(day) => match other {
-            Some(day_of_other) => day.is_same(day_of_other),
-            None => false,
-        },
-        None => other.is_none(),
+impl GiveUp {
+    /// A copy.
+    fn copy(&self) -> Result<GiveUp, AllocError>
+        ensures { IfOk result (λ give_up. give_up ≡ self.now) }
+    {
+        let lines = self.lines.copy()?;
+        Ok(GiveUp {
+            firm: self.firm,
+            id: self.id,
+            report: self.report,
+            lines,
+        })
+    }
+
+    /// Whether two give-ups are the same.
+    fn is_same(&self, other: &GiveUp) -> bool
+        ensures { IsTrue result ↔ (self.now ≡ other.now) }
+    {
+        self.firm == other.firm
+            && self.id == other.id
+            && self.report == other.report
+            && self.lines.is_same(&other.lines)
     }
 }
 
@@ -90,8 +122,8 @@ impl Command {
     pub fn rules(&self)
         ensures { MayBeAsked self.now }
     {
-        if let Command::GiveUp { lines, .. } = self {
-            let _ = lines.as_slice();
+        if let Command::GiveUp(give_up) = self {
+            let _ = give_up.lines.as_slice();
         }
     }
 
@@ -99,106 +131,15 @@ impl Command {
     pub fn copy(&self) -> Result<Command, AllocError>
         ensures { IfOk result (λ command. command ≡ self.now) }
     {
-        match self {
-            Command::OpenDay { day } => Ok(Command::OpenDay { day: *day }),
-            Command::SetLimit { group, key, lots } => Ok(Command::SetLimit {
-                group: *group,
-                key: *key,
-                lots: *lots,
-            }),
-            Command::ReportSide {
-                firm,
-                id,
-                match_id,
-                symbol,
-                lots,
-                price,
-                day,
-                side,
-                account,
-            } => Ok(Command::ReportSide {
-                firm: *firm,
-                id: *id,
-                match_id: *match_id,
-                symbol: *symbol,
-                lots: *lots,
-                price: *price,
-                day: *day,
-                side: *side,
-                account: *account,
-            }),
-            Command::GiveUp {
-                firm,
-                id,
-                report,
-                lines,
-            } => {
-                let lines = lines.copy()?;
-                Ok(Command::GiveUp {
-                    firm: *firm,
-                    id: *id,
-                    report: *report,
-                    lines,
-                })
-            }
-            Command::Claim { firm, offer } => Ok(Command::Claim {
-                firm: *firm,
-                offer: *offer,
-            }),
-            Command::Refuse { firm, offer, why } => Ok(Command::Refuse {
-                firm: *firm,
-                offer: *offer,
-                why: *why,
-            }),
-            Command::Reverse { firm, offer } => Ok(Command::Reverse {
-                firm: *firm,
-                offer: *offer,
-            }),
-        }
-    }
-
-    /// Whether both are one report.
-    fn is_same_report(&self, other: &Command) -> bool
-        requires { IsReport self.now }
-        ensures { IsTrue result ↔ (self.now ≡ other.now) }
-    {
-        match (self, other) {
-            (
-                Command::ReportSide {
-                    firm,
-                    id,
-                    match_id,
-                    symbol,
-                    lots,
-                    price,
-                    day,
-                    side,
-                    account,
-                },
-                Command::ReportSide {
-                    firm: firm_of_other,
-                    id: id_of_other,
-                    match_id: match_id_of_other,
-                    symbol: symbol_of_other,
-                    lots: lots_of_other,
-                    price: price_of_other,
-                    day: day_of_other,
-                    side: side_of_other,
-                    account: account_of_other,
-                },
-            ) => {
-                *firm == *firm_of_other
-                    && *id == *id_of_other
-                    && *match_id == *match_id_of_other
-                    && *symbol == *symbol_of_other
-                    && *lots == *lots_of_other
-                    && *price == *price_of_other
-                    && is_same_day(*day, *day_of_other)
-                    && *side == *side_of_other
-                    && *account == *account_of_other
-            }
-            _ => false,
-        }
+        Ok(match self {
+            Command::OpenDay(it) => Command::OpenDay(*it),
+            Command::SetLimit(it) => Command::SetLimit(*it),
+            Command::ReportSide(it) => Command::ReportSide(*it),
+            Command::GiveUp(it) => Command::GiveUp(it.copy()?),
+            Command::Claim(it) => Command::Claim(*it),
+            Command::Refuse(it) => Command::Refuse(*it),
+            Command::Reverse(it) => Command::Reverse(*it),
+        })
     }
 
     /// Whether two commands are the same.
@@ -206,59 +147,13 @@ impl Command {
         ensures { IsTrue result ↔ (self.now ≡ other.now) }
     {
         match (self, other) {
-            (Command::ReportSide { .. }, _) => self.is_same_report(other),
-            (Command::OpenDay { day }, Command::OpenDay { day: of_other }) => day.is_same(
-                *of_other,
-            ),
-            (
-                Command::SetLimit { group, key, lots },
-                Command::SetLimit {
-                    group: group_of_other,
-                    key: key_of_other,
-                    lots: lots_of_other,
-                },
-            ) => *group == *group_of_other && *key == *key_of_other && *lots == *lots_of_other,
-            (
-                Command::GiveUp {
-                    firm,
-                    id,
-                    report,
-                    lines,
-                },
-                Command::GiveUp {
-                    firm: firm_of_other,
-                    id: id_of_other,
-                    report: report_of_other,
-                    lines: lines_of_other,
-                },
-            ) => {
-                *firm == *firm_of_other
-                    && *id == *id_of_other
-                    && *report == *report_of_other
-                    && lines.is_same(lines_of_other)
-            }
-            (
-                Command::Claim { firm, offer },
-                Command::Claim {
-                    firm: firm_of_other,
-                    offer: offer_of_other,
-                },
-            )
-            | (
-                Command::Reverse { firm, offer },
-                Command::Reverse {
-                    firm: firm_of_other,
-                    offer: offer_of_other,
-                },
-            ) => *firm == *firm_of_other && *offer == *offer_of_other,
-            (
-                Command::Refuse { firm, offer, why },
-                Command::Refuse {
-                    firm: firm_of_other,
-                    offer: offer_of_other,
-                    why: why_of_other,
-                },
-            ) => *firm == *firm_of_other && *offer == *offer_of_other && *why == *why_of_other,
+            (Command::OpenDay(a), Command::OpenDay(b)) => a == b,
+            (Command::SetLimit(a), Command::SetLimit(b)) => a == b,
+            (Command::ReportSide(a), Command::ReportSide(b)) => a == b,
+            (Command::GiveUp(a), Command::GiveUp(b)) => a.is_same(b),
+            (Command::Claim(a), Command::Claim(b)) => a == b,
+            (Command::Refuse(a), Command::Refuse(b)) => a == b,
+            (Command::Reverse(a), Command::Reverse(b)) => a == b,
             _ => false,
         }
     }

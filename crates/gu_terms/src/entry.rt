@@ -105,14 +105,4 @@ impl Entry {
             Entry::Swept(sweep) => self.is_sweep(sweep),
         }
     }
-
-    /// The lots that it swept.
-    pub(crate) fn lots_swept(&self) -> u64
-        ensures { result ≡ swept_by self.now }
-    {
-        match self {
-            Entry::Swept(sweep) => sweep.lots,
-            Entry::Asked { .. } => 0,
-        }
-    }
 }

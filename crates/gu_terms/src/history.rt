@@ -18,7 +18,7 @@ use crate::text_store::TextStore;
 use std::alloc::{AllocError, Global};
 use std::marker::Model;
 
-/// The bytes of texts that are kept at most, or a few more. Entries that come then are kept whole.
+/// The bytes of texts that are kept at most, or a few more. An entry that comes then is answered as for a failed allocation; no book has so many.
 const MOST_TEXTS: usize = 4_000_000_000;
 
 /// Entries, numbered from 1. To a contract it is their list.
@@ -193,17 +193,7 @@ impl History {
         )
     }
 
-    /// Adds a command with its reply after the others, as they are.
-    fn push_whole(&mut self, command: &Command, reply: Reply) -> Result<(), AllocError>
-        ensures added { OnOk result (self.new ≡ self.old ++ Entry.Asked command.now reply ∷ []) }
-        ensures refused { OnErr result (self.new ≡ self.old) }
-    {
-        let command = command.copy()?;
-        let entry = Box::new(self.alloc, Entry::Asked { command, reply })?;
-        self.push_alone(Body::Whole(entry))
-    }
-
-    /// Adds a command with its reply after the others, its texts apart where there is room.
+    /// Adds a command with its reply after the others, its texts apart.
     #[tactic(auto, using(crate::proofs::PackedLemmas::joined_room))]
     #[inline(never)]
     fn push_named(&mut self, command: &Command, reply: &Reply) -> Result<(), AllocError>
@@ -212,11 +202,9 @@ impl History {
     {
         let (id, name) = (Padded::new(&[]), Padded::new(&[]));
         if self.texts.len() > MOST_TEXTS {
-            return self.push_whole(command, *reply);
+            return Err(AllocError);
         }
-        let Some((reply, kept)) = KeptReply::of(reply, &name) else {
-            return self.push_whole(command, *reply);
-        };
+        let (reply, kept) = KeptReply::of(reply, &name);
         let texts = Given {
             reply,
             ..Given::of(&id, &name)
@@ -230,6 +218,7 @@ impl History {
         ensures added { OnOk result (self.new ≡ self.old ++ Entry.Asked command.now reply ∷ []) }
         ensures refused { OnErr result (self.new ≡ self.old) }
     {
+        // The reply lies here while its name is read: a local of one call can't stand at the lifetime of the command's texts.
         self.push_named(command, &reply)
     }
 

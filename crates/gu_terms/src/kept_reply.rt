@@ -1,6 +1,6 @@
 //! Replies as a history keeps them: without the name of a group or of a key, which is among the texts.
 
-ghost use Rattle.std.specs.Prelude.{◌≡◌, IfSome};
+ghost use Rattle.std.specs.Prelude.{◌≡◌};
 ghost use Rattle.gu_terms.specs.PackedEntries.{reply_by, IsNameOf, IsReplyOf};
 
 use crate::group::Group;
@@ -18,7 +18,7 @@ pub(crate) enum KeptReply {
     Opened,
     LimitSet,
     Reported { matched: bool },
-    Offered { first: OfferNo, count: u32 },
+    Offered { first: OfferNo, count: u8 },
     Claimed { lots: Lots },
     Refused { lots: Lots },
     Reversed { lots: Lots },
@@ -29,19 +29,19 @@ pub(crate) enum KeptReply {
 }
 
 impl KeptReply {
-    /// The name in a reply, or another text where it has none, and what is kept beside it. None where there is no room for its count of offers.
+    /// The name in a reply, or another text where it has none, and what is kept beside it.
     pub(crate) fn of<'a>(
         reply: &'a Reply,
         none: &'a Padded<LONGEST_NAME>,
-    ) -> Option<(&'a Padded<LONGEST_NAME>, KeptReply)>
-        ensures { IfSome result (λ kept. IsReplyOf kept.0.now kept.1 reply.now) }
+    ) -> (&'a Padded<LONGEST_NAME>, KeptReply)
+        ensures { IsReplyOf result.0.now result.1 reply.now }
     {
         let done = match reply {
             Reply::Accepted(done) => done,
             Reply::Denied(Refusal::LimitReached(key)) => {
-                return Some((key.padded(), KeptReply::LimitReached(KeyKind::of(*key))));
+                return (key.padded(), KeptReply::LimitReached(KeyKind::of(*key)));
             }
-            Reply::Denied(refusal) => return Some((none, KeptReply::Denied(refusal.code()))),
+            Reply::Denied(refusal) => return (none, KeptReply::Denied(refusal.code())),
         };
         let kept = match done {
             Done::Opened => KeptReply::Opened,
@@ -52,23 +52,17 @@ impl KeptReply {
                 first,
                 count,
             } => {
-                if *count > u64::from(u32::MAX) {
-                    return None;
-                }
-                let count = *count as u32;
-                return Some((
-                    group.name.padded(),
-                    KeptReply::Offered {
-                        first: *first,
-                        count,
-                    },
-                ));
+                let kept = KeptReply::Offered {
+                    first: *first,
+                    count: *count,
+                };
+                return (group.name.padded(), kept);
             }
             Done::Claimed { lots } => KeptReply::Claimed { lots: *lots },
             Done::Refused { lots } => KeptReply::Refused { lots: *lots },
             Done::Reversed { lots } => KeptReply::Reversed { lots: *lots },
         };
-        Some((none, kept))
+        (none, kept)
     }
 
     /// The reply that is kept so, with the name in it.
@@ -85,7 +79,7 @@ impl KeptReply {
                     name: Name::known(name),
                 },
                 first,
-                count: u64::from(count),
+                count,
             },
             KeptReply::Claimed { lots } => Done::Claimed { lots },
             KeptReply::Refused { lots } => Done::Refused { lots },

@@ -4,12 +4,11 @@ ghost use Rattle.std.specs.Prelude.{◌≡◌, ◌+◌, ◌++◌, ◌≤◌, len
 ghost use Rattle.gu_terms.specs.Names.{IsId, IsName};
 ghost use Rattle.gu_terms.specs.PackedEntries.{joined, size_of, span_of, text_at, texts_at, AreShort};
 
-use crate::account::AccountId;
+use crate::command::ReportSide;
 use crate::firm::FirmId;
 use crate::id::{Id, LONGEST_ID};
 use crate::name::LONGEST_NAME;
 use crate::padded::Padded;
-use crate::symbol::Symbol;
 use crate::text_store::TextStore;
 use std::alloc::AllocError;
 use std::marker::Model;
@@ -21,24 +20,27 @@ const LONGEST_TEXTS: usize = 2 * LONGEST_ID + 4 * LONGEST_NAME;
 #[derive(Clone, Copy)]
 pub(crate) struct Span {
     at: u32,
-    first: u8,
-    second: u8,
-    third: u8,
-    fourth: u8,
-    fifth: u8,
+    own_id: u8,
+    other_id: u8,
+    symbol_or_group: u8,
+    account_or_key: u8,
+    firm: u8,
     reply: u8,
 }
 
-/// The texts of an entry. The first two are ids, of a report or a give-up. The third is a report's symbol or a limit's group, the
-/// fourth the account of a report or of a give-up's one line, or the name of a limit's key. The fifth is the firm, and the last the
-/// name in the reply. What there isn't has no bytes. To a contract it is the texts.
+/// The texts of an entry: of its command, and the name in its reply. What there isn't has no bytes. To a contract it is the texts.
 #[derive(Drop)]
 pub(crate) struct Texts<'a> {
-    pub(crate) first: &'a [u8],
-    pub(crate) second: &'a [u8],
-    pub(crate) third: &'a [u8],
-    pub(crate) fourth: &'a [u8],
-    pub(crate) fifth: &'a [u8],
+    /// The firm's own id of a report or of a give-up.
+    pub(crate) own_id: &'a [u8],
+    /// A report's match id, or the id of the report that a give-up names.
+    pub(crate) other_id: &'a [u8],
+    /// A report's symbol, or a limit's group.
+    pub(crate) symbol_or_group: &'a [u8],
+    /// The account of a report or of a give-up's one line, or the name of a limit's key.
+    pub(crate) account_or_key: &'a [u8],
+    pub(crate) firm: &'a [u8],
+    /// The name in the reply.
     pub(crate) reply: &'a [u8],
 }
 
@@ -46,11 +48,11 @@ pub(crate) struct Texts<'a> {
 /// isn't has no bytes. To a contract it is the texts.
 #[derive(Drop)]
 pub(crate) struct Given<'a> {
-    pub(crate) first: &'a Padded<LONGEST_ID>,
-    pub(crate) second: &'a Padded<LONGEST_ID>,
-    pub(crate) third: &'a Padded<LONGEST_NAME>,
-    pub(crate) fourth: &'a Padded<LONGEST_NAME>,
-    pub(crate) fifth: &'a Padded<LONGEST_NAME>,
+    pub(crate) own_id: &'a Padded<LONGEST_ID>,
+    pub(crate) other_id: &'a Padded<LONGEST_ID>,
+    pub(crate) symbol_or_group: &'a Padded<LONGEST_NAME>,
+    pub(crate) account_or_key: &'a Padded<LONGEST_NAME>,
+    pub(crate) firm: &'a Padded<LONGEST_NAME>,
     pub(crate) reply: &'a Padded<LONGEST_NAME>,
 }
 
@@ -60,11 +62,11 @@ impl<'a> Model for Given<'a> {
     ghost Value = { TextsOf };
 
     ghost view = { λ t. record {
-      first = t.first.now;
-      second = t.second.now;
-      third = t.third.now;
-      fourth = t.fourth.now;
-      fifth = t.fifth.now;
+      own_id = t.own_id.now;
+      other_id = t.other_id.now;
+      symbol_or_group = t.symbol_or_group.now;
+      account_or_key = t.account_or_key.now;
+      firm = t.firm.now;
       reply = t.reply.now;
     } };
 }
@@ -75,20 +77,20 @@ impl<'a> Model for Texts<'a> {
     ghost Value = { TextsOf };
 
     ghost view = { λ t. record {
-      first = t.first.now;
-      second = t.second.now;
-      third = t.third.now;
-      fourth = t.fourth.now;
-      fifth = t.fifth.now;
+      own_id = t.own_id.now;
+      other_id = t.other_id.now;
+      symbol_or_group = t.symbol_or_group.now;
+      account_or_key = t.account_or_key.now;
+      firm = t.firm.now;
       reply = t.reply.now;
     } };
 
     ghost invariant = { λ t. AreShort (record {
-      first = t.first.now;
-      second = t.second.now;
-      third = t.third.now;
-      fourth = t.fourth.now;
-      fifth = t.fifth.now;
+      own_id = t.own_id.now;
+      other_id = t.other_id.now;
+      symbol_or_group = t.symbol_or_group.now;
+      account_or_key = t.account_or_key.now;
+      firm = t.firm.now;
       reply = t.reply.now;
     }) };
 }
@@ -99,11 +101,11 @@ impl Span {
         ensures { result ≡ self.at + size_of self }
     {
         self.at as usize
-            + usize::from(self.first)
-            + usize::from(self.second)
-            + usize::from(self.third)
-            + usize::from(self.fourth)
-            + usize::from(self.fifth)
+            + usize::from(self.own_id)
+            + usize::from(self.other_id)
+            + usize::from(self.symbol_or_group)
+            + usize::from(self.account_or_key)
+            + usize::from(self.firm)
             + usize::from(self.reply)
     }
 
@@ -112,17 +114,17 @@ impl Span {
         requires { self.at + size_of self ≤ length all.now }
         ensures { result ≡ texts_at all.now self }
     {
-        let second = self.at as usize + usize::from(self.first);
-        let third = second + usize::from(self.second);
-        let fourth = third + usize::from(self.third);
-        let fifth = fourth + usize::from(self.fourth);
-        let reply = fifth + usize::from(self.fifth);
+        let other_id = self.at as usize + usize::from(self.own_id);
+        let symbol_or_group = other_id + usize::from(self.other_id);
+        let account_or_key = symbol_or_group + usize::from(self.symbol_or_group);
+        let firm = account_or_key + usize::from(self.account_or_key);
+        let reply = firm + usize::from(self.firm);
         Texts {
-            first: text_at(all, self.at as usize, self.first),
-            second: text_at(all, second, self.second),
-            third: text_at(all, third, self.third),
-            fourth: text_at(all, fourth, self.fourth),
-            fifth: text_at(all, fifth, self.fifth),
+            own_id: text_at(all, self.at as usize, self.own_id),
+            other_id: text_at(all, other_id, self.other_id),
+            symbol_or_group: text_at(all, symbol_or_group, self.symbol_or_group),
+            account_or_key: text_at(all, account_or_key, self.account_or_key),
+            firm: text_at(all, firm, self.firm),
             reply: text_at(all, reply, self.reply),
         }
     }
@@ -151,47 +153,57 @@ fn text_at(all: &[u8], at: usize, len: u8) -> &[u8]
 impl<'a> Given<'a> {
     /// This id, twice, and this name wherever there is one.
     pub(crate) fn of(id: &'a Padded<LONGEST_ID>, name: &'a Padded<LONGEST_NAME>) -> Self
-        ensures { result ≡ record { first = id.now; second = id.now; third = name.now; fourth = name.now; fifth = name.now; reply = name.now } }
+        ensures { result ≡ record { own_id = id.now; other_id = id.now; symbol_or_group = name.now; account_or_key = name.now; firm = name.now; reply = name.now } }
     {
         Given {
-            first: id,
-            second: id,
-            third: name,
-            fourth: name,
-            fifth: name,
+            own_id: id,
+            other_id: id,
+            symbol_or_group: name,
+            account_or_key: name,
+            firm: name,
             reply: name,
         }
     }
 
     /// These texts with the name of a firm.
     pub(crate) fn with_firm(self, firm: &'a FirmId) -> Self
-        ensures texts { result ≡ record self.entry { fifth = firm.now.name } }
+        ensures texts { result ≡ record self.entry { firm = firm.now.name } }
         ensures sound { IsName firm.now.name }
     {
-        let fifth = firm.name.padded();
-        Given { fifth, ..self }
+        let firm = firm.name.padded();
+        Given { firm, ..self }
     }
 
     /// These texts with two ids.
-    pub(crate) fn with_ids(self, first: &'a Id, second: &'a Id) -> Self
-        ensures texts { result ≡ record self.entry { first = first.now; second = second.now } }
-        ensures sound { IsId first.now × IsId second.now }
+    pub(crate) fn with_ids(self, own_id: &'a Id, other_id: &'a Id) -> Self
+        ensures texts { result ≡ record self.entry { own_id = own_id.now; other_id = other_id.now } }
+        ensures sound { IsId own_id.now × IsId other_id.now }
     {
         Given {
-            first: first.padded(),
-            second: second.padded(),
+            own_id: own_id.padded(),
+            other_id: other_id.padded(),
             ..self
         }
     }
 
-    /// These texts with the names of a symbol and of an account.
-    pub(crate) fn with_names(self, symbol: &'a Symbol, account: &'a AccountId) -> Self
-        ensures texts { result ≡ record self.entry { third = symbol.now.name; fourth = account.now.name } }
-        ensures sound { IsName symbol.now.name × IsName account.now.name }
+    /// These texts with those of a report.
+    pub(crate) fn with_report(self, report: &'a ReportSide) -> Self
+        ensures texts { result ≡ record self.entry {
+          own_id = report.now.id;
+          other_id = report.now.match_id;
+          symbol_or_group = report.now.symbol.name;
+          account_or_key = report.now.account.name;
+          firm = report.now.firm.name;
+        } }
+        ensures ids { IsId report.now.id × IsId report.now.match_id }
+        ensures names { IsName report.now.symbol.name × IsName report.now.account.name × IsName report.now.firm.name }
     {
         Given {
-            third: symbol.name.padded(),
-            fourth: account.name.padded(),
+            own_id: report.id.padded(),
+            other_id: report.match_id.padded(),
+            symbol_or_group: report.symbol.name.padded(),
+            account_or_key: report.account.name.padded(),
+            firm: report.firm.name.padded(),
             ..self
         }
     }
@@ -203,11 +215,11 @@ impl<'a> Given<'a> {
     {
         Span {
             at,
-            first: self.first.size(),
-            second: self.second.size(),
-            third: self.third.size(),
-            fourth: self.fourth.size(),
-            fifth: self.fifth.size(),
+            own_id: self.own_id.size(),
+            other_id: self.other_id.size(),
+            symbol_or_group: self.symbol_or_group.size(),
+            account_or_key: self.account_or_key.size(),
+            firm: self.firm.size(),
             reply: self.reply.size(),
         }
     }
@@ -219,11 +231,11 @@ impl<'a> Given<'a> {
         ensures refused { OnErr result (all.new.bytes ≡ all.old.bytes) }
     {
         all.reserve(LONGEST_TEXTS)?;
-        put(all, self.first);
-        put(all, self.second);
-        put(all, self.third);
-        put(all, self.fourth);
-        put(all, self.fifth);
+        put(all, self.own_id);
+        put(all, self.other_id);
+        put(all, self.symbol_or_group);
+        put(all, self.account_or_key);
+        put(all, self.firm);
         put(all, self.reply);
         Ok(())
     }

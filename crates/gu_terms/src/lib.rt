@@ -53,7 +53,7 @@ pub use account::AccountId;
 pub use agreement::AgreementId;
 pub use alloc_reject::AllocReject;
 pub use bounds::{MOST_ENTRIES, MOST_LIMIT, MOST_LINES, MOST_LOTS, MOST_OFFERS, MOST_OPEN_OFFERS};
-pub use command::Command;
+pub use command::{Claim, Command, GiveUp, OpenDay, Refuse, ReportSide, Reverse, SetLimit};
 pub use cut::Cut;
 pub use day::Day;
 pub use digits::two_digits;

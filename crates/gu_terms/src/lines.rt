@@ -70,7 +70,7 @@ impl Lines {
     }
 
     /// How many there are.
-    pub(crate) fn count(&self) -> u8
+    pub fn count(&self) -> u8
         ensures { result ≡ length self.now }
     {
         self.as_slice().len() as u8

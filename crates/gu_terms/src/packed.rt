@@ -7,7 +7,7 @@ ghost use Rattle.gu_terms.specs.Names.{IsId, IsName};
 
 use crate::account::AccountId;
 use crate::alloc_reject::AllocReject;
-use crate::command::Command;
+use crate::command::{Claim, Command, GiveUp, OpenDay, Refuse, ReportSide, Reverse, SetLimit};
 use crate::day::Day;
 use crate::entry::Entry;
 use crate::firm::FirmId;
@@ -49,8 +49,6 @@ pub(crate) enum Body {
     Reverse { offer: OfferNo },
     /// A sweep, which has no reply.
     Swept(Box<KeptSweep>),
-    /// A command with its reply, as it is.
-    Whole(Box<Entry>),
 }
 
 /// An entry as it is kept.
@@ -62,69 +60,73 @@ pub(crate) struct Packed {
 }
 
 impl KeptReport {
-    /// What is kept of a report of this side, this day and these lots.
-    pub(crate) fn new(side: Side, day: Option<Day>, lots: Lots) -> Self
-        ensures { result ≡ record { side = side; day = day; lots = lots } }
+    /// What is kept of a report.
+    pub(crate) fn of(report: &ReportSide) -> Self
+        ensures { result ≡ record { side = report.now.side; day = report.now.day; lots = report.now.lots } }
     {
-        KeptReport { side, day, lots }
+        KeptReport {
+            side: report.side,
+            day: report.day,
+            lots: report.lots,
+        }
     }
 
     /// The report that is kept so, with its texts.
     pub(crate) fn command(self, texts: &Texts<'_>, price: Price) -> Command
-        requires ids { IsId texts.now.first × IsId texts.now.second }
-        requires names { IsName texts.now.third × IsName texts.now.fourth × IsName texts.now.fifth }
+        requires ids { IsId texts.now.own_id × IsId texts.now.other_id }
+        requires names { IsName texts.now.symbol_or_group × IsName texts.now.account_or_key × IsName texts.now.firm }
         ensures { result ≡ report_by texts.now self price }
     {
-        Command::ReportSide {
+        Command::ReportSide(ReportSide {
             firm: firm(texts),
-            id: Id::known(texts.first),
-            match_id: Id::known(texts.second),
+            id: Id::known(texts.own_id),
+            match_id: Id::known(texts.other_id),
             symbol: Symbol {
-                name: Name::known(texts.third),
+                name: Name::known(texts.symbol_or_group),
             },
             lots: self.lots,
             price,
             day: self.day,
             side: self.side,
             account: AccountId {
-                name: Name::known(texts.fourth),
+                name: Name::known(texts.account_or_key),
             },
-        }
+        })
     }
 }
 
 /// The firm among texts.
 pub(crate) fn firm(texts: &Texts<'_>) -> FirmId
-    requires { IsName texts.now.fifth }
+    requires { IsName texts.now.firm }
     ensures { result ≡ firm_by texts.now }
 {
     FirmId {
-        name: Name::known(texts.fifth),
+        name: Name::known(texts.firm),
     }
 }
 
 /// A limit, with its texts.
 pub(crate) fn limit(texts: &Texts<'_>, kind: KeyKind, lots: u64) -> Command
-    requires { IsName texts.now.third × IsName texts.now.fourth }
-    ensures { result ≡ Command.SetLimit (record { name = texts.now.third }) (key_by kind texts.now.fourth) lots }
+    requires { IsName texts.now.symbol_or_group × IsName texts.now.account_or_key }
+    ensures { result ≡ Command.SetLimit (record { group = record { name = texts.now.symbol_or_group }; key = key_by kind texts.now.account_or_key; lots = lots }) }
 {
-    Command::SetLimit {
+    Command::SetLimit(SetLimit {
         group: Group {
-            name: Name::known(texts.third),
+            name: Name::known(texts.symbol_or_group),
         },
-        key: kind.key(Name::known(texts.fourth)),
+        key: kind.key(Name::known(texts.account_or_key)),
         lots,
-    }
+    })
 }
 
 /// A line of these lots, with its account among texts.
 pub(crate) fn line(texts: &Texts<'_>, lots: Lots) -> Line
-    requires { IsName texts.now.fourth }
-    ensures { result ≡ record { account = record { name = texts.now.fourth }; lots = lots } }
+    requires { IsName texts.now.account_or_key }
+    ensures { result ≡ record { account = record { name = texts.now.account_or_key }; lots = lots } }
 {
     Line {
         account: AccountId {
-            name: Name::known(texts.fourth),
+            name: Name::known(texts.account_or_key),
         },
         lots,
     }
@@ -132,16 +134,16 @@ pub(crate) fn line(texts: &Texts<'_>, lots: Lots) -> Line
 
 /// A give-up of these lines, with its texts.
 fn give_up(texts: &Texts<'_>, lines: Lines) -> Command
-    requires ids { IsId texts.now.first × IsId texts.now.second }
-    requires firm { IsName texts.now.fifth }
-    ensures { result ≡ Command.GiveUp (firm_by texts.now) texts.now.first texts.now.second lines }
+    requires ids { IsId texts.now.own_id × IsId texts.now.other_id }
+    requires firm { IsName texts.now.firm }
+    ensures { result ≡ Command.GiveUp (record { firm = firm_by texts.now; id = texts.now.own_id; report = texts.now.other_id; lines = lines }) }
 {
-    Command::GiveUp {
+    Command::GiveUp(GiveUp {
         firm: firm(texts),
-        id: Id::known(texts.first),
-        report: Id::known(texts.second),
+        id: Id::known(texts.own_id),
+        report: Id::known(texts.other_id),
         lines,
-    }
+    })
 }
 
 impl Packed {
@@ -160,26 +162,25 @@ impl Packed {
         let texts = self.span.texts(all);
         let reply = self.reply.reply(texts.reply);
         let command = match &self.body {
-            Body::OpenDay { day } => Command::OpenDay { day: *day },
+            Body::OpenDay { day } => Command::OpenDay(OpenDay { day: *day }),
             Body::SetLimit { kind, lots } => limit(&texts, *kind, *lots),
             Body::ReportSide { report, price } => report.command(&texts, *price),
             Body::GiveUpOne { lots } => give_up(&texts, Lines::one(alloc, line(&texts, *lots))?),
             Body::GiveUp(lines) => give_up(&texts, lines.copy()?),
-            Body::Claim { offer } => Command::Claim {
+            Body::Claim { offer } => Command::Claim(Claim {
                 firm: firm(&texts),
                 offer: *offer,
-            },
-            Body::Refuse { why, offer } => Command::Refuse {
+            }),
+            Body::Refuse { why, offer } => Command::Refuse(Refuse {
                 firm: firm(&texts),
                 offer: *offer,
                 why: *why,
-            },
-            Body::Reverse { offer } => Command::Reverse {
+            }),
+            Body::Reverse { offer } => Command::Reverse(Reverse {
                 firm: firm(&texts),
                 offer: *offer,
-            },
+            }),
             Body::Swept(sweep) => return Ok(Entry::Swept(sweep.entry(alloc)?)),
-            Body::Whole(entry) => return entry.copy(),
         };
         Ok(Entry::Asked { command, reply })
     }

@@ -4,7 +4,7 @@ ghost use Rattle.std.specs.Prelude.{◌≡◌, ◌↔◌, IsTrue, List, ℕ};
 ghost use Rattle.gu_terms.specs.Histories.{swept_by};
 ghost use Rattle.gu_terms.specs.PackedEntries.{entry_of, entry_with, firm_by, AreSound, IsWithin};
 
-use crate::command::Command;
+use crate::command::{Claim, Command, OpenDay, Refuse, Reverse};
 use crate::entry::{Entry, SweepEntry};
 use crate::kept_texts::Texts;
 use crate::lines::Line;
@@ -13,19 +13,14 @@ use crate::reply::Reply;
 
 /// Whether a command gives these lines up.
 fn is_give_up(command: &Command, texts: &Texts<'_>, lines: &[Line]) -> bool
-    ensures { IsTrue result ↔ (Command.GiveUp (firm_by texts.now) texts.now.first texts.now.second lines.now ≡ command.now) }
+    ensures { IsTrue result ↔ (Command.GiveUp (record { firm = firm_by texts.now; id = texts.now.own_id; report = texts.now.other_id; lines = lines.now }) ≡ command.now) }
 {
     match command {
-        Command::GiveUp {
-            firm,
-            id,
-            report,
-            lines: lines_of_command,
-        } => {
-            texts.fifth == firm.get()
-                && id.is_text(texts.first)
-                && report.is_text(texts.second)
-                && lines_of_command.are(lines)
+        Command::GiveUp(it) => {
+            texts.firm == it.firm.get()
+                && it.id.is_text(texts.own_id)
+                && it.report.is_text(texts.other_id)
+                && it.lines.are(lines)
         }
         _ => false,
     }
@@ -39,7 +34,8 @@ impl Packed {
     {
         let is_reply = self.reply.reply(texts.reply).is_same(*reply);
         match &self.body {
-            Body::OpenDay { day } => Command::OpenDay { day: *day }.is_same(command) && is_reply,
+            Body::OpenDay { day } => Command::OpenDay(OpenDay { day: *day }).is_same(command)
+                && is_reply,
             Body::SetLimit { kind, lots } => limit(texts, *kind, *lots).is_same(command)
                 && is_reply,
             Body::ReportSide { report, price } => report.command(texts, *price).is_same(command)
@@ -48,29 +44,28 @@ impl Packed {
                 && is_reply,
             Body::GiveUp(lines) => is_give_up(command, texts, lines.as_slice()) && is_reply,
             Body::Claim { offer } => {
-                let own = Command::Claim {
+                let own = Command::Claim(Claim {
                     firm: firm(texts),
                     offer: *offer,
-                };
+                });
                 own.is_same(command) && is_reply
             }
             Body::Refuse { why, offer } => {
-                let own = Command::Refuse {
+                let own = Command::Refuse(Refuse {
                     firm: firm(texts),
                     offer: *offer,
                     why: *why,
-                };
+                });
                 own.is_same(command) && is_reply
             }
             Body::Reverse { offer } => {
-                let own = Command::Reverse {
+                let own = Command::Reverse(Reverse {
                     firm: firm(texts),
                     offer: *offer,
-                };
+                });
                 own.is_same(command) && is_reply
             }
             Body::Swept(_) => false,
-            Body::Whole(entry) => entry.is_asked(command, *reply),
         }
     }
 
@@ -80,7 +75,6 @@ impl Packed {
     {
         match &self.body {
             Body::Swept(own) => own.is_same(sweep),
-            Body::Whole(entry) => entry.is_sweep(sweep),
             _ => false,
         }
     }
@@ -102,7 +96,6 @@ impl Packed {
     {
         match &self.body {
             Body::Swept(sweep) => sweep.lots(),
-            Body::Whole(entry) => entry.lots_swept(),
             _ => 0,
         }
     }

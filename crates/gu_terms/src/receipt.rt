@@ -23,7 +23,7 @@ impl Receipt {
     {
         match &self.entry {
             Entry::Asked {
-                command: Command::GiveUp { .. },
+                command: Command::GiveUp(_),
                 reply: Reply::Accepted(Done::Offered { group, .. }),
             } => Some(*group),
             _ => None,

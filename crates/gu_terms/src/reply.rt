@@ -22,7 +22,7 @@ pub enum Done {
     Offered {
         group: Group,
         first: OfferNo,
-        count: u64,
+        count: u8,
     },
     /// These lots, all that was left of the offer, are moved to the carrying side's account.
     Claimed {

@@ -59,7 +59,7 @@ name_kept false word name h = cc
 -- a limit is written
 pub limit_found : (words : List (List ℕ)) (group : Group) (group_word kind name text : List ℕ) (key : LimitKey) (lots : ℕ)
     → words ≡ group_word ∷ kind ∷ name ∷ text ∷ [] → Some group.name ≡ name_of group_word → Some key ≡ key_said kind name → Some lots ≡ number_of text
-    → Writes (codes "LIMIT" ∷ words) (line.Step (Enter (SetLimit group key lots)))
+    → Writes (codes "LIMIT" ∷ words) (line.Step (Enter (SetLimit (record { group = group; key = key; lots = lots }))))
 limit_found words group group_word kind name text key lots words_are group_is key_is lots_are =
     let is = key_found kind name key (sym key_is) in
     let grouped = name_kept (is_name group_word) group_word group.name (sym group_is) in
@@ -80,7 +80,7 @@ pub report_found : (words rest behind : List (List ℕ)) (firm_word id_word matc
     → words ≡ firm_word ∷ id_word ∷ match_word ∷ rest → rest ≡ side_text ∷ symbol_word ∷ lots_text ∷ behind → behind ≡ price_text ∷ account_word ∷ []
     → Some firm.name ≡ name_of firm_word → IsId id_word → id ≡ id_word → IsId match_word → match_id ≡ match_word → side_text ≡ side_word side
     → Some symbol.name ≡ name_of symbol_word → MeansLots lots_text lots → MeansPrice price_text price → Some account.name ≡ name_of account_word
-    → Writes (codes "REPORT" ∷ words) (line.Step (Enter (ReportSide firm id match_id symbol lots price None side account)))
+    → Writes (codes "REPORT" ∷ words) (line.Step (Enter (ReportSide (record { firm = firm; id = id; match_id = match_id; symbol = symbol; lots = lots; price = price; day = None; side = side; account = account }))))
 report_found words rest behind firm_word id_word match_word side_text symbol_word lots_text price_text account_word firm id match_id side symbol lots price account words_are rest_are behind_are firm_is own own_is matching match_is side_is symbol_is means_lots means_price account_is =
     let firmed = name_kept (is_name firm_word) firm_word firm.name (sym firm_is) in
     let traded = name_kept (is_name symbol_word) symbol_word symbol.name (sym symbol_is) in
@@ -105,17 +105,17 @@ report_found words rest behind firm_word id_word match_word side_text symbol_wor
 
 -- a word that writes no day opens none
 pub day_missed : (words : List (List ℕ)) (text : List ℕ) → words ≡ text ∷ [] → ((day : Day) → ¬ WritesDay text day.year day.month day.day) → WriteNone form.Day (codes "DAY" ∷ words)
-day_missed words text words_are none day h =
+day_missed words text words_are none it h =
     let same : h.0 ≡ text = let all : codes "DAY" ∷ text ∷ [] ≡ codes "DAY" ∷ h.0 ∷ [] = sym (ap (λ (ws : List (List ℕ)). codes "DAY" ∷ ws) words_are) ∙ h.1 in cc in
-    none day (subst (λ (t : List ℕ). WritesDay t day.year day.month day.day) same h.2)
+    none it.day (subst (λ (t : List ℕ). WritesDay t it.day.year it.day.month it.day.day) same h.2)
 
 -- a word that stands for no lots reports none
 pub report_missed : (words rest behind : List (List ℕ)) (firm id match_id side symbol text : List ℕ) → words ≡ firm ∷ id ∷ match_id ∷ rest → rest ≡ side ∷ symbol ∷ text ∷ behind
     → ((n : ℕ) → ¬ MeansLots text n) → WriteNone form.Report (codes "REPORT" ∷ words)
-report_missed words rest behind firm id match_id side symbol text words_are rest_are none firm' id' match_id' symbol' lots price day side' account h =
+report_missed words rest behind firm id match_id side symbol text words_are rest_are none it h =
     let all : codes "REPORT" ∷ firm ∷ id ∷ match_id ∷ side ∷ symbol ∷ text ∷ behind ≡ codes "REPORT" ∷ words = sym (ap (λ (ws : List (List ℕ)). codes "REPORT" ∷ ws) (words_are ∙ ap (λ (ws : List (List ℕ)). firm ∷ id ∷ match_id ∷ ws) rest_are)) in
     let same : h.0 ≡ text = let whole = all ∙ h.2 in cc in
-    none lots (subst (λ (t : List ℕ). MeansLots t lots) same h.6)
+    none it.lots (subst (λ (t : List ℕ). MeansLots t it.lots) same h.6)
 
 -- ---- give-ups
 

@@ -1,18 +1,19 @@
 -- A line of a script says one thing at most.
-use Rattle.std.proofs.Common.{◌≡◌, ◌∷◌, [], ◌∙◌, ℕ, ℤ, List, Option, Some, refl, sym, ap, subst}
+use Rattle.std.proofs.Common.{◌≡◌, ◌∷◌, [], ◌∙◌, ℕ, ℤ, List, Some, refl, sym, ap, subst}
 use Rattle.gu_terms.specs.Days.{WritesDay}
 use Rattle.gu_terms.specs.LimitKeys.{kind_of, name_of_key}
 use Rattle.gu_terms.specs.NumberText.{MeansLots, MeansPrice}
 use Rattle.gu_terms.specs.declared.command.Command.TheVariants.{OpenDay, SetLimit, ReportSide, GiveUp, Claim, Refuse, Reverse}
+use Rattle.gu_terms.specs.declared.command.Reverse.{Reverse as ReverseOf}
+use Rattle.gu_terms.specs.declared.command.Refuse.{Refuse as RefuseOf}
+use Rattle.gu_terms.specs.declared.command.Claim.{Claim as ClaimOf}
+use Rattle.gu_terms.specs.declared.command.GiveUp.{GiveUp as GiveUpOf}
+use Rattle.gu_terms.specs.declared.command.ReportSide.{ReportSide as ReportSideOf}
+use Rattle.gu_terms.specs.declared.command.SetLimit.{SetLimit as SetLimitOf}
+use Rattle.gu_terms.specs.declared.command.OpenDay.{OpenDay as OpenDayOf}
 use Rattle.gu_terms.specs.declared.account.AccountId.{AccountId}
-use Rattle.gu_terms.specs.declared.alloc_reject.AllocReject.{AllocReject}
-use Rattle.gu_terms.specs.declared.day.Day.{Day}
-use Rattle.gu_terms.specs.declared.firm.FirmId.{FirmId}
 use Rattle.gu_terms.specs.declared.group.Group.{Group}
-use Rattle.gu_terms.specs.declared.id.Id.{Id}
-use Rattle.gu_terms.specs.declared.limit_key.LimitKey.{LimitKey}
 use Rattle.gu_terms.specs.declared.lines.Line.{Line as GiveUpLine}
-use Rattle.gu_terms.specs.declared.side.Side.{Side}
 use Rattle.gu_terms.specs.declared.symbol.Symbol.{Symbol}
 use Rattle.gu_world.specs.declared.step.Step.TheVariants.{Enter, See, Propose, Commit}
 use Rattle.gu_text.specs.ScriptForms.{form_begun, form_of, form_word}
@@ -52,13 +53,13 @@ lines_once (account ∷ lots ∷ words) (c ∷ a) (d ∷ b) p q =
 
 -- what a line of a form says
 abbrev IsOf : Form → Line → Type 0
-IsOf form.Day said = (day : Day) × (said ≡ line.Step (Enter (OpenDay day)))
-IsOf form.Limit said = (group : Group) × (key : LimitKey) × (lots : ℕ) × (said ≡ line.Step (Enter (SetLimit group key lots)))
-IsOf form.Report said = (firm : FirmId) × (id : Id) × (match_id : Id) × (symbol : Symbol) × (lots : ℕ) × (price : ℤ) × (day : Option Day) × (side : Side) × (account : AccountId) × (said ≡ line.Step (Enter (ReportSide firm id match_id symbol lots price day side account)))
-IsOf form.GiveUp said = (firm : FirmId) × (id : Id) × (report : Id) × (lines : List GiveUpLine) × (said ≡ line.Step (Enter (GiveUp firm id report lines)))
-IsOf form.Claim said = (firm : FirmId) × (offer : ℕ) × (said ≡ line.Step (Enter (Claim firm offer)))
-IsOf form.Refuse said = (firm : FirmId) × (offer : ℕ) × (why : AllocReject) × (said ≡ line.Step (Enter (Refuse firm offer why)))
-IsOf form.Reverse said = (firm : FirmId) × (offer : ℕ) × (said ≡ line.Step (Enter (Reverse firm offer)))
+IsOf form.Day said = (it : OpenDayOf) × (said ≡ line.Step (Enter (OpenDay it)))
+IsOf form.Limit said = (it : SetLimitOf) × (said ≡ line.Step (Enter (SetLimit it)))
+IsOf form.Report said = (it : ReportSideOf) × (said ≡ line.Step (Enter (ReportSide it)))
+IsOf form.GiveUp said = (it : GiveUpOf) × (said ≡ line.Step (Enter (GiveUp it)))
+IsOf form.Claim said = (it : ClaimOf) × (said ≡ line.Step (Enter (Claim it)))
+IsOf form.Refuse said = (it : RefuseOf) × (said ≡ line.Step (Enter (Refuse it)))
+IsOf form.Reverse said = (it : ReverseOf) × (said ≡ line.Step (Enter (Reverse it)))
 IsOf form.See said = (worker : ℕ) × (group : Group) × (said ≡ line.Step (See worker group))
 IsOf form.Propose said = (worker : ℕ) × (said ≡ line.Step (Propose worker))
 IsOf form.Commit said = (worker : ℕ) × (said ≡ line.Step (Commit worker))
@@ -68,13 +69,13 @@ IsOf form.Interest said = (symbol : Symbol) × (said ≡ line.Interest symbol)
 IsOf form.Limits said = (group : Group) × (said ≡ line.Limits group)
 
 of_form : (said : Line) → IsOf (form_of said) said
-of_form (line.Step (Enter (OpenDay day))) = (day, refl)
-of_form (line.Step (Enter (SetLimit group key lots))) = (group, key, lots, refl)
-of_form (line.Step (Enter (ReportSide firm id match_id symbol lots price day side account))) = (firm, id, match_id, symbol, lots, price, day, side, account, refl)
-of_form (line.Step (Enter (GiveUp firm id report lines))) = (firm, id, report, lines, refl)
-of_form (line.Step (Enter (Claim firm offer))) = (firm, offer, refl)
-of_form (line.Step (Enter (Refuse firm offer why))) = (firm, offer, why, refl)
-of_form (line.Step (Enter (Reverse firm offer))) = (firm, offer, refl)
+of_form (line.Step (Enter (OpenDay it))) = (it, refl)
+of_form (line.Step (Enter (SetLimit it))) = (it, refl)
+of_form (line.Step (Enter (ReportSide it))) = (it, refl)
+of_form (line.Step (Enter (GiveUp it))) = (it, refl)
+of_form (line.Step (Enter (Claim it))) = (it, refl)
+of_form (line.Step (Enter (Refuse it))) = (it, refl)
+of_form (line.Step (Enter (Reverse it))) = (it, refl)
 of_form (line.Step (See worker group)) = (worker, group, refl)
 of_form (line.Step (Propose worker)) = (worker, refl)
 of_form (line.Step (Commit worker)) = (worker, refl)
@@ -88,129 +89,115 @@ alike : (a b : Line) → form_of a ≡ form_of b → IsOf (form_of a) b
 alike a b forms = subst (λ f. IsOf f b) (sym forms) (of_form b)
 
 -- words write one report
-report_once : (words : List (List ℕ)) (firm firm' : FirmId) (id id' match_id match_id' : Id) (symbol symbol' : Symbol) (lots lots' : ℕ) (price price' : ℤ) (day day' : Option Day) (side side' : Side) (account account' : AccountId)
-    → Writes words (line.Step (Enter (ReportSide firm id match_id symbol lots price day side account))) → Writes words (line.Step (Enter (ReportSide firm' id' match_id' symbol' lots' price' day' side' account'))) → line.Step (Enter (ReportSide firm id match_id symbol lots price day side account)) ≡ line.Step (Enter (ReportSide firm' id' match_id' symbol' lots' price' day' side' account'))
-report_once words firm firm' id id' match_id match_id' symbol symbol' lots lots' price price' day day' side side' account account' p q =
+report_once : (words : List (List ℕ)) (a b : ReportSideOf) → Writes words (line.Step (Enter (ReportSide a))) → Writes words (line.Step (Enter (ReportSide b)))
+    → line.Step (Enter (ReportSide a)) ≡ line.Step (Enter (ReportSide b))
+report_once words a b p q =
     let e = sym p.2 ∙ q.2 in
-    let firm_names : firm.name ≡ firm'.name = cc in
-    let ids : id ≡ id' = cc in
-    let match_ids : match_id ≡ match_id' = cc in
-    let letters : side_word side ≡ side_word side' = cc in
-    let symbol_names : symbol.name ≡ symbol'.name = cc in
+    let firm_names : a.firm.name ≡ b.firm.name = cc in
+    let ids : a.id ≡ b.id = cc in
+    let match_ids : a.match_id ≡ b.match_id = cc in
+    let letters : side_word a.side ≡ side_word b.side = cc in
+    let symbol_names : a.symbol.name ≡ b.symbol.name = cc in
     let lots_texts : p.0 ≡ q.0 = cc in
     let price_texts : p.1 ≡ q.1 = cc in
-    let account_names : account.name ≡ account'.name = cc in
-    let firms = one_firm firm firm' firm_names in
-    let sides = one_side side side' letters in
-    let symbols = one_symbol symbol symbol' symbol_names in
-    let same_lots = one_lots q.0 lots lots' (subst (λ (t : List ℕ). MeansLots t lots) lots_texts p.6) q.6 in
-    let prices = one_price q.1 price price' (subst (λ (t : List ℕ). MeansPrice t price) price_texts p.7) q.7 in
-    let days : day ≡ day' = p.8 ∙ sym q.8 in
-    let accounts = one_account account account' account_names in
-    cc
+    let account_names : a.account.name ≡ b.account.name = cc in
+    let firms = one_firm a.firm b.firm firm_names in
+    let sides = one_side a.side b.side letters in
+    let symbols = one_symbol a.symbol b.symbol symbol_names in
+    let same_lots = one_lots q.0 a.lots b.lots (subst (λ (t : List ℕ). MeansLots t a.lots) lots_texts p.6) q.6 in
+    let prices = one_price q.1 a.price b.price (subst (λ (t : List ℕ). MeansPrice t a.price) price_texts p.7) q.7 in
+    let days : a.day ≡ b.day = p.8 ∙ sym q.8 in
+    let accounts = one_account a.account b.account account_names in
+    λ i. line.Step (Enter (ReportSide (record {
+      firm = firms i;
+      id = ids i;
+      match_id = match_ids i;
+      symbol = symbols i;
+      lots = same_lots i;
+      price = prices i;
+      day = days i;
+      side = sides i;
+      account = accounts i;
+    })))
 
 -- words write one give-up
-give_up_once : (words : List (List ℕ)) (firm firm' : FirmId) (id id' report report' : Id) (lines lines' : List GiveUpLine)
-    → Writes words (line.Step (Enter (GiveUp firm id report lines))) → Writes words (line.Step (Enter (GiveUp firm' id' report' lines')))
-    → line.Step (Enter (GiveUp firm id report lines)) ≡ line.Step (Enter (GiveUp firm' id' report' lines'))
-give_up_once words firm firm' id id' report report' lines lines' p q =
+give_up_once : (words : List (List ℕ)) (a b : GiveUpOf) → Writes words (line.Step (Enter (GiveUp a))) → Writes words (line.Step (Enter (GiveUp b)))
+    → line.Step (Enter (GiveUp a)) ≡ line.Step (Enter (GiveUp b))
+give_up_once words a b p q =
     let e = sym p.1 ∙ q.1 in
-    let firm_names : firm.name ≡ firm'.name = cc in
-    let ids : id ≡ id' = cc in
-    let reports : report ≡ report' = cc in
+    let firm_names : a.firm.name ≡ b.firm.name = cc in
+    let ids : a.id ≡ b.id = cc in
+    let reports : a.report ≡ b.report = cc in
     let pairs : p.0 ≡ q.0 = cc in
-    let firms = one_firm firm firm' firm_names in
-    let same_lines = lines_once q.0 lines lines' (subst (λ (ws : List (List ℕ)). WriteLines ws lines) pairs p.5) q.5 in
-    cc
+    let firms = one_firm a.firm b.firm firm_names in
+    let same_lines = lines_once q.0 a.lines b.lines (subst (λ (ws : List (List ℕ)). WriteLines ws a.lines) pairs p.5) q.5 in
+    λ i. line.Step (Enter (GiveUp (record { firm = firms i; id = ids i; report = reports i; lines = same_lines i })))
 
 -- words write one line
 written_once : (words : List (List ℕ)) (a b : Line) → form_of a ≡ form_of b → Writes words a → Writes words b → a ≡ b
-written_once words (line.Step (Enter (OpenDay day))) b forms p q =
-    let w = alike (line.Step (Enter (OpenDay day))) b forms in
-    let day' = w.0 in
-    let r : Writes words (line.Step (Enter (OpenDay day'))) = subst (λ (l : Line). Writes words l) w.1 q in
+written_once words (line.Step (Enter (OpenDay it))) b forms p q =
+    let w = alike (line.Step (Enter (OpenDay it))) b forms in
+    let other = w.0 in
+    let r : Writes words (line.Step (Enter (OpenDay other))) = subst (λ (l : Line). Writes words l) w.1 q in
     let same : p.0 ≡ r.0 = let e = sym p.1 ∙ r.1 in cc in
-    let done : line.Step (Enter (OpenDay day)) ≡ line.Step (Enter (OpenDay day')) = ap (λ d. line.Step (Enter (OpenDay d))) (one_day r.0 day day' (subst (λ (t : List ℕ). WritesDay t day.year day.month day.day) same p.2) r.2) in
-    done ∙ sym w.1
-written_once words (line.Step (Enter (SetLimit group key lots))) b forms p q =
-    let w = alike (line.Step (Enter (SetLimit group key lots))) b forms in
-    let group' = w.0 in
-    let key' = w.1 in
-    let lots' = w.2 in
-    let r : Writes words (line.Step (Enter (SetLimit group' key' lots'))) = subst (λ (l : Line). Writes words l) w.3 q in
+    let days = one_day r.0 it.day other.day (subst (λ (t : List ℕ). WritesDay t it.day.year it.day.month it.day.day) same p.2) r.2 in
+    (λ i. line.Step (Enter (OpenDay (record { day = days i })))) ∙ sym w.1
+written_once words (line.Step (Enter (SetLimit it))) b forms p q =
+    let w = alike (line.Step (Enter (SetLimit it))) b forms in
+    let other = w.0 in
+    let r : Writes words (line.Step (Enter (SetLimit other))) = subst (λ (l : Line). Writes words l) w.1 q in
     let e = sym p.1 ∙ r.1 in
-    let names : group.name ≡ group'.name = cc in
-    let kinds : kind_of key ≡ kind_of key' = cc in
-    let key_names : name_of_key key ≡ name_of_key key' = cc in
+    let names : it.group.name ≡ other.group.name = cc in
+    let kinds : kind_of it.key ≡ kind_of other.key = cc in
+    let key_names : name_of_key it.key ≡ name_of_key other.key = cc in
     let texts : p.0 ≡ r.0 = cc in
-    let value : Some lots ≡ Some lots' = sym p.3 ∙ ap number_of texts ∙ r.3 in
-    let groups = one_group group group' names in
-    let keys = one_key key key' kinds key_names in
-    let done : line.Step (Enter (SetLimit group key lots)) ≡ line.Step (Enter (SetLimit group' key' lots')) = cc in
-    done ∙ sym w.3
-written_once words (line.Step (Enter (ReportSide firm id match_id symbol lots price day side account))) b forms p q =
-    let w = alike (line.Step (Enter (ReportSide firm id match_id symbol lots price day side account))) b forms in
-    let firm' = w.0 in
-    let id' = w.1 in
-    let match_id' = w.2 in
-    let symbol' = w.3 in
-    let lots' = w.4 in
-    let price' = w.5 in
-    let day' = w.6 in
-    let side' = w.7 in
-    let account' = w.8 in
-    let r : Writes words (line.Step (Enter (ReportSide firm' id' match_id' symbol' lots' price' day' side' account'))) = subst (λ (l : Line). Writes words l) w.9 q in
-    let done : line.Step (Enter (ReportSide firm id match_id symbol lots price day side account)) ≡ line.Step (Enter (ReportSide firm' id' match_id' symbol' lots' price' day' side' account')) = report_once words firm firm' id id' match_id match_id' symbol symbol' lots lots' price price' day day' side side' account account' p r in
-    done ∙ sym w.9
-written_once words (line.Step (Enter (GiveUp firm id report lines))) b forms p q =
-    let w = alike (line.Step (Enter (GiveUp firm id report lines))) b forms in
-    let firm' = w.0 in
-    let id' = w.1 in
-    let report' = w.2 in
-    let lines' = w.3 in
-    let r : Writes words (line.Step (Enter (GiveUp firm' id' report' lines'))) = subst (λ (l : Line). Writes words l) w.4 q in
-    let done : line.Step (Enter (GiveUp firm id report lines)) ≡ line.Step (Enter (GiveUp firm' id' report' lines')) = give_up_once words firm firm' id id' report report' lines lines' p r in
-    done ∙ sym w.4
-written_once words (line.Step (Enter (Claim firm offer))) b forms p q =
-    let w = alike (line.Step (Enter (Claim firm offer))) b forms in
-    let firm' = w.0 in
-    let offer' = w.1 in
-    let r : Writes words (line.Step (Enter (Claim firm' offer'))) = subst (λ (l : Line). Writes words l) w.2 q in
+    let value : Some it.lots ≡ Some other.lots = sym p.3 ∙ ap number_of texts ∙ r.3 in
+    let groups = one_group it.group other.group names in
+    let keys = one_key it.key other.key kinds key_names in
+    let lots : it.lots ≡ other.lots = cc in
+    (λ i. line.Step (Enter (SetLimit (record { group = groups i; key = keys i; lots = lots i })))) ∙ sym w.1
+written_once words (line.Step (Enter (ReportSide it))) b forms p q =
+    let w = alike (line.Step (Enter (ReportSide it))) b forms in
+    report_once words it w.0 p (subst (λ (l : Line). Writes words l) w.1 q) ∙ sym w.1
+written_once words (line.Step (Enter (GiveUp it))) b forms p q =
+    let w = alike (line.Step (Enter (GiveUp it))) b forms in
+    give_up_once words it w.0 p (subst (λ (l : Line). Writes words l) w.1 q) ∙ sym w.1
+written_once words (line.Step (Enter (Claim it))) b forms p q =
+    let w = alike (line.Step (Enter (Claim it))) b forms in
+    let other = w.0 in
+    let r : Writes words (line.Step (Enter (Claim other))) = subst (λ (l : Line). Writes words l) w.1 q in
     let e = sym p.1 ∙ r.1 in
-    let names : firm.name ≡ firm'.name = cc in
+    let names : it.firm.name ≡ other.firm.name = cc in
     let texts : p.0 ≡ r.0 = cc in
-    let value : Some offer ≡ Some offer' = sym p.3 ∙ ap offer_no_of texts ∙ r.3 in
-    let firms = one_firm firm firm' names in
-    let done : line.Step (Enter (Claim firm offer)) ≡ line.Step (Enter (Claim firm' offer')) = cc in
-    done ∙ sym w.2
-written_once words (line.Step (Enter (Refuse firm offer why))) b forms p q =
-    let w = alike (line.Step (Enter (Refuse firm offer why))) b forms in
-    let firm' = w.0 in
-    let offer' = w.1 in
-    let why' = w.2 in
-    let r : Writes words (line.Step (Enter (Refuse firm' offer' why'))) = subst (λ (l : Line). Writes words l) w.3 q in
+    let value : Some it.offer ≡ Some other.offer = sym p.3 ∙ ap offer_no_of texts ∙ r.3 in
+    let firms = one_firm it.firm other.firm names in
+    let offers : it.offer ≡ other.offer = cc in
+    (λ i. line.Step (Enter (Claim (record { firm = firms i; offer = offers i })))) ∙ sym w.1
+written_once words (line.Step (Enter (Refuse it))) b forms p q =
+    let w = alike (line.Step (Enter (Refuse it))) b forms in
+    let other = w.0 in
+    let r : Writes words (line.Step (Enter (Refuse other))) = subst (λ (l : Line). Writes words l) w.1 q in
     let e = sym p.2 ∙ r.2 in
-    let names : firm.name ≡ firm'.name = cc in
+    let names : it.firm.name ≡ other.firm.name = cc in
     let texts : p.0 ≡ r.0 = cc in
     let why_texts : p.1 ≡ r.1 = cc in
-    let value : Some offer ≡ Some offer' = sym p.4 ∙ ap offer_no_of texts ∙ r.4 in
+    let value : Some it.offer ≡ Some other.offer = sym p.4 ∙ ap offer_no_of texts ∙ r.4 in
     let numbers = sym p.5 ∙ ap number_of why_texts ∙ r.5 in
-    let whys = one_reject why why' cc in
-    let firms = one_firm firm firm' names in
-    let done : line.Step (Enter (Refuse firm offer why)) ≡ line.Step (Enter (Refuse firm' offer' why')) = cc in
-    done ∙ sym w.3
-written_once words (line.Step (Enter (Reverse firm offer))) b forms p q =
-    let w = alike (line.Step (Enter (Reverse firm offer))) b forms in
-    let firm' = w.0 in
-    let offer' = w.1 in
-    let r : Writes words (line.Step (Enter (Reverse firm' offer'))) = subst (λ (l : Line). Writes words l) w.2 q in
+    let whys = one_reject it.why other.why cc in
+    let firms = one_firm it.firm other.firm names in
+    let offers : it.offer ≡ other.offer = cc in
+    (λ i. line.Step (Enter (Refuse (record { firm = firms i; offer = offers i; why = whys i })))) ∙ sym w.1
+written_once words (line.Step (Enter (Reverse it))) b forms p q =
+    let w = alike (line.Step (Enter (Reverse it))) b forms in
+    let other = w.0 in
+    let r : Writes words (line.Step (Enter (Reverse other))) = subst (λ (l : Line). Writes words l) w.1 q in
     let e = sym p.1 ∙ r.1 in
-    let names : firm.name ≡ firm'.name = cc in
+    let names : it.firm.name ≡ other.firm.name = cc in
     let texts : p.0 ≡ r.0 = cc in
-    let value : Some offer ≡ Some offer' = sym p.3 ∙ ap offer_no_of texts ∙ r.3 in
-    let firms = one_firm firm firm' names in
-    let done : line.Step (Enter (Reverse firm offer)) ≡ line.Step (Enter (Reverse firm' offer')) = cc in
-    done ∙ sym w.2
+    let value : Some it.offer ≡ Some other.offer = sym p.3 ∙ ap offer_no_of texts ∙ r.3 in
+    let firms = one_firm it.firm other.firm names in
+    let offers : it.offer ≡ other.offer = cc in
+    (λ i. line.Step (Enter (Reverse (record { firm = firms i; offer = offers i })))) ∙ sym w.1
 written_once words (line.Step (See worker group)) b forms p q =
     let w = alike (line.Step (See worker group)) b forms in
     let worker' = w.0 in

@@ -15,16 +15,9 @@ use Rattle.gu_text.specs.declared.script_line.Line.TheVariants as line
 
 -- what is written begins with the word of its form
 pub begins : (words : List (List ℕ)) (said : Line) → Writes words said → (rest : List (List ℕ)) × (words ≡ form_word (form_of said) ∷ rest)
-begins words (line.Step (Enter (OpenDay day))) h = (h.0 ∷ [], h.1)
-begins words (line.Step (Enter (SetLimit group key lots))) h = (_, h.1)
-begins words (line.Step (Enter (ReportSide firm id match_id symbol lots price day side account))) h = (_, h.2)
-begins words (line.Step (Enter (GiveUp firm id report lines))) h = (_, h.1)
-begins words (line.Step (Enter (Claim firm offer))) h = (_, h.1)
-begins words (line.Step (Enter (Refuse firm offer why))) h = (_, h.2)
-begins words (line.Step (Enter (Reverse firm offer))) h = (_, h.1)
-begins words (line.Step (See worker group)) h = (_, h.1)
-begins words (line.Step (Propose worker)) h = (_, h.1)
-begins words (line.Step (Commit worker)) h = (_, h.1)
+begins words (line.Step (Enter (ReportSide it))) h = (_, h.2)
+begins words (line.Step (Enter (Refuse it))) h = (_, h.2)
+begins words (line.Step step) h = (_, h.1)
 begins words (line.Sweep group) h = (_, h.0)
 begins words (line.Position account symbol) h = (_, h.0)
 begins words (line.Interest symbol) h = (_, h.0)
@@ -49,13 +42,13 @@ form_begun-word form.Limits = refl
 
 -- words that write nothing of its form don't write a line
 none_written : (words : List (List ℕ)) (said : Line) → WriteNone (form_of said) words → ¬ Writes words said
-none_written words (line.Step (Enter (OpenDay day))) none h = none day h
-none_written words (line.Step (Enter (SetLimit group key lots))) none h = none group key lots h
-none_written words (line.Step (Enter (ReportSide firm id match_id symbol lots price day side account))) none h = none firm id match_id symbol lots price day side account h
-none_written words (line.Step (Enter (GiveUp firm id report lines))) none h = none firm id report lines h
-none_written words (line.Step (Enter (Claim firm offer))) none h = none firm offer h
-none_written words (line.Step (Enter (Refuse firm offer why))) none h = none firm offer why h
-none_written words (line.Step (Enter (Reverse firm offer))) none h = none firm offer h
+none_written words (line.Step (Enter (OpenDay it))) none h = none it h
+none_written words (line.Step (Enter (SetLimit it))) none h = none it h
+none_written words (line.Step (Enter (ReportSide it))) none h = none it h
+none_written words (line.Step (Enter (GiveUp it))) none h = none it h
+none_written words (line.Step (Enter (Claim it))) none h = none it h
+none_written words (line.Step (Enter (Refuse it))) none h = none it h
+none_written words (line.Step (Enter (Reverse it))) none h = none it h
 none_written words (line.Step (See worker group)) none h = none worker group h
 none_written words (line.Step (Propose worker)) none h = none worker h
 none_written words (line.Step (Commit worker)) none h = none worker h

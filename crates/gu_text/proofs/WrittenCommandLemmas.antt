@@ -59,13 +59,8 @@ words-joined (first ∷ next ∷ others) some =
 
 -- a command has words
 pub some_words : (command : Command) → 1 ≤ length (command_words command)
-some_words (OpenDay day) = omega arith
-some_words (SetLimit group key lots) = omega arith
-some_words (ReportSide firm id match_id symbol lots price day side account) = omega arith
-some_words (GiveUp firm id report lines) = omega arith
-some_words (Claim firm offer) = omega arith
-some_words (Refuse firm offer why) = omega arith
-some_words (Reverse firm offer) = omega arith
+some_words (OpenDay it) = omega arith
+some_words command = omega arith
 
 -- ---- lines
 
@@ -246,77 +241,72 @@ pairs_write (first ∷ others) all = (refl, all.0.0, decimal_means_lots first.lo
 -- ---- commands and sweeps
 
 command_are_words : (command : Command) → IsWritableCommand command → AllByRecursion IsWord (command_words command)
-command_are_words (OpenDay day) is = ((literal (codes "DAY") refl refl).0, (day_word day.year day.month day.day day.there, tt))
-command_are_words (SetLimit group key lots) is =
-    ((literal (codes "LIMIT") refl refl).0, ((name_word group.name is.0).0, ((kind_word key).0, ((name_word (name_of_key key) is.1).0, ((number_word lots is.2).0, tt)))))
-command_are_words (ReportSide firm id match_id symbol lots price day side account) is = (
+command_are_words (OpenDay it) is = ((literal (codes "DAY") refl refl).0, (day_word it.day.year it.day.month it.day.day it.day.there, tt))
+command_are_words (SetLimit it) is =
+    ((literal (codes "LIMIT") refl refl).0, ((name_word it.group.name is.0).0, ((kind_word it.key).0, ((name_word (name_of_key it.key) is.1).0, ((number_word it.lots is.2).0, tt)))))
+command_are_words (ReportSide it) is = (
   (literal (codes "REPORT") refl refl).0,
   (
-    (name_word firm.name is.0).0,
+    (name_word it.firm.name is.0).0,
     (
-      id_word id is.1,
+      id_word it.id is.1,
       (
-        id_word match_id is.2,
+        id_word it.match_id is.2,
         (
-          (side_is_word side).0,
+          (side_is_word it.side).0,
           (
-            (name_word symbol.name is.3).0,
-            ((number_word lots (lots_small lots is.4)).0, (price_word price is.5, ((name_word account.name is.6).0, tt))),
+            (name_word it.symbol.name is.3).0,
+            ((number_word it.lots (lots_small it.lots is.4)).0, (price_word it.price is.5, ((name_word it.account.name is.6).0, tt))),
           ),
         ),
       ),
     ),
   ),
 )
-command_are_words (GiveUp firm id report lines) is =
-    ((literal (codes "GIVEUP") refl refl).0, ((name_word firm.name is.0).0, (id_word id is.1, (id_word report is.2, pairs_are_words lines is.4))))
-command_are_words (Claim firm offer) is =
-    ((literal (codes "CLAIM") refl refl).0, ((name_word firm.name is.0).0, ((number_word offer (offer_small offer is.1)).0, tt)))
-command_are_words (Refuse firm offer why) is =
-    ((literal (codes "REFUSE") refl refl).0, ((name_word firm.name is.0).0, ((number_word offer (offer_small offer is.1)).0, ((reject_word why).0, tt))))
-command_are_words (Reverse firm offer) is =
-    ((literal (codes "REVERSE") refl refl).0, ((name_word firm.name is.0).0, ((number_word offer (offer_small offer is.1)).0, tt)))
+command_are_words (GiveUp it) is =
+    ((literal (codes "GIVEUP") refl refl).0, ((name_word it.firm.name is.0).0, (id_word it.id is.1, (id_word it.report is.2, pairs_are_words it.lines is.4))))
+command_are_words (Claim it) is =
+    ((literal (codes "CLAIM") refl refl).0, ((name_word it.firm.name is.0).0, ((number_word it.offer (offer_small it.offer is.1)).0, tt)))
+command_are_words (Refuse it) is =
+    ((literal (codes "REFUSE") refl refl).0, ((name_word it.firm.name is.0).0, ((number_word it.offer (offer_small it.offer is.1)).0, ((reject_word it.why).0, tt))))
+command_are_words (Reverse it) is =
+    ((literal (codes "REVERSE") refl refl).0, ((name_word it.firm.name is.0).0, ((number_word it.offer (offer_small it.offer is.1)).0, tt)))
 
 -- a command has less than half of the bytes that a line may have
 command_is_short : (command : Command) → IsWritableCommand command → size_of (command_words command) ≤ 500
-command_is_short (OpenDay day) is = omega (arith, (date_text_writes day.year day.month day.day day.there).is_text.eight)
-command_is_short (SetLimit group key lots) is = omega (arith, (name_word group.name is.0).1, (kind_word key).1, (name_word (name_of_key key) is.1).1, (number_word lots is.2).1)
-command_is_short (ReportSide firm id match_id symbol lots price day side account) is =
+command_is_short (OpenDay it) is = omega (arith, (date_text_writes it.day.year it.day.month it.day.day it.day.there).is_text.eight)
+command_is_short (SetLimit it) is = omega (arith, (name_word it.group.name is.0).1, (kind_word it.key).1, (name_word (name_of_key it.key) is.1).1, (number_word it.lots is.2).1)
+command_is_short (ReportSide it) is =
     omega (
       arith,
-      (name_word firm.name is.0).1,
+      (name_word it.firm.name is.0).1,
       is.1.most,
       is.2.most,
-      (side_is_word side).1,
-      (name_word symbol.name is.3).1,
-      (number_word lots (lots_small lots is.4)).1,
-      length-price price is.5,
-      (name_word account.name is.6).1,
+      (side_is_word it.side).1,
+      (name_word it.symbol.name is.3).1,
+      (number_word it.lots (lots_small it.lots is.4)).1,
+      length-price it.price is.5,
+      (name_word it.account.name is.6).1,
     )
-command_is_short (GiveUp firm id report lines) is = omega (arith, (name_word firm.name is.0).1, is.1.most, is.2.most, is.3.most, pairs_are_short lines is.4)
-command_is_short (Claim firm offer) is = omega (arith, (name_word firm.name is.0).1, (number_word offer (offer_small offer is.1)).1)
-command_is_short (Refuse firm offer why) is = omega (arith, (name_word firm.name is.0).1, (number_word offer (offer_small offer is.1)).1, (reject_word why).1)
-command_is_short (Reverse firm offer) is = omega (arith, (name_word firm.name is.0).1, (number_word offer (offer_small offer is.1)).1)
+command_is_short (GiveUp it) is = omega (arith, (name_word it.firm.name is.0).1, is.1.most, is.2.most, is.3.most, pairs_are_short it.lines is.4)
+command_is_short (Claim it) is = omega (arith, (name_word it.firm.name is.0).1, (number_word it.offer (offer_small it.offer is.1)).1)
+command_is_short (Refuse it) is = omega (arith, (name_word it.firm.name is.0).1, (number_word it.offer (offer_small it.offer is.1)).1, (reject_word it.why).1)
+command_is_short (Reverse it) is = omega (arith, (name_word it.firm.name is.0).1, (number_word it.offer (offer_small it.offer is.1)).1)
 
 -- no command's line begins as a comment
 command_speaks : (command : Command) → is_silent (joined (command_words command)) ≡ false
-command_speaks (OpenDay day) = refl
-command_speaks (SetLimit group key lots) = refl
-command_speaks (ReportSide firm id match_id symbol lots price day side account) = refl
-command_speaks (GiveUp firm id report lines) = refl
-command_speaks (Claim firm offer) = refl
-command_speaks (Refuse firm offer why) = refl
-command_speaks (Reverse firm offer) = refl
+command_speaks (OpenDay it) = refl
+command_speaks command = refl
 
 command_writes : (command : Command) → IsWritableCommand command → Writes (command_words command) (line.Step (Enter (undated command)))
-command_writes (OpenDay day) is = (date_text day.year day.month day.day, refl, date_text_writes day.year day.month day.day day.there)
-command_writes (SetLimit group key lots) is = (decimal lots, refl, rw (is.0, is.1) refl, number_back lots is.2)
-command_writes (ReportSide firm id match_id symbol lots price day side account) is =
-    (decimal lots, price_text price, refl, rw (is.0, is.3, is.6) refl, is.1, is.2, decimal_means_lots lots is.4, price_text_means price is.5, refl)
-command_writes (GiveUp firm id report lines) is = (pair_words lines, refl, is.0, is.1, is.2, pairs_write lines is.4, is.3)
-command_writes (Claim firm offer) is = (decimal offer, refl, is.0, offer_no_back offer is.1)
-command_writes (Refuse firm offer why) is = (decimal offer, decimal (reject_number why), refl, is.0, offer_no_back offer is.1, reject_back why)
-command_writes (Reverse firm offer) is = (decimal offer, refl, is.0, offer_no_back offer is.1)
+command_writes (OpenDay it) is = (date_text it.day.year it.day.month it.day.day, refl, date_text_writes it.day.year it.day.month it.day.day it.day.there)
+command_writes (SetLimit it) is = (decimal it.lots, refl, rw (is.0, is.1) refl, number_back it.lots is.2)
+command_writes (ReportSide it) is =
+    (decimal it.lots, price_text it.price, refl, rw (is.0, is.3, is.6) refl, is.1, is.2, decimal_means_lots it.lots is.4, price_text_means it.price is.5, refl)
+command_writes (GiveUp it) is = (pair_words it.lines, refl, is.0, is.1, is.2, pairs_write it.lines is.4, is.3)
+command_writes (Claim it) is = (decimal it.offer, refl, is.0, offer_no_back it.offer is.1)
+command_writes (Refuse it) is = (decimal it.offer, decimal (reject_number it.why), refl, is.0, offer_no_back it.offer is.1, reject_back it.why)
+command_writes (Reverse it) is = (decimal it.offer, refl, is.0, offer_no_back it.offer is.1)
 
 -- a command's line says the command
 pub command_says : (command : Command) → IsWritableCommand command → IsScriptLineOf (command_words command) (line.Step (Enter (undated command)))

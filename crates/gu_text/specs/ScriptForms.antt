@@ -10,13 +10,15 @@ use Rattle.gu_terms.specs.NumberText.{MeansLots}
 use Rattle.gu_terms.specs.declared.account.AccountId.{AccountId}
 use Rattle.gu_terms.specs.declared.alloc_reject.AllocReject.{AllocReject}
 use Rattle.gu_terms.specs.declared.command.Command.TheVariants.{OpenDay, SetLimit, ReportSide, GiveUp, Claim, Refuse, Reverse}
-use Rattle.gu_terms.specs.declared.day.Day.{Day}
-use Rattle.gu_terms.specs.declared.firm.FirmId.{FirmId}
+use Rattle.gu_terms.specs.declared.command.Reverse.{Reverse as ReverseOf}
+use Rattle.gu_terms.specs.declared.command.Refuse.{Refuse as RefuseOf}
+use Rattle.gu_terms.specs.declared.command.Claim.{Claim as ClaimOf}
+use Rattle.gu_terms.specs.declared.command.GiveUp.{GiveUp as GiveUpOf}
+use Rattle.gu_terms.specs.declared.command.ReportSide.{ReportSide as ReportSideOf}
+use Rattle.gu_terms.specs.declared.command.SetLimit.{SetLimit as SetLimitOf}
+use Rattle.gu_terms.specs.declared.command.OpenDay.{OpenDay as OpenDayOf}
 use Rattle.gu_terms.specs.declared.group.Group.{Group}
-use Rattle.gu_terms.specs.declared.id.Id.{Id}
-use Rattle.gu_terms.specs.declared.limit_key.LimitKey.{LimitKey}
 use Rattle.gu_terms.specs.declared.lines.Line.{Line as GiveUpLine}
-use Rattle.gu_terms.specs.declared.side.Side.{Side}
 use Rattle.gu_terms.specs.declared.symbol.Symbol.{Symbol}
 use Rattle.gu_world.specs.declared.step.Step.TheVariants.{Enter, See, Propose, Commit}
 use Rattle.gu_text.specs.Lines.{is_silent, longest_line}
@@ -67,13 +69,13 @@ form_begun word = find (λ f. bytes_eq (form_word f) word) forms
 
 -- the form of what a line says
 abbrev pub form_of : Line → Form
-form_of (line.Step (Enter (OpenDay day))) = form.Day
-form_of (line.Step (Enter (SetLimit group key lots))) = form.Limit
-form_of (line.Step (Enter (ReportSide firm id match_id symbol lots price day side account))) = form.Report
-form_of (line.Step (Enter (GiveUp firm id report lines))) = form.GiveUp
-form_of (line.Step (Enter (Claim firm offer))) = form.Claim
-form_of (line.Step (Enter (Refuse firm offer why))) = form.Refuse
-form_of (line.Step (Enter (Reverse firm offer))) = form.Reverse
+form_of (line.Step (Enter (OpenDay opening))) = form.Day
+form_of (line.Step (Enter (SetLimit limit))) = form.Limit
+form_of (line.Step (Enter (ReportSide report))) = form.Report
+form_of (line.Step (Enter (GiveUp give_up))) = form.GiveUp
+form_of (line.Step (Enter (Claim claim))) = form.Claim
+form_of (line.Step (Enter (Refuse refusal))) = form.Refuse
+form_of (line.Step (Enter (Reverse reversal))) = form.Reverse
 form_of (line.Step (See worker group)) = form.See
 form_of (line.Step (Propose worker)) = form.Propose
 form_of (line.Step (Commit worker)) = form.Commit
@@ -84,16 +86,13 @@ form_of (line.Limits group) = form.Limits
 
 -- words write nothing of a form
 abbrev pub WriteNone : Form → List (List ℕ) → Type 0
-WriteNone form.Day words = (day : Day) → ¬ Writes words (line.Step (Enter (OpenDay day)))
-WriteNone form.Limit words = (group : Group) (key : LimitKey) (lots : ℕ) → ¬ Writes words (line.Step (Enter (SetLimit group key lots)))
-WriteNone form.Report words =
-    (firm : FirmId) (id match_id : Id) (symbol : Symbol) (lots : ℕ) (price : ℤ) (day : Option Day) (side : Side) (account : AccountId)
-    → ¬ Writes words (line.Step (Enter (ReportSide firm id match_id symbol lots price day side account)))
-WriteNone form.GiveUp words =
-    (firm : FirmId) (id report : Id) (lines : List GiveUpLine) → ¬ Writes words (line.Step (Enter (GiveUp firm id report lines)))
-WriteNone form.Claim words = (firm : FirmId) (offer : ℕ) → ¬ Writes words (line.Step (Enter (Claim firm offer)))
-WriteNone form.Refuse words = (firm : FirmId) (offer : ℕ) (why : AllocReject) → ¬ Writes words (line.Step (Enter (Refuse firm offer why)))
-WriteNone form.Reverse words = (firm : FirmId) (offer : ℕ) → ¬ Writes words (line.Step (Enter (Reverse firm offer)))
+WriteNone form.Day words = (opening : OpenDayOf) → ¬ Writes words (line.Step (Enter (OpenDay opening)))
+WriteNone form.Limit words = (limit : SetLimitOf) → ¬ Writes words (line.Step (Enter (SetLimit limit)))
+WriteNone form.Report words = (report : ReportSideOf) → ¬ Writes words (line.Step (Enter (ReportSide report)))
+WriteNone form.GiveUp words = (give_up : GiveUpOf) → ¬ Writes words (line.Step (Enter (GiveUp give_up)))
+WriteNone form.Claim words = (claim : ClaimOf) → ¬ Writes words (line.Step (Enter (Claim claim)))
+WriteNone form.Refuse words = (refusal : RefuseOf) → ¬ Writes words (line.Step (Enter (Refuse refusal)))
+WriteNone form.Reverse words = (reversal : ReverseOf) → ¬ Writes words (line.Step (Enter (Reverse reversal)))
 WriteNone form.See words = (worker : ℕ) (group : Group) → ¬ Writes words (line.Step (See worker group))
 WriteNone form.Propose words = (worker : ℕ) → ¬ Writes words (line.Step (Propose worker))
 WriteNone form.Commit words = (worker : ℕ) → ¬ Writes words (line.Step (Commit worker))

@@ -37,30 +37,30 @@ WriteLines words lines = ⊥
 
 -- words write a command: its own word, and after it names, ids and numbers; a report is of the open day
 abbrev pub WritesCommand : List (List ℕ) → Command → Type 0
-WritesCommand words (OpenDay day) =
-    (text : List ℕ) × (words ≡ codes "DAY" ∷ text ∷ []) × WritesDay text day.year day.month day.day
-WritesCommand words (SetLimit group key lots) =
+WritesCommand words (OpenDay opening) =
+    (text : List ℕ) × (words ≡ codes "DAY" ∷ text ∷ []) × WritesDay text opening.day.year opening.day.month opening.day.day
+WritesCommand words (SetLimit limit) =
     (text : List ℕ)
-    × (words ≡ codes "LIMIT" ∷ group.name ∷ kind_of key ∷ name_of_key key ∷ text ∷ [])
-    × IsTrue (is_name group.name && is_name (name_of_key key)) × (number_of text ≡ Some lots)
-WritesCommand words (ReportSide firm id match_id symbol lots price day side account) =
+    × (words ≡ codes "LIMIT" ∷ limit.group.name ∷ kind_of limit.key ∷ name_of_key limit.key ∷ text ∷ [])
+    × IsTrue (is_name limit.group.name && is_name (name_of_key limit.key)) × (number_of text ≡ Some limit.lots)
+WritesCommand words (ReportSide report) =
     (lots_text : List ℕ) × (price_text : List ℕ)
     × (words
-    ≡ codes "REPORT" ∷ firm.name ∷ id ∷ match_id ∷ side_word side ∷ symbol.name ∷ lots_text ∷ price_text ∷ account.name ∷ [])
-    × IsTrue (is_name firm.name && is_name symbol.name && is_name account.name)
-    × IsId id × IsId match_id × MeansLots lots_text lots × MeansPrice price_text price × (day ≡ None)
-WritesCommand words (GiveUp firm id report lines) =
+    ≡ codes "REPORT" ∷ report.firm.name ∷ report.id ∷ report.match_id ∷ side_word report.side ∷ report.symbol.name ∷ lots_text ∷ price_text ∷ report.account.name ∷ [])
+    × IsTrue (is_name report.firm.name && is_name report.symbol.name && is_name report.account.name)
+    × IsId report.id × IsId report.match_id × MeansLots lots_text report.lots × MeansPrice price_text report.price × (report.day ≡ None)
+WritesCommand words (GiveUp give_up) =
     (pairs : List (List ℕ))
-    × (words ≡ codes "GIVEUP" ∷ firm.name ∷ id ∷ report ∷ pairs)
-    × IsTrue (is_name firm.name) × IsId id × IsId report × WriteLines pairs lines × AreLines lines
-WritesCommand words (Claim firm offer) =
-    (text : List ℕ) × (words ≡ codes "CLAIM" ∷ firm.name ∷ text ∷ []) × IsTrue (is_name firm.name) × (offer_no_of text ≡ Some offer)
-WritesCommand words (Refuse firm offer why) =
+    × (words ≡ codes "GIVEUP" ∷ give_up.firm.name ∷ give_up.id ∷ give_up.report ∷ pairs)
+    × IsTrue (is_name give_up.firm.name) × IsId give_up.id × IsId give_up.report × WriteLines pairs give_up.lines × AreLines give_up.lines
+WritesCommand words (Claim claim) =
+    (text : List ℕ) × (words ≡ codes "CLAIM" ∷ claim.firm.name ∷ text ∷ []) × IsTrue (is_name claim.firm.name) × (offer_no_of text ≡ Some claim.offer)
+WritesCommand words (Refuse refusal) =
     (text : List ℕ) × (why_text : List ℕ)
-    × (words ≡ codes "REFUSE" ∷ firm.name ∷ text ∷ why_text ∷ [])
-    × IsTrue (is_name firm.name) × (offer_no_of text ≡ Some offer) × (number_of why_text ≡ Some (reject_number why))
-WritesCommand words (Reverse firm offer) =
-    (text : List ℕ) × (words ≡ codes "REVERSE" ∷ firm.name ∷ text ∷ []) × IsTrue (is_name firm.name) × (offer_no_of text ≡ Some offer)
+    × (words ≡ codes "REFUSE" ∷ refusal.firm.name ∷ text ∷ why_text ∷ [])
+    × IsTrue (is_name refusal.firm.name) × (offer_no_of text ≡ Some refusal.offer) × (number_of why_text ≡ Some (reject_number refusal.why))
+WritesCommand words (Reverse reversal) =
+    (text : List ℕ) × (words ≡ codes "REVERSE" ∷ reversal.firm.name ∷ text ∷ []) × IsTrue (is_name reversal.firm.name) × (offer_no_of text ≡ Some reversal.offer)
 
 -- words write a step
 abbrev pub WritesStep : List (List ℕ) → Step → Type 0

@@ -30,14 +30,14 @@ pair_words (first ∷ others) = first.account.name ∷ decimal first.lots ∷ pa
 
 -- the words of a command: its own word, and after it names, ids and numbers; the day that a report names has none
 abbrev pub command_words : Command → List (List ℕ)
-command_words (OpenDay day) = codes "DAY" ∷ date_text day.year day.month day.day ∷ []
-command_words (SetLimit group key lots) = codes "LIMIT" ∷ group.name ∷ kind_of key ∷ name_of_key key ∷ decimal lots ∷ []
-command_words (ReportSide firm id match_id symbol lots price day side account) =
-    codes "REPORT" ∷ firm.name ∷ id ∷ match_id ∷ side_word side ∷ symbol.name ∷ decimal lots ∷ price_text price ∷ account.name ∷ []
-command_words (GiveUp firm id report lines) = codes "GIVEUP" ∷ firm.name ∷ id ∷ report ∷ pair_words lines
-command_words (Claim firm offer) = codes "CLAIM" ∷ firm.name ∷ decimal offer ∷ []
-command_words (Refuse firm offer why) = codes "REFUSE" ∷ firm.name ∷ decimal offer ∷ decimal (reject_number why) ∷ []
-command_words (Reverse firm offer) = codes "REVERSE" ∷ firm.name ∷ decimal offer ∷ []
+command_words (OpenDay opening) = codes "DAY" ∷ date_text opening.day.year opening.day.month opening.day.day ∷ []
+command_words (SetLimit limit) = codes "LIMIT" ∷ limit.group.name ∷ kind_of limit.key ∷ name_of_key limit.key ∷ decimal limit.lots ∷ []
+command_words (ReportSide report) =
+    codes "REPORT" ∷ report.firm.name ∷ report.id ∷ report.match_id ∷ side_word report.side ∷ report.symbol.name ∷ decimal report.lots ∷ price_text report.price ∷ report.account.name ∷ []
+command_words (GiveUp give_up) = codes "GIVEUP" ∷ give_up.firm.name ∷ give_up.id ∷ give_up.report ∷ pair_words give_up.lines
+command_words (Claim claim) = codes "CLAIM" ∷ claim.firm.name ∷ decimal claim.offer ∷ []
+command_words (Refuse refusal) = codes "REFUSE" ∷ refusal.firm.name ∷ decimal refusal.offer ∷ decimal (reject_number refusal.why) ∷ []
+command_words (Reverse reversal) = codes "REVERSE" ∷ reversal.firm.name ∷ decimal reversal.offer ∷ []
 
 -- the words of a whole sweep
 abbrev pub sweep_words : Group → List (List ℕ)
@@ -84,22 +84,22 @@ remark_text report day = line_of (remark_words report day)
 
 -- a report as one that names no day, so of the open one; any other command as it is
 abbrev pub undated : Command → Command
-undated (ReportSide firm id match_id symbol lots price day side account) = ReportSide firm id match_id symbol lots price None side account
+undated (ReportSide report) = ReportSide (record report { day = None })
 undated command = command
 
 -- what the types of commands keep: names are names, ids are ids, and lots, prices and numbers of offers are in their ranges; and what a script
 -- asks for besides: a limit has twelve digits at most
 abbrev pub IsWritableCommand : Command → Type 0
-IsWritableCommand (OpenDay day) = Unit {0}
-IsWritableCommand (SetLimit group key lots) = IsTrue (is_name group.name) × IsTrue (is_name (name_of_key key)) × (lots < 10 ^ 12)
-IsWritableCommand (ReportSide firm id match_id symbol lots price day side account) =
-    IsTrue (is_name firm.name) × IsId id × IsId match_id × IsTrue (is_name symbol.name) × IsLots lots × IsPrice price × IsTrue (is_name account.name)
-IsWritableCommand (GiveUp firm id report lines) =
-    IsTrue (is_name firm.name) × IsId id × IsId report × AreLines lines
-    × AllByRecursion (λ (l : GiveUpLine). IsTrue (is_name l.account.name) × IsLots l.lots) lines
-IsWritableCommand (Claim firm offer) = IsTrue (is_name firm.name) × IsOfferNo offer
-IsWritableCommand (Refuse firm offer why) = IsTrue (is_name firm.name) × IsOfferNo offer
-IsWritableCommand (Reverse firm offer) = IsTrue (is_name firm.name) × IsOfferNo offer
+IsWritableCommand (OpenDay opening) = Unit {0}
+IsWritableCommand (SetLimit limit) = IsTrue (is_name limit.group.name) × IsTrue (is_name (name_of_key limit.key)) × (limit.lots < 10 ^ 12)
+IsWritableCommand (ReportSide report) =
+    IsTrue (is_name report.firm.name) × IsId report.id × IsId report.match_id × IsTrue (is_name report.symbol.name) × IsLots report.lots × IsPrice report.price × IsTrue (is_name report.account.name)
+IsWritableCommand (GiveUp give_up) =
+    IsTrue (is_name give_up.firm.name) × IsId give_up.id × IsId give_up.report × AreLines give_up.lines
+    × AllByRecursion (λ (l : GiveUpLine). IsTrue (is_name l.account.name) × IsLots l.lots) give_up.lines
+IsWritableCommand (Claim claim) = IsTrue (is_name claim.firm.name) × IsOfferNo claim.offer
+IsWritableCommand (Refuse refusal) = IsTrue (is_name refusal.firm.name) × IsOfferNo refusal.offer
+IsWritableCommand (Reverse reversal) = IsTrue (is_name reversal.firm.name) × IsOfferNo reversal.offer
 
 -- what the types of sweeps keep: names are names, and numbers of offers are in their range; and what a script asks for besides: lots have
 -- twelve digits at most

@@ -3,16 +3,14 @@
 ghost use Rattle.std.specs.Prelude.{◌≡◌, ◌++◌, ◌∷◌, [], OnOk, codes};
 ghost use Rattle.std.specs.Fmt.{decimal};
 ghost use Rattle.std.specs.List.{flat_map};
-ghost use Rattle.gu_terms.specs.LimitKeys.{kind_of, name_of_key};
-ghost use Rattle.gu_terms.specs.WrittenNumbers.{price_text};
 ghost use Rattle.gu_text.specs.Scripts.{side_word};
 ghost use Rattle.gu_text.specs.Texts.{line_of, word};
 ghost use Rattle.gu_text.specs.WrittenCommands.{command_text, command_words, cut_key_remark_text, cut_offer_remark_text, pair_words, remark_text, sweep_rows, sweep_words, take_remark_text};
 
 use crate::texts::{append_last_number, append_last_word, append_number, append_word};
 use gu_terms::{
-    Command, Day, FirmId, Group, Id, LimitKey, Line, Lots, OfferNo, Price, Side, SweepEntry,
-    Symbol, Take,
+    Command, Day, FirmId, Group, Id, LimitKey, Line, OfferNo, ReportSide, SetLimit, Side,
+    SweepEntry, Take,
 };
 use std::alloc::AllocError;
 
@@ -27,20 +25,14 @@ fn side_word(side: Side) -> &'static [u8]
 }
 
 /// Appends the words of a limit, each with a blank after it.
-fn append_limit(
-    output: &mut Vec<u8>,
-    group: Group,
-    key: &LimitKey,
-    lots: u64,
-) -> Result<(), AllocError>
-    ensures { OnOk result (output.new.items ≡ output.old.items
-        ++ flat_map word (codes "LIMIT" ∷ group.name ∷ kind_of key.now ∷ name_of_key key.now ∷ decimal lots ∷ [])) }
+fn append_limit(output: &mut Vec<u8>, limit: &SetLimit) -> Result<(), AllocError>
+    ensures { OnOk result (output.new.items ≡ output.old.items ++ flat_map word (command_words (Command.SetLimit limit.now))) }
 {
     append_word(output, b"LIMIT")?;
-    append_word(output, group.get())?;
-    append_word(output, key.kind().as_bytes())?;
-    append_word(output, key.name())?;
-    append_number(output, lots)
+    append_word(output, limit.group.get())?;
+    append_word(output, limit.key.kind().as_bytes())?;
+    append_word(output, limit.key.name())?;
+    append_number(output, limit.lots)
 }
 
 /// Appends the first words of what a firm gives an id of its own, with the other id, each with a blank after it.
@@ -59,21 +51,16 @@ fn append_own(
     append_word(output, other.get())
 }
 
-/// Appends the words of a side of a trade, each with a blank after it.
-fn append_side(
-    output: &mut Vec<u8>,
-    side: Side,
-    symbol: Symbol,
-    lots: Lots,
-    price: Price,
-) -> Result<(), AllocError>
-    ensures { OnOk result (output.new.items ≡ output.old.items
-        ++ flat_map word (side_word side ∷ symbol.name ∷ decimal lots ∷ price_text price ∷ [])) }
+/// Appends the words of a report, each with a blank after it. The day that it names has none.
+fn append_report(output: &mut Vec<u8>, report: &ReportSide) -> Result<(), AllocError>
+    ensures { OnOk result (output.new.items ≡ output.old.items ++ flat_map word (command_words (Command.ReportSide report.now))) }
 {
-    append_word(output, side_word(side))?;
-    append_word(output, symbol.get())?;
-    append_number(output, lots.get())?;
-    append_word(output, price.text().get())
+    append_own(output, b"REPORT", report.firm, &report.id, &report.match_id)?;
+    append_word(output, side_word(report.side))?;
+    append_word(output, report.symbol.get())?;
+    append_number(output, report.lots.get())?;
+    append_word(output, report.price.text().get())?;
+    append_word(output, report.account.get())
 }
 
 /// Appends the words of a give-up's lines, each with a blank after it.
@@ -106,41 +93,22 @@ fn append_command_words(output: &mut Vec<u8>, command: &Command) -> Result<(), A
     ensures { OnOk result (output.new.items ≡ output.old.items ++ flat_map word (command_words command.now)) }
 {
     match command {
-        Command::OpenDay { day } => {
+        Command::OpenDay(opening) => {
             append_word(output, b"DAY")?;
-            append_word(output, &day.text())
+            append_word(output, &opening.day.text())
         }
-        Command::SetLimit { group, key, lots } => append_limit(output, *group, key, *lots),
-        Command::ReportSide {
-            firm,
-            id,
-            match_id,
-            symbol,
-            lots,
-            price,
-            day: _,
-            side,
-            account,
-        } => {
-            append_own(output, b"REPORT", *firm, id, match_id)?;
-            append_side(output, *side, *symbol, *lots, *price)?;
-            append_word(output, account.get())
+        Command::SetLimit(limit) => append_limit(output, limit),
+        Command::ReportSide(report) => append_report(output, report),
+        Command::GiveUp(it) => {
+            append_own(output, b"GIVEUP", it.firm, &it.id, &it.report)?;
+            append_pairs(output, it.lines.as_slice())
         }
-        Command::GiveUp {
-            firm,
-            id,
-            report,
-            lines,
-        } => {
-            append_own(output, b"GIVEUP", *firm, id, report)?;
-            append_pairs(output, lines.as_slice())
+        Command::Claim(it) => append_response(output, b"CLAIM", it.firm, it.offer),
+        Command::Refuse(it) => {
+            append_response(output, b"REFUSE", it.firm, it.offer)?;
+            append_number(output, it.why.number())
         }
-        Command::Claim { firm, offer } => append_response(output, b"CLAIM", *firm, *offer),
-        Command::Refuse { firm, offer, why } => {
-            append_response(output, b"REFUSE", *firm, *offer)?;
-            append_number(output, why.number())
-        }
-        Command::Reverse { firm, offer } => append_response(output, b"REVERSE", *firm, *offer),
+        Command::Reverse(it) => append_response(output, b"REVERSE", it.firm, it.offer),
     }
 }
 

@@ -40,26 +40,12 @@ pub(crate) fn append_key(output: &mut Vec<u8>, key: LimitKey) -> Result<(), Allo
     Ok(())
 }
 
-/// Puts a number, which ends the line, onto room that is there. (A reply may count more offers than 64 bits can number; no book has so
-/// many.)
-#[inline(never)]
-fn put_last_wide(output: &mut Vec<u8>, number: u128)
-    requires { vec_len output.old + 42 ≤ vec_capacity output.old }
-    ensures { output.new.items ≡ output.old.items ++ last_word (decimal number) }
-{
-    let mut digits = Buffer::new();
-    put_ended(output, digits.format(number).as_bytes(), b'\n');
-}
-
 /// Puts the number of the last of so many offers, which ends the line, onto room that is there.
-fn put_last_offer(output: &mut Vec<u8>, first: OfferNo, count: u64)
+fn put_last_offer(output: &mut Vec<u8>, first: OfferNo, count: u8)
     requires { vec_len output.old + 42 ≤ vec_capacity output.old }
     ensures { output.new.items ≡ output.old.items ++ last_word (decimal (first + count - 1)) }
 {
-    match count.checked_add(first.get() - 1) {
-        Some(last) => put_last_number(output, last),
-        None => put_last_wide(output, u128::from(first.get()) + u128::from(count) - 1),
-    }
+    put_last_number(output, first.get() + u64::from(count) - 1);
 }
 
 /// Puts lots, which end the line, onto room that is there.

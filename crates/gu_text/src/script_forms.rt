@@ -12,7 +12,10 @@ use crate::values::{
     worker_of,
 };
 use crate::words::{first_three_words, first_word, has_words, only_word, three_words, two_words};
-use gu_terms::{AccountId, Command, FirmId, Group, Id, Line as GiveUpLine, Lines, Symbol};
+use gu_terms::{
+    AccountId, Claim, Command, FirmId, GiveUp, Group, Id, Line as GiveUpLine, Lines, OpenDay,
+    Refuse, ReportSide, Reverse, SetLimit, Symbol,
+};
 use gu_world::Step;
 use std::alloc::{AllocError, Global};
 
@@ -78,7 +81,7 @@ pub(crate) fn day_said(said: &mut Option<Line>, words: &[u8], number: u64) -> Re
 {
     let word = told!(only_word(words), number);
     let day = told!(day_of(word), number);
-    *said = Some(Line::Step(Step::Enter(Command::OpenDay { day })));
+    *said = Some(Line::Step(Step::Enter(Command::OpenDay(OpenDay { day }))));
     Ok(())
 }
 
@@ -96,11 +99,11 @@ pub(crate) fn limit_said(
     let group = told!(name_of(group), number);
     let key = told!(key_said(kind, name), number);
     let lots = told!(number_of(lots), number);
-    *said = Some(Line::Step(Step::Enter(Command::SetLimit {
+    *said = Some(Line::Step(Step::Enter(Command::SetLimit(SetLimit {
         group: Group { name: group },
         key,
         lots,
-    })));
+    }))));
     Ok(())
 }
 
@@ -124,7 +127,7 @@ pub(crate) fn report_said(
     let lots = told!(lots_of(lots), number);
     let price = told!(price_of(price), number);
     let account = told!(name_of(account), number);
-    *said = Some(Line::Step(Step::Enter(Command::ReportSide {
+    *said = Some(Line::Step(Step::Enter(Command::ReportSide(ReportSide {
         firm: FirmId { name: firm },
         id,
         match_id,
@@ -134,7 +137,7 @@ pub(crate) fn report_said(
         day: None,
         side,
         account: AccountId { name: account },
-    })));
+    }))));
     Ok(())
 }
 
@@ -183,12 +186,12 @@ pub(crate) fn give_up_said(
     let id = told!(Id::new(id), number);
     let report = told!(Id::new(report), number);
     let lines = told!(lines_said(alloc, pairs)?, number);
-    *said = Some(Line::Step(Step::Enter(Command::GiveUp {
+    *said = Some(Line::Step(Step::Enter(Command::GiveUp(GiveUp {
         firm: FirmId { name },
         id,
         report,
         lines,
-    })));
+    }))));
     Ok(())
 }
 
@@ -204,10 +207,10 @@ pub(crate) fn claim_said(
     let (firm, offer) = told!(two_words(words), number);
     let name = told!(name_of(firm), number);
     let offer = told!(offer_no_of(offer), number);
-    *said = Some(Line::Step(Step::Enter(Command::Claim {
+    *said = Some(Line::Step(Step::Enter(Command::Claim(Claim {
         firm: FirmId { name },
         offer,
-    })));
+    }))));
     Ok(())
 }
 
@@ -224,11 +227,11 @@ pub(crate) fn refuse_said(
     let name = told!(name_of(firm), number);
     let offer = told!(offer_no_of(offer), number);
     let why = told!(reject_of(why), number);
-    *said = Some(Line::Step(Step::Enter(Command::Refuse {
+    *said = Some(Line::Step(Step::Enter(Command::Refuse(Refuse {
         firm: FirmId { name },
         offer,
         why,
-    })));
+    }))));
     Ok(())
 }
 
@@ -244,10 +247,10 @@ pub(crate) fn reverse_said(
     let (firm, offer) = told!(two_words(words), number);
     let name = told!(name_of(firm), number);
     let offer = told!(offer_no_of(offer), number);
-    *said = Some(Line::Step(Step::Enter(Command::Reverse {
+    *said = Some(Line::Step(Step::Enter(Command::Reverse(Reverse {
         firm: FirmId { name },
         offer,
-    })));
+    }))));
     Ok(())
 }
 

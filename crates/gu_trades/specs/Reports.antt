@@ -2,6 +2,7 @@
 use Rattle.std.specs.Prelude.{◌&&◌, Bool, List, Option, filter}
 use Rattle.std.specs.List.{find, list_any}
 use Rattle.gu_terms.specs.declared.account.AccountId.{AccountId}
+use Rattle.gu_terms.specs.declared.command.ReportSide.{ReportSide}
 use Rattle.gu_terms.specs.declared.day.Day.{Day}
 use Rattle.gu_terms.specs.declared.firm.FirmId.{FirmId}
 use Rattle.gu_terms.specs.declared.id.Id.{Id}
@@ -26,6 +27,10 @@ report_of firm id match_id symbol lots price day side account =
       side = side;
       account = account;
     }
+
+-- the report that a firm asks for, as it is made on a day
+abbrev pub made_on : Day → ReportSide → Report
+made_on today r = report_of r.firm r.id r.match_id r.symbol r.lots r.price today r.side r.account
 
 -- the report is this firm's, with this id
 abbrev pub is_by : FirmId → Id → Report → Bool

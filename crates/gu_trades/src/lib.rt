@@ -5,7 +5,6 @@ mod counterpart;
 mod hash_index;
 mod matching;
 mod packed;
-mod report_ref;
 mod reports;
 mod short_texts;
 mod sides;
@@ -15,7 +14,6 @@ mod trades;
 
 pub use counterpart::Counterpart;
 pub use matching::Matching;
-pub use report_ref::ReportRef;
 pub use sides::Sides;
 pub use standing::Standing;
 pub use terms::Terms;

@@ -5,13 +5,12 @@ ghost use Rattle.gu_terms.specs.Names.{IsId, IsName};
 ghost use Rattle.gu_terms.specs.PackedEntries.{text_at};
 ghost use Rattle.gu_terms.specs.Same.{same_id};
 ghost use Rattle.gu_trades.specs.PackedReports.{kept_at, report_of_kept, HasIdsAndNames, IsWithin};
-ghost use Rattle.gu_trades.specs.Reports.{is_by};
+ghost use Rattle.gu_trades.specs.Reports.{is_by, made_on};
 ghost use Rattle.gu_trades.specs.Terms.{terms_of};
 
-use crate::report_ref::ReportRef;
 use crate::short_texts::same_text;
 use crate::terms::Terms;
-use gu_terms::{AccountId, Day, FirmId, Id, Lots, Name, Price, Report, Side, Symbol};
+use gu_terms::{AccountId, Day, FirmId, Id, Lots, Name, Price, Report, ReportSide, Side, Symbol};
 use std::marker::Model;
 
 /// A report without its ids and names, which are among the texts of all reports, one after the other.
@@ -50,23 +49,22 @@ impl<'a> Model for KeptRef<'a> {
 }
 
 impl Packed {
-    /// A report as it is kept, where its texts begin at this place.
-    pub(crate) fn of(report: &ReportRef<'_>, at: u32) -> Self
-        ensures kept { result ≡ kept_at at report.now }
-        ensures sound { HasIdsAndNames report.now }
+    /// A report that is made on this day, as it is kept, where its texts begin at this place.
+    pub(crate) fn of(report: &ReportSide, today: Day, at: u32) -> Self
+        ensures kept { result ≡ kept_at at (made_on today report.now) }
+        ensures sound { HasIdsAndNames (made_on today report.now) }
     {
-        let terms = report.terms();
         Packed {
             at,
-            own: report.id().get().len() as u8,
-            matched: report.match_id().get().len() as u8,
-            firm: report.firm().get().len() as u8,
-            symbol: terms.symbol.get().len() as u8,
-            account: terms.account.get().len() as u8,
-            side: terms.side,
-            day: terms.day,
-            lots: terms.lots,
-            price: terms.price,
+            own: report.id.get().len() as u8,
+            matched: report.match_id.get().len() as u8,
+            firm: report.firm.get().len() as u8,
+            symbol: report.symbol.get().len() as u8,
+            account: report.account.get().len() as u8,
+            side: report.side,
+            day: today,
+            lots: report.lots,
+            price: report.price,
         }
     }
 

@@ -1,11 +1,12 @@
 //! Reports, as they are kept.
 
 ghost use Rattle.std.specs.Prelude.{◌≡◌, ◌++◌, ◌∷◌, [], ◌<◌, All, length, map, slice_get, OnErr, OnOk, Some};
+ghost use Rattle.gu_terms.specs.declared.day.Day.{Day as DayOf};
 ghost use Rattle.gu_trades.specs.PackedReports.{report_of_kept, texts_of, IsWithin};
+ghost use Rattle.gu_trades.specs.Reports.{made_on};
 
 use crate::packed::{KeptRef, Packed};
-use crate::report_ref::ReportRef;
-use gu_terms::TextStore;
+use gu_terms::{Day, ReportSide, TextStore};
 use std::alloc::{AllocError, Global};
 use std::marker::Model;
 
@@ -36,36 +37,36 @@ impl Model for Reports {
 }
 
 /// Appends the texts of a report, or none.
-fn append_texts(texts: &mut TextStore, report: &ReportRef<'_>) -> Result<(), AllocError>
-    ensures appended { OnOk result (texts.new.bytes ≡ texts.old.bytes ++ texts_of report.now) }
+fn append_texts(texts: &mut TextStore, report: &ReportSide) -> Result<(), AllocError>
+    ensures appended { OnOk result ((today : DayOf) → texts.new.bytes ≡ texts.old.bytes ++ texts_of (made_on today report.now)) }
     ensures refused { OnErr result (texts.new.bytes ≡ texts.old.bytes) }
 {
     texts.reserve(LONGEST_TEXTS)?;
-    let terms = report.terms();
-    texts.put(report.id().padded());
-    texts.put(report.match_id().padded());
-    texts.put(report.firm().name.padded());
-    texts.put(terms.symbol.name.padded());
-    texts.put(terms.account.name.padded());
+    texts.put(report.id.padded());
+    texts.put(report.match_id.padded());
+    texts.put(report.firm.name.padded());
+    texts.put(report.symbol.name.padded());
+    texts.put(report.account.name.padded());
     Ok(())
 }
 
-/// Adds what is kept of a report after the others, and its texts after theirs. The allocations come first.
+/// Adds what is kept of a report that is made on this day after the others, and its texts after theirs. The allocations come first.
 fn add(
     rows: &mut Vec<Packed>,
     texts: &mut TextStore,
-    report: &ReportRef<'_>,
+    report: &ReportSide,
+    today: Day,
 ) -> Result<(), AllocError>
     requires kept { All (IsWithin texts.old.bytes) rows.old.items }
     ensures kept { All (IsWithin texts.new.bytes) rows.new.items }
     ensures added { OnOk result (map (report_of_kept texts.new.bytes) rows.new.items
-        ≡ map (report_of_kept texts.old.bytes) rows.old.items ++ report.now ∷ []) }
+        ≡ map (report_of_kept texts.old.bytes) rows.old.items ++ made_on today report.now ∷ []) }
     ensures refused { OnErr result ((texts.new.bytes ≡ texts.old.bytes) × (rows.new.items ≡ rows.old.items)) }
 {
     if texts.len() > MOST_TEXTS {
         return Err(AllocError);
     }
-    let kept = Packed::of(report, texts.len() as u32);
+    let kept = Packed::of(report, today, texts.len() as u32);
     rows.reserve(1)?;
     append_texts(texts, report)?;
     rows.push_reserved(kept);
@@ -91,11 +92,11 @@ impl Reports {
         KeptRef::new(&self.rows[place], self.texts.get())
     }
 
-    /// Puts a report after the others.
-    pub(crate) fn push(&mut self, report: &ReportRef<'_>) -> Result<(), AllocError>
-        ensures added { OnOk result (self.new ≡ self.old ++ report.now ∷ []) }
+    /// Puts a report that is made on this day after the others.
+    pub(crate) fn push(&mut self, report: &ReportSide, today: Day) -> Result<(), AllocError>
+        ensures added { OnOk result (self.new ≡ self.old ++ made_on today report.now ∷ []) }
         ensures refused { OnErr result (self.new ≡ self.old) }
     {
-        add(&mut self.rows, &mut self.texts, report)
+        add(&mut self.rows, &mut self.texts, report, today)
     }
 }

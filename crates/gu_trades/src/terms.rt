@@ -2,9 +2,10 @@
 
 ghost use Rattle.std.specs.Prelude.{◌≡◌};
 ghost use Rattle.gu_trades.specs.Matching.{have_other_sides};
+ghost use Rattle.gu_trades.specs.Reports.{made_on};
 ghost use Rattle.gu_trades.specs.Terms.{terms_of};
 
-use gu_terms::{AccountId, Day, Lots, Price, Report, Side, Symbol};
+use gu_terms::{AccountId, Day, Lots, Price, Report, ReportSide, Side, Symbol};
 
 /// What a report says but its firm and its ids. The fields are ordered from small to large, so that they take little room.
 #[derive(Clone, Copy, Debug, PartialEq, Eq)]
@@ -28,6 +29,20 @@ impl Terms {
             account: report.account,
             side: report.side,
             day: report.day,
+            lots: report.lots,
+            price: report.price,
+        }
+    }
+
+    /// Returns the terms of a report that is made on this day.
+    pub fn on(today: Day, report: &ReportSide) -> Self
+        ensures { result ≡ terms_of (made_on today report.now) }
+    {
+        Terms {
+            symbol: report.symbol,
+            account: report.account,
+            side: report.side,
+            day: today,
             lots: report.lots,
             price: report.price,
         }

@@ -7,7 +7,7 @@ ghost use Rattle.gu_trades.specs.Counterparts.{counterpart_of, standing_in};
 ghost use Rattle.gu_trades.specs.Kept.{ArePlaced, id_number, is_by_at, match_number};
 ghost use Rattle.gu_trades.specs.Matching.{conflicts, is_of_trade, matching_of};
 ghost use Rattle.gu_trades.specs.Numbered.{last_before};
-ghost use Rattle.gu_trades.specs.Reports.{has_report, report_by, report_of, with_match};
+ghost use Rattle.gu_trades.specs.Reports.{has_report, made_on, report_by, report_of, with_match};
 ghost use Rattle.gu_trades.specs.Rules.{IsSound, are_sides};
 ghost use Rattle.gu_trades.specs.Sides.{reports_in};
 ghost use Rattle.gu_trades.specs.Terms.{terms_of};
@@ -15,12 +15,11 @@ ghost use Rattle.gu_trades.specs.Terms.{terms_of};
 use crate::counterpart::Counterpart;
 use crate::hash_index::{HashIndex, number_of};
 use crate::matching::Matching;
-use crate::report_ref::ReportRef;
 use crate::reports::Reports;
 use crate::sides::Sides;
 use crate::standing::Standing;
 use crate::terms::Terms;
-use gu_terms::{AccountId, Day, FirmId, Id, Lots, Price, Report, Seed, Side, Symbol};
+use gu_terms::{AccountId, Day, FirmId, Id, Lots, Price, Report, ReportSide, Seed, Side, Symbol};
 use std::alloc::{AllocError, Global};
 use std::marker::Model;
 
@@ -237,15 +236,18 @@ impl Trades {
         ensures refused { OnErr result (self.new ≡ self.old) }
     {
         let matching = self.matching(&match_id);
-        let terms = Terms {
+        let report = ReportSide {
+            firm,
+            id,
+            match_id,
             symbol,
-            account,
-            side,
-            day,
             lots,
             price,
+            day: Some(day),
+            side,
+            account,
         };
-        self.push(&ReportRef::new(&firm, &id, &match_id, terms))?;
+        self.push(&report, day)?;
         Ok(matching)
     }
 
@@ -275,21 +277,21 @@ impl Trades {
         Matching::behind(last)
     }
 
-    /// Takes in a report as `report` does, without an answer: for a caller that knows the reports with its match id.
-    pub fn push(&mut self, report: &ReportRef<'_>) -> Result<(), AllocError>
+    /// Takes in a report on this day as `report` does, without an answer: for a caller that knows the reports with its match id.
+    pub fn push(&mut self, report: &ReportSide, today: Day) -> Result<(), AllocError>
         requires new_id { has_report self.old report.now.firm report.now.id ≡ false }
-        requires fits { conflicts (with_match report.now.match_id self.old) report.now ≡ false }
-        ensures taken { OnOk result (self.new ≡ self.old ++ report.now ∷ []) }
+        requires fits { conflicts (with_match report.now.match_id self.old) (made_on today report.now) ≡ false }
+        ensures taken { OnOk result (self.new ≡ self.old ++ made_on today report.now ∷ []) }
         ensures refused { OnErr result (self.new ≡ self.old) }
     {
         // The allocations come first, so that one that fails leaves all as it was.
         self.by_id.reserve()?;
         self.by_match.reserve()?;
-        self.reports.push(report)?;
+        self.reports.push(report, today)?;
         self.by_id
-            .push(id_number(&self.seed, report.firm(), report.id()));
+            .push(id_number(&self.seed, &report.firm, &report.id));
         self.by_match
-            .push(match_number(&self.seed, report.match_id()));
+            .push(match_number(&self.seed, &report.match_id));
         Ok(())
     }
 }

@@ -7,11 +7,10 @@ use Rattle.std.proofs.lemmas.Bool.Decides.{nat_tests}
 use Rattle.std.proofs.lemmas.List.{drop_more, length-take-le, map-append, take_all, take_more}
 use Rattle.gu_terms.specs.Same.{same_group}
 use Rattle.gu_terms.specs.declared.command.Command.TheVariants.{GiveUp}
+use Rattle.gu_terms.specs.declared.command.GiveUp.{GiveUp as GiveUpOf}
 use Rattle.gu_terms.specs.declared.entry.Entry.{Entry}
 use Rattle.gu_terms.specs.declared.entry.Entry.TheVariants.{Asked}
-use Rattle.gu_terms.specs.declared.firm.FirmId.{FirmId}
 use Rattle.gu_terms.specs.declared.group.Group.{Group}
-use Rattle.gu_terms.specs.declared.id.Id.{Id}
 use Rattle.gu_terms.specs.declared.lines.Line.{Line}
 use Rattle.gu_terms.specs.declared.offer.Offer.{Offer}
 use Rattle.gu_terms.specs.declared.reply.Done.TheVariants.{Offered}
@@ -92,12 +91,12 @@ own-kept before group entry nothing =
     own-more before group entry ∙ ap (λ (os : List Offer). own_of before group ++ map (λ (o : Offer). same_group o.group group) os) nothing ∙ append-nil (own_of before group)
 
 -- a give-up adds as many of its group as it has lines
-pub own-lines : (before : List Entry) (group at : Group) (firm : FirmId) (id report : Id) (lines : List Line) (first number : ℕ)
-    → own_of (before ++ Asked (GiveUp firm id report lines) (Accepted (Offered at first number)) ∷ []) group ≡ own_of before group ++ replicate (length lines) (same_group at group)
-own-lines before group at firm id report lines first number =
-    own-more before group (Asked (GiveUp firm id report lines) (Accepted (Offered at first number))) ∙ ap (λ (bs : List Bool). own_of before group ++ bs) (each lines)
+pub own-lines : (before : List Entry) (group at : Group) (it : GiveUpOf) (first number : ℕ)
+    → own_of (before ++ Asked (GiveUp it) (Accepted (Offered at first number)) ∷ []) group ≡ own_of before group ++ replicate (length it.lines) (same_group at group)
+own-lines before group at it first number =
+    own-more before group (Asked (GiveUp it) (Accepted (Offered at first number))) ∙ ap (λ (bs : List Bool). own_of before group ++ bs) (each it.lines)
   where
     each : (lines : List Line)
-        → map (λ (o : Offer). same_group o.group group) (map {B = Offer} (λ (l : Line). record { firm = firm; report = report; group = at; account = l.account; lots = l.lots }) lines) ≡ replicate (length lines) (same_group at group)
+        → map (λ (o : Offer). same_group o.group group) (map {B = Offer} (λ (l : Line). record { firm = it.firm; report = it.report; group = at; account = l.account; lots = l.lots }) lines) ≡ replicate (length lines) (same_group at group)
     each [] = refl
     each (line ∷ lines) = ap (λ (bs : List Bool). same_group at group ∷ bs) (each lines)

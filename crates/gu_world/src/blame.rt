@@ -35,7 +35,7 @@ fn know(own: &mut Vec<bool>, group: &Group, entry: &Entry) -> Result<(), AllocEr
     let Entry::Asked { command, reply } = entry else {
         return Ok(());
     };
-    let Command::GiveUp { lines, .. } = command else {
+    let Command::GiveUp(give_up) = command else {
         return Ok(());
     };
     let Reply::Accepted(done) = *reply else {
@@ -44,7 +44,7 @@ fn know(own: &mut Vec<bool>, group: &Group, entry: &Entry) -> Result<(), AllocEr
     let Done::Offered { group: at, .. } = done else {
         return Ok(());
     };
-    push_own(own, at == *group, lines.as_slice().len())
+    push_own(own, at == *group, give_up.lines.as_slice().len())
 }
 
 /// The first entry above a number that touches a group.

@@ -26,12 +26,12 @@ fn is_touched_by(own: &[bool], group: &Group, command: &Command, done: Done) -> 
     ensures { (before : List EntryOf) → own.now ≡ own_of before group.now → result ≡ touches before group.now (Asked command.now (Accepted done)) }
 {
     match (command, done) {
-        (Command::OpenDay { .. }, Done::Opened) => true,
-        (Command::SetLimit { group: at, .. }, Done::LimitSet) => *at == *group,
-        (Command::GiveUp { .. }, Done::Offered { group: at, .. }) => at == *group,
-        (Command::Claim { offer, .. }, Done::Claimed { .. }) => is_own(own, *offer, group),
-        (Command::Refuse { offer, .. }, Done::Refused { .. }) => is_own(own, *offer, group),
-        (Command::Reverse { offer, .. }, Done::Reversed { .. }) => is_own(own, *offer, group),
+        (Command::OpenDay(_), Done::Opened) => true,
+        (Command::SetLimit(limit), Done::LimitSet) => limit.group == *group,
+        (Command::GiveUp(_), Done::Offered { group: at, .. }) => at == *group,
+        (Command::Claim(claim), Done::Claimed { .. }) => is_own(own, claim.offer, group),
+        (Command::Refuse(refusal), Done::Refused { .. }) => is_own(own, refusal.offer, group),
+        (Command::Reverse(reversal), Done::Reversed { .. }) => is_own(own, reversal.offer, group),
         _ => false,
     }
 }

@@ -70,8 +70,8 @@ fn day_of(word: &str) -> Option<Day> {
 
 /// Returns a report with the day that it names.
 fn dated(mut command: Command, named: Option<Day>) -> Command {
-    if let Command::ReportSide { day, .. } = &mut command {
-        *day = named;
+    if let Command::ReportSide(report) = &mut command {
+        report.day = named;
     }
     command
 }

@@ -4,7 +4,9 @@ use crate::plays::{Pieces, played};
 use crate::rows::check_told;
 use gu_script::{ScriptError, write_journal};
 use gu_streams::StreamError;
-use gu_terms::{AccountId, Command, Day, FirmId, Id, Lots, Price, Side, Symbol};
+use gu_terms::{
+    AccountId, Command, Day, FirmId, Id, Lots, OpenDay, Price, ReportSide, Side, Symbol,
+};
 use gu_world::{Step, World};
 use std::alloc::{AllocError, Global};
 use std::io;
@@ -60,7 +62,7 @@ fn a_journal_has_the_line_of_each_entry(rt: HostRuntime) {
 
 /// A report of E1 with this id that names a day of January 2026.
 fn report_of(id: &[u8], day: u8) -> Option<Command> {
-    Some(Command::ReportSide {
+    Some(Command::ReportSide(ReportSide {
         firm: FirmId::new(b"E1")?,
         id: Id::new(id)?,
         match_id: Id::new(b"M1")?,
@@ -70,7 +72,7 @@ fn report_of(id: &[u8], day: u8) -> Option<Command> {
         day: Some(Day::new(2026, 1, day)?),
         side: Side::Buy,
         account: AccountId::new(b"H1")?,
-    })
+    }))
 }
 
 /// Enters a report with this id that names a day of January 2026.
@@ -85,7 +87,7 @@ fn enter(world: &mut World, id: &[u8], day: u8) -> Result<(), AllocError> {
 fn dated_journal(alloc: Global) -> Result<String, ScriptError> {
     let mut world = world_after(alloc, "")?;
     enter(&mut world, b"R1", 5)?;
-    let opening = Day::new(2026, 1, 5).map(|day| Step::Enter(Command::OpenDay { day }));
+    let opening = Day::new(2026, 1, 5).map(|day| Step::Enter(Command::OpenDay(OpenDay { day })));
     match opening {
         Some(step) => world.step(step)?,
         None => return Err(ScriptError::Memory),

@@ -1,6 +1,6 @@
 //! Lines of a script, and what they say.
 use crate::rows::{Subject, check, meant};
-use gu_terms::{Command, FirmId, Id, LimitKey, Line as GiveUpLine};
+use gu_terms::{Command, FirmId, Id, LimitKey, Line as GiveUpLine, ReportSide};
 use gu_text::{Line, TextError};
 use gu_world::Step;
 use std::alloc::{AllocError, Global};
@@ -45,28 +45,16 @@ fn ids(alloc: Global, firm: &FirmId, id: &Id, other: &Id) -> Result<String, Allo
     )
 }
 
-/// The report of a command, with millionths as its price.
-fn report_text(alloc: Global, command: &Command) -> Result<String, AllocError> {
-    match command {
-        Command::ReportSide {
-            firm,
-            id,
-            match_id,
-            symbol,
-            lots,
-            price,
-            day,
-            side,
-            account,
-        } => {
-            let ids = ids(alloc, firm, id, match_id)?;
-            let names = named(alloc, "", symbol.get(), account.get())?;
-            let (lots, price) = (lots.get(), price.get());
-            let has_day = day.is_some();
-            format!(in alloc; "report {ids} {side:?}{names} {lots} {price} {has_day}")
-        }
-        _ => String::from_str(alloc, "no report"),
-    }
+/// A report, with millionths as its price.
+fn report_text(alloc: Global, report: &ReportSide) -> Result<String, AllocError> {
+    let ids = ids(alloc, &report.firm, &report.id, &report.match_id)?;
+    let names = named(alloc, "", report.symbol.get(), report.account.get())?;
+    let (lots, price) = (report.lots.get(), report.price.get());
+    let has_day = report.day.is_some();
+    format!(in alloc;
+        "report {ids} {:?}{names} {lots} {price} {has_day}",
+        report.side
+    )
 }
 
 /// The accounts and lots of a give-up.
@@ -82,25 +70,20 @@ fn pairs_text(alloc: Global, lines: &[GiveUpLine]) -> Result<String, AllocError>
 /// What a command asks for.
 fn command_text(alloc: Global, command: &Command) -> Result<String, AllocError> {
     match command {
-        Command::OpenDay { day } => format!(in alloc; "day {:?}", day.get()),
-        Command::SetLimit { group, key, lots } => limit_text(alloc, group.get(), key, *lots),
-        Command::ReportSide { .. } => report_text(alloc, command),
-        Command::GiveUp {
-            firm,
-            id,
-            report,
-            lines,
-        } => {
-            let ids = ids(alloc, firm, id, report)?;
-            let pairs = pairs_text(alloc, lines.as_slice())?;
+        Command::OpenDay(opening) => format!(in alloc; "day {:?}", opening.day.get()),
+        Command::SetLimit(it) => limit_text(alloc, it.group.get(), &it.key, it.lots),
+        Command::ReportSide(report) => report_text(alloc, report),
+        Command::GiveUp(it) => {
+            let ids = ids(alloc, &it.firm, &it.id, &it.report)?;
+            let pairs = pairs_text(alloc, it.lines.as_slice())?;
             format!(in alloc; "give up {ids}:{pairs}")
         }
-        Command::Claim { firm, offer } => numbered(alloc, "claim", firm, offer.get()),
-        Command::Refuse { firm, offer, why } => {
-            let text = numbered(alloc, "refuse", firm, offer.get())?;
-            format!(in alloc; "{text} {why:?}")
+        Command::Claim(it) => numbered(alloc, "claim", &it.firm, it.offer.get()),
+        Command::Refuse(it) => {
+            let text = numbered(alloc, "refuse", &it.firm, it.offer.get())?;
+            format!(in alloc; "{text} {:?}", it.why)
         }
-        Command::Reverse { firm, offer } => numbered(alloc, "reverse", firm, offer.get()),
+        Command::Reverse(it) => numbered(alloc, "reverse", &it.firm, it.offer.get()),
     }
 }
 

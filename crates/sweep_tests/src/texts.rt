@@ -3,8 +3,8 @@ use crate::rows::{Subject, check, first_word, number, shown};
 use crate::sheets::Question;
 use crate::view::key_of;
 use gu_terms::{
-    AccountId, Command, Day, Done, Entry, Group, LimitRow, Lots, OfferNo, Receipt, Refusal, Reply,
-    SweepEntry, Symbol, Take,
+    AccountId, Command, Day, Done, Entry, Group, LimitRow, Lots, OfferNo, OpenDay, Receipt,
+    Refusal, Reply, SweepEntry, Symbol, Take,
 };
 use gu_text::{
     Sheet, append_unknown, interest_text, limit_text, outcome_text, position_text, reply_text,
@@ -25,7 +25,7 @@ fn done_of(words: &str) -> Option<Done> {
         "offered" => Some(Done::Offered {
             group: Group::new(b"G1")?,
             first: OfferNo::new(number(first))?,
-            count: number(second),
+            count: number(second).min(255) as u8,
         }),
         "claimed" => Some(Done::Claimed {
             lots: Lots::new(number(first))?,
@@ -91,7 +91,7 @@ fn opened() -> Option<Outcome> {
     Some(Outcome::Asked(Receipt {
         number: 1,
         entry: Entry::Asked {
-            command: Command::OpenDay { day },
+            command: Command::OpenDay(OpenDay { day }),
             reply: Reply::Accepted(Done::Opened),
         },
     }))

@@ -1,9 +1,7 @@
 //! What a firm asks for, as a text.
 use crate::messages::text_in;
 use gu_msgs::Request;
-use gu_terms::{
-    AccountId, Command, Day, FirmId, Id, Lines, Lots, OfferNo, Price, Query, Side, Symbol,
-};
+use gu_terms::{Command, Day, FirmId, Id, Lines, OfferNo, Query, ReportSide, Side};
 use std::alloc::{AllocError, Global};
 
 /// Tells what a firm says of a trade, by what it does and the ids.
@@ -20,26 +18,15 @@ fn tell_trade(
 }
 
 /// Tells what an account does with lots of an instrument at a price.
-fn tell_side(
-    text: &mut String,
-    account: &AccountId,
-    side: &Side,
-    lots: &Lots,
-    symbol: &Symbol,
-    price: &Price,
-) -> Result<(), AllocError> {
-    let account = text_in(account.get());
-    let symbol = text_in(symbol.get());
-    let verb = match side {
+fn tell_side(text: &mut String, report: &ReportSide) -> Result<(), AllocError> {
+    let account = text_in(report.account.get());
+    let symbol = text_in(report.symbol.get());
+    let (lots, price) = (report.lots.get(), report.price.get());
+    let verb = match report.side {
         Side::Buy => "buys",
         Side::Sell => "sells",
     };
-    write!(
-        text,
-        ": {account} {verb} {} {symbol} at {}",
-        lots.get(),
-        price.get()
-    )
+    write!(text, ": {account} {verb} {lots} {symbol} at {price}")
 }
 
 /// Tells the day of a report.
@@ -72,37 +59,22 @@ fn tell_offer(
 /// Tells a command.
 fn tell_command(text: &mut String, command: &Command) -> Result<(), AllocError> {
     match command {
-        Command::ReportSide {
-            firm,
-            id,
-            match_id,
-            symbol,
-            lots,
-            price,
-            day,
-            side,
-            account,
-        } => {
-            tell_trade(text, firm, "reports", id, match_id)?;
-            tell_side(text, account, side, lots, symbol, price)?;
-            tell_day(text, day)
+        Command::ReportSide(it) => {
+            tell_trade(text, &it.firm, "reports", &it.id, &it.match_id)?;
+            tell_side(text, it)?;
+            tell_day(text, &it.day)
         }
-        Command::GiveUp {
-            firm,
-            id,
-            report,
-            lines,
-        } => {
-            tell_trade(text, firm, "gives up", id, report)?;
-            tell_lines(text, lines)
+        Command::GiveUp(it) => {
+            tell_trade(text, &it.firm, "gives up", &it.id, &it.report)?;
+            tell_lines(text, &it.lines)
         }
-        Command::Claim { firm, offer } => tell_offer(text, firm, "claims", offer),
-        Command::Refuse { firm, offer, why } => {
-            tell_offer(text, firm, "refuses", offer)?;
-            write!(text, " by {}", why.number())
+        Command::Claim(it) => tell_offer(text, &it.firm, "claims", &it.offer),
+        Command::Refuse(it) => {
+            tell_offer(text, &it.firm, "refuses", &it.offer)?;
+            write!(text, " by {}", it.why.number())
         }
-        Command::Reverse { firm, offer } => tell_offer(text, firm, "reverses", offer),
-        Command::OpenDay { .. } | Command::SetLimit { .. } => text.push_str("no firm's"),
+        Command::Reverse(it) => tell_offer(text, &it.firm, "reverses", &it.offer),
+        Command::OpenDay(_) | Command::SetLimit(_) => text.push_str("no firm's"),
     }
 }
 

@@ -114,7 +114,7 @@ fn done_of(w: &Values, words: &str) -> Option<Done> {
         "offered" => Some(Done::Offered {
             group: w.group,
             first: w.offer,
-            count,
+            count: count.min(255) as u8,
         }),
         "claimed" => Some(Done::Claimed { lots }),
         "refused" => Some(Done::Refused { lots }),

@@ -148,7 +148,7 @@ impl House for BookHouse<'_> {
     ghost rules = { record { answers = λ old request outcome new. Unit {0}; tells = λ old firm from stretch new. Unit {0} } };
 
     fn answer(&mut self, ask: Ask, from: u64) -> Result<Answered, AllocError> {
-        if matches!(&ask.request, Request::Enter(Command::GiveUp { .. })) {
+        if matches!(&ask.request, Request::Enter(Command::GiveUp(_))) {
             self.count();
         }
         self.shared.last.set(self.connection);

@@ -16,7 +16,7 @@ returns c = λ before known.
     let group = c.args.group.now in
     let reply = c.in-Accepted.is ∙ ap Accepted c.in-Offered.is in
     let entry = c.in-Asked.is ∙ (λ i. Asked (c.in-GiveUp.is i) (reply i)) in
-    let more = own-lines before group c.in-Offered.at c.in-GiveUp.firm c.in-GiveUp.id c.in-GiveUp.report c.in-GiveUp.lines c.in-Offered.first c.in-Offered.count in
+    let more = own-lines before group c.in-Offered.at c.in-GiveUp.give_up c.in-Offered.first c.in-Offered.count in
     on_ok c.push_own.result
     (λ pushed.
     pushed

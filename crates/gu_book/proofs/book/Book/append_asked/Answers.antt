@@ -17,26 +17,28 @@ use Rattle.gu_notices.proofs.RecipientLemmas.{few_sides}
 use Rattle.gu_book.proofs.TellingLemmas.{legal-counted, whole-more}
 use Rattle.gu_book.proofs.book.Book.append_asked.Goals as goal
 
-pub decide-requires-clause-numbers : goal.decide-requires-clause-numbers
-decide-requires-clause-numbers g c =
+pub decide-requires : goal.decide-requires
+decide-requires g c lifetimes =
     let old = c.self.inside in
-    let room : length old.history < 1000000 = rw (sym c.self.view_is) at c.requires.room in
-    omega (arith, few_offers old.reference old.history old.totals c.self.invariant.entries.kept, room)
-
-pub decide-requires-clause-reports : goal.decide-requires-clause-reports
-decide-requires-clause-reports g c = have_reports c.self.inside.reference c.self.inside.history c.self.inside.totals c.self.invariant.entries.kept
+    let room : length old.history < 1000000 = rw (sym c.self.view_is) at c.requires.room in (
+      (refl, tt),
+      (
+        omega (arith, few_offers old.reference old.history old.totals c.self.invariant.entries.kept, room),
+        have_reports old.reference old.history old.totals c.self.invariant.entries.kept,
+      ),
+    )
 
 pub append_denied-requires-clause-answered : goal.append_denied-requires-clause-answered
 append_denied-requires-clause-answered g c =
     let old = c.self.inside in
-    ap (reply_by g.A.Does.Deed.does) (sym c.in-Err.is) ∙ c.decide.ensures.reply ∙ ap (answer_in old.reference (state_in old.totals)) (sym c.requires.same) ∙ answer_is old.reference old.history old.totals c.args.command.now c.self.invariant.entries.kept.beside
+    ap (reply_by g.C.Does.Deed.does) (sym c.in-Err.is) ∙ c.decide.ensures.reply ∙ ap (answer_in old.reference (state_in old.totals)) (sym c.requires.same) ∙ answer_is old.reference old.history old.totals c.args.command.now c.self.invariant.entries.kept.beside
     ∙ ap (λ (k : BookState). answer k.reference k.history c.args.command.now) c.self.view_is
 
 pub take_in-requires : goal.take_in-requires
 take_in-requires g c =
     let old = c.self.inside in (
       old.reference,
-      (may-do g.A.Does.Deed.does old.reference old.history old.totals c.args.command.now (g.A.Asked.command c.args.asked.now) c.decide.result c.in-Ok.deed c.requires.same c.self.invariant.entries.kept (rw (sym c.self.view_is) at c.requires.room) c.in-Ok.is c.decide.ensures.reply c.in-Ok.ensures.deed).1.0,
+      (may-do g.C.Does.Deed.does old.reference old.history old.totals c.args.command.now (g.C.Decide.command c.args.asked.now) c.decide.result c.in-Ok.deed c.requires.same c.self.invariant.entries.kept (rw (sym c.self.view_is) at c.requires.room) c.in-Ok.is c.decide.ensures.reply c.in-Ok.ensures.deed).1.0,
     )
 
 pub touch-requires-clause-fits : goal.touch-requires-clause-fits
@@ -69,14 +71,14 @@ invariant_of-self-2 g c =
     let old = c.self.inside in
     let command = c.args.command.now in
     let deed = c.in-Ok.deed in
-    let reply = Accepted (done_by (g.A.Does.Deed.does deed)) in
+    let reply = Accepted (done_by (g.C.Does.Deed.does deed)) in
     let entry = Asked command reply in
     let room = rw (sym c.self.view_is) at c.requires.room in
-    let may = may-do g.A.Does.Deed.does old.reference old.history old.totals command (g.A.Asked.command c.args.asked.now) c.decide.result deed c.requires.same c.self.invariant.entries.kept room c.in-Ok.is c.decide.ensures.reply c.in-Ok.ensures.deed in
+    let may = may-do g.C.Does.Deed.does old.reference old.history old.totals command (g.C.Decide.command c.args.asked.now) c.decide.result deed c.requires.same c.self.invariant.entries.kept room c.in-Ok.is c.decide.ensures.reply c.in-Ok.ensures.deed in
     let counted =
     versions-push old.history entry c.know.new.versions c.touch.new.versions c.touched-touched.result
     (versions-same old.history old.versions c.know.new.versions c.self.invariant.entries.counted c.know.ensures.days c.know.ensures.same)
-    (rw c.touched-touched.ensures (λ group. accepted-touches old.reference old.history old.totals command (g.A.Does.Deed.does deed) group c.self.invariant.entries.kept.beside.offers may.1.1))
+    (rw c.touched-touched.ensures (λ group. accepted-touches old.reference old.history old.totals command (g.C.Does.Deed.does deed) group c.self.invariant.entries.kept.beside.offers may.1.1))
     c.touch.ensures.touched c.touch.ensures.days in
     let kept =
     legal-accepted old.reference old.history old.totals c.take_in.new.totals old.versions c.touch.new.versions command reply c.self.invariant.entries room c.rules.ensures may.0 refl
@@ -88,14 +90,14 @@ pub returns-clause-stands : goal.returns-clause-stands
 returns-clause-stands g c =
     let old = c.self.inside in
     let command = c.args.command.now in
-    let entry = Asked command (Accepted (done_by (g.A.Does.Deed.does c.in-Ok.deed))) in
+    let entry = Asked command (Accepted (done_by (g.C.Does.Deed.does c.in-Ok.deed))) in
     let room = rw (sym c.self.view_is) at c.requires.room in
-    let may = may-do g.A.Does.Deed.does old.reference old.history old.totals command (g.A.Asked.command c.args.asked.now) c.decide.result c.in-Ok.deed c.requires.same c.self.invariant.entries.kept room c.in-Ok.is c.decide.ensures.reply c.in-Ok.ensures.deed in
+    let may = may-do g.C.Does.Deed.does old.reference old.history old.totals command (g.C.Decide.command c.args.asked.now) c.decide.result c.in-Ok.deed c.requires.same c.self.invariant.entries.kept room c.in-Ok.is c.decide.ensures.reply c.in-Ok.ensures.deed in
     rw c.reply-2.ensures
     (subst (λ (k : BookState). StandsLast k.reference (length k.history + 1) entry) c.self.view_is (stands_last old.reference old.history entry c.self.invariant.entries.legal room c.rules.ensures may.0))
 
 pub returns-clause-reply : goal.returns-clause-reply
 returns-clause-reply g c =
     let old = c.self.inside in
-    let may = may-do g.A.Does.Deed.does old.reference old.history old.totals c.args.command.now (g.A.Asked.command c.args.asked.now) c.decide.result c.in-Ok.deed c.requires.same c.self.invariant.entries.kept (rw (sym c.self.view_is) at c.requires.room) c.in-Ok.is c.decide.ensures.reply c.in-Ok.ensures.deed in
+    let may = may-do g.C.Does.Deed.does old.reference old.history old.totals c.args.command.now (g.C.Decide.command c.args.asked.now) c.decide.result c.in-Ok.deed c.requires.same c.self.invariant.entries.kept (rw (sym c.self.view_is) at c.requires.room) c.in-Ok.is c.decide.ensures.reply c.in-Ok.ensures.deed in
     rw c.reply-2.ensures (may.0 ∙ ap (λ (k : BookState). answer k.reference k.history c.args.command.now) c.self.view_is)

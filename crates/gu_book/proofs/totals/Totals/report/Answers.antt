@@ -1,5 +1,5 @@
 use Rattle.std.proofs.Common.{arith}
-use Rattle.gu_trades.specs.Reports.{with_match}
+use Rattle.gu_trades.specs.Reports.{made_on, with_match}
 use Rattle.gu_book.proofs.Counterparts.{holds-both, holds-none}
 use Rattle.gu_book.proofs.totals.Totals.report.Goals as goal
 
@@ -10,7 +10,7 @@ hold-requires-clause-fits c =
 
 pub hold-requires-2-clause-fits : goal.hold-requires-2-clause-fits
 hold-requires-2-clause-fits c =
-    let terms = c.args.report.now in
+    let terms = made_on c.args.today c.args.report.now in
     omega (
       arith,
       c.hold.ensures.sums terms.side terms.symbol,
@@ -20,14 +20,14 @@ hold-requires-2-clause-fits c =
 
 pub returns-in_default-clause-positions : goal.returns-in_default-clause-positions
 returns-in_default-clause-positions c =
-    holds-none c.args.self.now.positions (with_match c.args.report.now.match_id c.args.self.now.trades) c.args.report.now c.args.waiting.now c.in_default.is c.requires.waiting c.requires.fits.fits
+    holds-none c.args.self.now.positions (with_match c.args.report.now.match_id c.args.self.now.trades) (made_on c.args.today c.args.report.now) c.args.waiting.now c.in_default.is c.requires.waiting c.requires.fits.fits
 
 pub returns-clause-positions : goal.returns-clause-positions
 returns-clause-positions c =
-    holds-both c.args.self.now.positions c.make_rows.new.positions c.hold.new.positions c.hold-2.new.positions (with_match c.args.report.now.match_id c.args.self.now.trades) c.args.report.now
+    holds-both c.args.self.now.positions c.make_rows.new.positions c.hold.new.positions c.hold-2.new.positions (with_match c.args.report.now.match_id c.args.self.now.trades) (made_on c.args.today c.args.report.now)
     c.args.waiting.now c.in-Some.waiting c.in-Some.is c.requires.waiting c.make_rows.ensures.same_lots
-    c.hold.ensures.lots c.hold.ensures.sums (rw c.terms-terms.ensures at c.hold-2.ensures.lots) c.hold-2.ensures.sums
+    c.hold.ensures.lots c.hold.ensures.sums (rw c.on-terms.ensures at c.hold-2.ensures.lots) c.hold-2.ensures.sums
 
 pub hold-requires-2-clause-row : goal.hold-requires-2-clause-row
 hold-requires-2-clause-row c =
-    c.hold.ensures.stay c.terms-terms.result.now.account c.terms-terms.result.now.symbol c.in_ok-rows.rows.0 c.in_ok-rows.ensures.first
+    c.hold.ensures.stay c.on-terms.result.account c.on-terms.result.symbol c.in_ok-rows.rows.0 c.in_ok-rows.ensures.first

@@ -8,29 +8,29 @@ use Rattle.gu_rules.specs.Answer.{offer_tests, refusal_in, reverse_tests}
 use Rattle.gu_rules.proofs.Passing.{standing_after, standing_none}
 use Rattle.gu_book.specs.Beside.{state_in}
 use Rattle.gu_book.proofs.ClaimLemmas.{lots_are}
-use Rattle.gu_book.proofs.answering.ReversalAskedAsked.decide.Goals as goal
+use Rattle.gu_book.proofs.answering.ReverseDecide.decide.Goals as goal
 
 pub returns-clause-reply : goal.returns-clause-reply
 returns-clause-reply c =
     let state = state_in c.args.totals.now in
-    let n = c.args.self.now.offer.now in
+    let n = c.args.self.now.offer in
     let tests = reverse_tests state n in
     let nothing : left_in state.offers n ≡ 0 = omega (arith, c.left.ensures, c.if-left-gt0.false) in
     let shut : nat_lt 0 (left_in state.offers n) ≡ false = ap (nat_lt 0) nothing in
     let lots = lots_are (today_in state.offers n) c.in-Some.lots c.in-Some.ensures in
     let none : refusal_in tests ≡ None = rw (shut, lots.1) refl in
     ap (λ (moved : ℕ). Accepted (Reversed moved)) lots.0
-    ∙ sym (standing_after (offer_tests c.args.reference.now state c.args.self.now.firm.now n) tests (Reversed (today_in state.offers n)) c.in_ok-offer.ensures.passed ∙ standing_none tests (Reversed (today_in state.offers n)) none)
+    ∙ sym (standing_after (offer_tests c.args.reference.now state c.args.self.now.firm n) tests (Reversed (today_in state.offers n)) c.in_ok-offer.ensures.passed ∙ standing_none tests (Reversed (today_in state.offers n)) none)
 
 pub returns-clause-deed : goal.returns-clause-deed
 returns-clause-deed c =
     record {
-      firm = c.args.self.now.firm.now;
+      firm = c.args.self.now.firm;
       is = refl;
       offer = c.in_ok-offer.offer;
       seen = record { shown = c.in_ok-offer.ensures.offer; found = c.terms_given_up.ensures };
       group_is = refl;
       account_is = refl;
       under = subst (λ (keys : List LimitKey). AreLimitsOf c.args.totals.now.limits c.in_ok-offer.offer.group keys c.limits_of.result) c.path_with-path.ensures.keys c.limits_of.ensures;
-      all = (lots_are (today_in c.args.totals.now.offers c.args.self.now.offer.now) c.in-Some.lots c.in-Some.ensures).0;
+      all = (lots_are (today_in c.args.totals.now.offers c.args.self.now.offer) c.in-Some.lots c.in-Some.ensures).0;
     }

@@ -2,7 +2,7 @@ use Rattle.std.proofs.Common.{subst, sym}
 use Rattle.std.proofs.lemmas.Result.{on_ok_weaker}
 use Rattle.gu_book.specs.Accepted.{TakesIn}
 use Rattle.gu_book.proofs.TakenIn.{limit-taken}
-use Rattle.gu_book.proofs.deed.LimitChangeDeed.take_in.Goals as goal
+use Rattle.gu_book.proofs.deed.SetLimitDeed.take_in.Goals as goal
 
 pub returns-clause-taken : goal.returns-clause-taken
 returns-clause-taken c =
@@ -13,5 +13,5 @@ returns-clause-taken c =
     on_ok_weaker c.set_limit.result
     (λ limits reference command is.
     subst (TakesIn reference old new) (sym is)
-    (limit-taken reference old new at.group at.key at.lots e.entries.today e.entries.trades e.entries.give_ups e.offers e.positions limits))
+    (limit-taken reference old new at e.entries.today e.entries.trades e.entries.give_ups e.offers e.positions limits))
     e.limits

@@ -1,6 +1,6 @@
 use Rattle.gu_rules.specs.Limits.{path_after}
 use Rattle.gu_book.proofs.Accepting.{claim-fits, claim-taken, on_ok_three}
-use Rattle.gu_book.proofs.deed.ClaimDeed.take_in.Goals as goal
+use Rattle.gu_book.proofs.deed.NewClaimDeed.take_in.Goals as goal
 
 pub claim-requires-clause-room : goal.claim-requires-clause-room
 claim-requires-clause-room c =

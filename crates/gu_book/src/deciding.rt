@@ -1,0 +1,28 @@
+//! A command of each kind decides what it does.
+
+ghost use Rattle.std.specs.Prelude.{◌≡◌, ◌<◌, length, IfOk};
+ghost use Rattle.gu_terms.specs.declared.command.Command.{Command as CommandOf};
+ghost use Rattle.gu_rules.specs.Answer.{answer_in};
+ghost use Rattle.gu_book.specs.Beside.{state_in};
+ghost use Rattle.gu_book.specs.Deeds.{HaveReports, IsDeedOf, reply_by};
+
+use crate::deed::Deed;
+use crate::totals::Totals;
+use gu_ref::Reference;
+use gu_terms::Refusal;
+
+/// A command of one kind.
+pub trait Decide<'a> {
+    /// What it does, where it is accepted.
+    type Does: Deed;
+
+    /// Which command it is.
+    ghost command: { Self → CommandOf };
+
+    /// Decides it, where a history comes to this: what it does, or why it is refused.
+    fn decide(&'a self, reference: &Reference, totals: &Totals) -> Result<Self::Does, Refusal>
+        requires numbers { length totals.now.offers < 16000000 }
+        requires reports { HaveReports totals.now }
+        ensures reply { reply_by Self.Does.does result ≡ answer_in reference.now (state_in totals.now) (command self.now) }
+        ensures deed { IfOk result (λ deed. IsDeedOf reference.now totals.now (command self.now) (Self.Does.does deed)) };
+}
