@@ -19,7 +19,7 @@ use crate::symbol::Symbol;
 use std::alloc::AllocError;
 
 /// The house opens a day, which is later than the one before.
-#[derive(Clone, Copy, Debug, PartialEq, Eq)]
+#[derive(Clone, Copy, Debug)]
 pub struct OpenDay {
     pub day: Day,
 }
@@ -33,7 +33,7 @@ pub struct SetLimit {
 }
 
 /// A firm reports its side of a trade (FIX: Trade Capture Report). Two sides with one match id are a trade.
-#[derive(Clone, Copy, Debug, PartialEq, Eq)]
+#[derive(Clone, Copy, Debug)]
 pub struct ReportSide {
     pub firm: FirmId,
     pub id: Id,
@@ -92,6 +92,34 @@ pub enum Command {
     Reverse(Reverse),
 }
 
+/// Whether two reports name one day, or neither a day.
+fn is_same_day(day: Option<Day>, other: Option<Day>) -> bool
+    ensures { IsTrue result ↔ (day ≡ other) }
+{
+    match (day, other) {
+        (Some(day), Some(day_of_other)) => day.is_same(day_of_other),
+        (None, None) => true,
+        _ => false,
+    }
+}
+
+impl ReportSide {
+    /// Whether two reports are the same.
+    fn is_same(&self, other: &ReportSide) -> bool
+        ensures { IsTrue result ↔ (self.now ≡ other.now) }
+    {
+        self.firm == other.firm
+            && self.id == other.id
+            && self.match_id == other.match_id
+            && self.symbol == other.symbol
+            && self.lots == other.lots
+            && self.price == other.price
+            && is_same_day(self.day, other.day)
+            && self.side == other.side
+            && self.account == other.account
+    }
+}
+
 impl GiveUp {
     /// A copy.
     fn copy(&self) -> Result<GiveUp, AllocError>
@@ -147,9 +175,9 @@ impl Command {
         ensures { IsTrue result ↔ (self.now ≡ other.now) }
     {
         match (self, other) {
-            (Command::OpenDay(a), Command::OpenDay(b)) => a == b,
+            (Command::OpenDay(a), Command::OpenDay(b)) => a.day.is_same(b.day),
             (Command::SetLimit(a), Command::SetLimit(b)) => a == b,
-            (Command::ReportSide(a), Command::ReportSide(b)) => a == b,
+            (Command::ReportSide(a), Command::ReportSide(b)) => a.is_same(b),
             (Command::GiveUp(a), Command::GiveUp(b)) => a.is_same(b),
             (Command::Claim(a), Command::Claim(b)) => a == b,
             (Command::Refuse(a), Command::Refuse(b)) => a == b,
