@@ -11,7 +11,7 @@ ghost use Rattle.gu_keeping.specs.Chains.{chain_after};
 ghost use Rattle.gu_keeping.specs.Making.{AddsEntry, HasNoRoomFor, IsBatchOf};
 ghost use Rattle.gu_keeping.specs.declared.chain.Chain.{Chain as ChainOf};
 
-use crate::chain::{Chain, Link};
+use crate::chain::{Chain, Link, MOST_PLANNED};
 use crate::comments::{append_digest, append_origin};
 use gu_desk::Origin;
 use gu_journal::MAX_BATCH;
@@ -21,6 +21,9 @@ use std::alloc::{AllocError, Global};
 
 /// The bytes that the lines of a batch have at most. The comment with the digest comes after them.
 const MOST_LINES: usize = MAX_BATCH - 88;
+
+/// The bytes that a batch is given at first for each entry that is planned.
+const ENTRY_ROOM: usize = 160;
 
 /// A batch that is being made: the lines of some entries, and the link that they make of the day's chain.
 #[derive(Drop)]
@@ -56,15 +59,13 @@ fn append_lines(
 }
 
 impl Batch {
-    /// Creates a batch without lines, after those of a chain.
-    pub(crate) fn new(alloc: Global, chain: Chain) -> Self
-        ensures { IsBatchOf chain [] [] result }
+    /// Creates a batch without lines, after those of a chain. It has room for this number of entries of a usual length.
+    pub(crate) fn new(alloc: Global, chain: Chain, entries: usize) -> Result<Self, AllocError>
+        ensures { IfOk result (λ batch. IsBatchOf chain [] [] batch) }
     {
-        Batch {
-            alloc,
-            text: Vec::new(alloc),
-            link: Link::new(alloc, chain),
-        }
+        let text = Vec::with_capacity(alloc, entries.min(MOST_PLANNED) * ENTRY_ROOM)?;
+        let link = Link::new(alloc, chain, entries)?;
+        Ok(Batch { alloc, text, link })
     }
 
     /// Adds an entry, and returns whether there was room for its lines. After an error the batch is of no use.
@@ -96,8 +97,8 @@ impl Batch {
         ensures within { IfOk result (λ made. (made.1 ≤ length entries.now) × (made.1 ≤ length origins.now)) }
         ensures batch { IfOk result (λ made. IsBatchOf chain (map Some (take made.1 origins.now)) (take made.1 entries.now) made.0) }
     {
-        let mut batch = Batch::new(alloc, chain);
         let most = entries.len().min(origins.len());
+        let mut batch = Batch::new(alloc, chain, most)?;
         for place in 0..most {
             if !batch.add(Some(&origins[place]), &entries[place])? {
                 return Ok((batch, place));

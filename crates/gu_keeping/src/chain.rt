@@ -1,6 +1,6 @@
 //! A day's entries in short.
 
-ghost use Rattle.std.specs.Prelude.{◌≡◌, ◌++◌, ◌+◌, ◌<◌, ◌^◌, [], List, OnOk};
+ghost use Rattle.std.specs.Prelude.{◌≡◌, ◌++◌, ◌+◌, ◌<◌, ◌^◌, [], List, IfOk, OnOk};
 ghost use Rattle.sha2.specs.Sha256.{sha256};
 ghost use Rattle.gu_terms.specs.declared.entry.Entry.{Entry as EntryOf};
 ghost use Rattle.gu_keeping.specs.Chains.{IsChainOf, chain_after, empty_chain};
@@ -60,6 +60,15 @@ impl Chain {
     }
 }
 
+/// How many entries a batch is given room for at first, at most.
+pub(crate) const MOST_PLANNED: usize = 1_024;
+
+/// The bytes that a link is given at first for what is shown of each entry that is planned.
+const SHOWN_ROOM: usize = 24;
+
+/// The bytes that it is given besides: a reply is appended only if there is room for the longest.
+const REPLY_ROOM: usize = 192;
+
 /// A batch more for a chain, while entries come to it: it has what is shown of them, so that one digest is made of it all.
 #[derive(Drop)]
 pub(crate) struct Link {
@@ -70,16 +79,16 @@ pub(crate) struct Link {
 }
 
 impl Link {
-    /// Creates a link without entries.
-    pub(crate) fn new(alloc: Global, chain: Chain) -> Self
-        ensures { IsLinkOf chain [] result }
+    /// Creates a link without entries. It has room for this number of them, of a usual length.
+    pub(crate) fn new(alloc: Global, chain: Chain, entries: usize) -> Result<Self, AllocError>
+        ensures { IfOk result (λ link. IsLinkOf chain [] link) }
     {
-        Link {
+        Ok(Link {
             chain,
             count: chain.count,
             today: chain.today,
-            shown: Vec::new(alloc),
-        }
+            shown: Vec::with_capacity(alloc, entries.min(MOST_PLANNED) * SHOWN_ROOM + REPLY_ROOM)?,
+        })
     }
 
     /// Returns the day that is open after the entries.

@@ -103,7 +103,7 @@ fn chain_to(
     requires within { count ≤ length history.now }
     ensures { IfOk result (λ next. next ≡ chain_to history.now chain count) }
 {
-    let mut link = Link::new(alloc, chain);
+    let mut link = Link::new(alloc, chain, count - chain.count())?;
     for place in chain.count()..count {
         let entry = history.at(place)?;
         link.add(&entry)?;

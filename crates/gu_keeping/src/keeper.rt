@@ -54,7 +54,11 @@ fn drop_first(entries: &mut Vec<Entry>, count: usize)
     requires { count ≤ length entries.old.items }
     ensures { entries.new.items ≡ drop count entries.old.items }
 {
-    drop(entries.drain(..count));
+    if count == entries.len() {
+        entries.clear();
+    } else {
+        drop(entries.drain(..count));
+    }
 }
 
 impl<E: EntryLedger, K: Sink> Keeper<E, K> {

@@ -51,7 +51,7 @@ fn next_batch(
         × IsBatchText chain (unknown_origins entries) entries made.0.items) }
     ensures within { IfOk result (λ made. made.1.count ≤ length history.now) }
 {
-    let mut batch = Batch::new(alloc, chain);
+    let mut batch = Batch::new(alloc, chain, history.len() - chain.count())?;
     for place in chain.count()..history.len() {
         let entry = history.at(place)?;
         if !batch.add(None, &entry)? {

@@ -8,9 +8,9 @@ pub loop-place-init : goal.loop-place-init
 loop-place-init c =
     let history = c.args.history.now in
     let chain = c.args.chain in
-    let link = c.new-link.result in
+    let link = c.in_ok-link.link in
     subst (λ (n : ℕ). IsLinkOf chain (entries_between history chain.count n) link) (sym c.count-place.ensures)
-    (link_none history chain link (omega (arith, c.requires.later, c.requires.within)) c.new-link.ensures)
+    (link_none history chain link (omega (arith, c.requires.later, c.requires.within)) c.in_ok-link.ensures)
 
 pub add-requires : goal.add-requires
 add-requires c =

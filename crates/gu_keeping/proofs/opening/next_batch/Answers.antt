@@ -11,7 +11,7 @@ use Rattle.gu_keeping.proofs.opening.next_batch.Goals.{else-loop-place-test, the
 pub loop-place-init : goal.loop-place-init
 loop-place-init c =
     let history = c.args.history.now in
-    let made = c.new-batch.ensures in
+    let made = c.in_ok-batch.ensures in
     record {
       entries = [];
       made = made;
