@@ -1,6 +1,5 @@
 -- Two sweeps that may follow take the same lots of each offer.
-use Rattle.std.proofs.Common.{◌≡◌, ℕ, zero, suc, ◌<◌, Bool, true, false, ◌||◌, List, [], ◌∷◌, length, get_or, IsTrue, refl, sym, ap, ◌∙◌, subst, arith, inl, inr}
-use Rattle.std.specs.Prelude.{All}
+use Rattle.std.proofs.Common.{◌≡◌, ℕ, Bool, true, false, ◌||◌, List, [], ◌∷◌, IsTrue, refl, sym, ap, ◌∙◌, subst, arith, inl, inr}
 use Rattle.std.specs.List.{AllByRecursion}
 use Rattle.std.proofs.lemmas.Bool.{cases_eq, ne_eqb}
 use Rattle.std.proofs.lemmas.List.Elements.{recursion_from_All}
@@ -9,23 +8,13 @@ use Rattle.gu_terms.specs.Takes.{lots_of}
 use Rattle.gu_terms.specs.declared.entry.SweepEntry.{SweepEntry}
 use Rattle.gu_terms.specs.declared.takes.Take.{Take}
 use Rattle.gu_view.specs.Check.{has_offer}
-use Rattle.gu_view.specs.Takes.{AgreeOnOlder, IsOldestGreatest, total}
+use Rattle.gu_view.specs.Takes.{total}
 use Rattle.gu_view.specs.View.{GroupView}
 use Rattle.gu_view.specs.declared.view.ViewOffer.{ViewOffer}
+use Rattle.gu_view.proofs.OldestGreatest.{oldest_greatest_is_one}
 use Rattle.gu_rules.specs.Sweeps.{IsSweepOf}
 
 -- ---- of the view's offers
-
-module _ (view : GroupView) (lots others : ℕ → ℕ) (mine : IsOldestGreatest view lots) (theirs : IsOldestGreatest view others) where
-  agree : (n i : ℕ) (d : ViewOffer) → (get_or view.offers i d).number < n → i < length view.offers → others (get_or view.offers i d).number ≡ lots (get_or view.offers i d).number
-  agree zero i d below inside = absurd (omega (arith, below))
-  agree (suc n) i d below inside =
-      let older : AgreeOnOlder view.offers (get_or view.offers i d) others lots = λ j e j_in less. agree n j e (omega (arith, less, below)) j_in in
-      let back : AgreeOnOlder view.offers (get_or view.offers i d) lots others = λ j e j_in less. sym (older j e j_in less) in
-      omega (arith, mine.oldest others theirs.greatest i d inside older, theirs.oldest lots mine.greatest i d inside back)
-
-  agree_on : All (λ o. others o.number ≡ lots o.number) view.offers
-  agree_on i d inside = agree (suc (get_or view.offers i d).number) i d (omega arith) inside
 
 same_total : (offers : List ViewOffer) (lots others : ℕ → ℕ) → AllByRecursion (λ (o : ViewOffer). others o.number ≡ lots o.number) offers → total offers others ≡ total offers lots
 same_total [] lots others h = refl
@@ -51,7 +40,7 @@ none_at offers (t ∷ takes) n h lacks = elim (cases_eq t.offer n) [
 
 module _ (view : GroupView) (sweep other : SweepEntry) (mine : IsSweepOf view sweep) (theirs : IsSweepOf view other) where
   along : AllByRecursion (λ (o : ViewOffer). lots_of other.takes o.number ≡ lots_of sweep.takes o.number) view.offers
-  along = recursion_from_All (λ (o : ViewOffer). lots_of other.takes o.number ≡ lots_of sweep.takes o.number) view.offers (agree_on view (lots_of sweep.takes) (lots_of other.takes) mine.oldest theirs.oldest)
+  along = recursion_from_All (λ (o : ViewOffer). lots_of other.takes o.number ≡ lots_of sweep.takes o.number) view.offers (oldest_greatest_is_one view (lots_of sweep.takes) (lots_of other.takes) mine.oldest theirs.oldest)
 
   pub same_lots : other.lots ≡ sweep.lots
   same_lots = sym theirs.right.taken ∙ same_total view.offers (lots_of sweep.takes) (lots_of other.takes) along ∙ mine.right.taken

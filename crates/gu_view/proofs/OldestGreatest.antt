@@ -2,7 +2,7 @@
 use Rattle.std.proofs.Common.{◌≡◌, ◌≢◌, ℕ, zero, suc, ◌+◌, ◌-◌, ◌<◌, ◌≤◌, ◌==◌, Bool, true, false, cond, List, [], ◌∷◌, length, get_or, refl, sym, ap, ◌∙◌, subst, arith, inl, inr}
 use Rattle.std.specs.Prelude.{All, AllPairs, sum_by}
 use Rattle.std.specs.List.{AllByRecursion}
-use Rattle.std.proofs.lemmas.Bool.{cases_eq, cases_order, cases_lt, cond-true, cond-false, eq-eqb, ne_eqb}
+use Rattle.std.proofs.lemmas.Bool.{cases_eq, cases_lt, cond-true, cond-false, eq-eqb, ne_eqb}
 use Rattle.std.proofs.lemmas.List.{get_or_default}
 use Rattle.std.proofs.lemmas.List.Elements.{recursion_from_All, All-from_recursion}
 use Rattle.std.proofs.lemmas.List.Sums.{sum_by-cons}
@@ -13,26 +13,16 @@ use Rattle.gu_view.specs.Takes.{lots_under, total, AgreeOnOlder, IsAdmissible, I
 use Rattle.gu_view.specs.View.{GroupView, IsView}
 use Rattle.gu_view.specs.declared.view.ViewOffer.{ViewOffer}
 
--- the offer with the smaller number comes before
-stands_before : (offers : List ViewOffer) → AllPairs (λ a b. a.number < b.number) offers → (j i : ℕ) (e d : ViewOffer) → j < length offers → i < length offers → (get_or offers j e).number < (get_or offers i d).number → j < i
-stands_before offers ascending j i e d j_in i_in less = elim (cases_order j i) [
-  | inl same ↦ absurd (omega (arith, ap (λ k. (get_or offers k e).number) same, ap (λ (o : ViewOffer). o.number) (get_or_default offers i d e i_in)))
-  | inr apart ↦ elim apart [
-    | inl before ↦ before
-    | inr after ↦ absurd (omega (arith, ascending i j d after j_in, ap (λ (o : ViewOffer). o.number) (get_or_default offers j d e j_in)))
-  ]
-]
-
-module _ (view : GroupView) (sound : IsView view) (lots others : ℕ → ℕ) (mine : IsOldestGreatest view lots) (theirs : IsOldestGreatest view others) where
-  agree : (n i : ℕ) (d : ViewOffer) → i < n → i < length view.offers → others (get_or view.offers i d).number ≡ lots (get_or view.offers i d).number
-  agree zero i d below inside = absurd (omega arith)
+module _ (view : GroupView) (lots others : ℕ → ℕ) (mine : IsOldestGreatest view lots) (theirs : IsOldestGreatest view others) where
+  agree : (n i : ℕ) (d : ViewOffer) → (get_or view.offers i d).number < n → i < length view.offers → others (get_or view.offers i d).number ≡ lots (get_or view.offers i d).number
+  agree zero i d below inside = absurd (omega (arith, below))
   agree (suc n) i d below inside =
-      let older : AgreeOnOlder view.offers (get_or view.offers i d) others lots = λ j e j_in less. agree n j e (omega (arith, stands_before view.offers sound.ascending j i e d j_in inside less)) j_in in
+      let older : AgreeOnOlder view.offers (get_or view.offers i d) others lots = λ j e j_in less. agree n j e (omega (arith, less, below)) j_in in
       let back : AgreeOnOlder view.offers (get_or view.offers i d) lots others = λ j e j_in less. sym (older j e j_in less) in
       omega (arith, mine.oldest others theirs.greatest i d inside older, theirs.oldest lots mine.greatest i d inside back)
 
   pub oldest_greatest_is_one : All (λ o. others o.number ≡ lots o.number) view.offers
-  oldest_greatest_is_one i d inside = agree (suc i) i d (omega arith) inside
+  oldest_greatest_is_one i d inside = agree (suc (get_or view.offers i d).number) i d (omega arith) inside
 
 -- equal terms, by a fact of each element
 sum_by-by : {X : Type 0} (P : X → Type 0) (f g : X → ℕ) (xs : List X) → ((x : X) → P x → f x ≡ g x) → AllByRecursion P xs → sum_by f xs ≡ sum_by g xs

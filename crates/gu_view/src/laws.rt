@@ -18,7 +18,6 @@ pub fn cut_bounds_takes()
 /// Two takes that are oldest first over the group among the greatest give each offer of the view the same lots.
 pub fn oldest_greatest_is_one()
     ensures { (view : GroupView) (lots others : ℕ → ℕ)
-        → IsView view
         → IsOldestGreatest view lots
         → IsOldestGreatest view others
         → All (λ o. others o.number ≡ lots o.number) view.offers }
