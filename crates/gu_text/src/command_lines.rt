@@ -3,6 +3,7 @@
 ghost use Rattle.std.specs.Prelude.{◌≡◌, ◌++◌, ◌∷◌, [], OnOk, codes};
 ghost use Rattle.std.specs.Fmt.{decimal};
 ghost use Rattle.std.specs.List.{flat_map};
+ghost use Rattle.gu_terms.specs.WrittenNumbers.{price_text};
 ghost use Rattle.gu_text.specs.Scripts.{side_word};
 ghost use Rattle.gu_text.specs.Texts.{line_of, word};
 ghost use Rattle.gu_text.specs.WrittenCommands.{command_text, command_words, cut_key_remark_text, cut_offer_remark_text, pair_words, remark_text, sweep_rows, sweep_words, take_remark_text};
@@ -51,11 +52,12 @@ fn append_own(
     append_word(output, other.get())
 }
 
-/// Appends the words of a report, each with a blank after it. The day that it names has none.
-fn append_report(output: &mut Vec<u8>, report: &ReportSide) -> Result<(), AllocError>
-    ensures { OnOk result (output.new.items ≡ output.old.items ++ flat_map word (command_words (Command.ReportSide report.now))) }
+/// Appends the words of a report after its ids, each with a blank after it. Its day has none.
+fn append_side(output: &mut Vec<u8>, report: &ReportSide) -> Result<(), AllocError>
+    ensures { OnOk result (output.new.items ≡ output.old.items
+        ++ flat_map word (side_word report.now.side ∷ report.now.symbol.name ∷ decimal report.now.lots ∷ price_text report.now.price
+        ∷ report.now.account.name ∷ [])) }
 {
-    append_own(output, b"REPORT", report.firm, &report.id, &report.match_id)?;
     append_word(output, side_word(report.side))?;
     append_word(output, report.symbol.get())?;
     append_number(output, report.lots.get())?;
@@ -98,7 +100,10 @@ fn append_command_words(output: &mut Vec<u8>, command: &Command) -> Result<(), A
             append_word(output, &opening.day.text())
         }
         Command::SetLimit(limit) => append_limit(output, limit),
-        Command::ReportSide(report) => append_report(output, report),
+        Command::ReportSide(it) => {
+            append_own(output, b"REPORT", it.firm, &it.id, &it.match_id)?;
+            append_side(output, it)
+        }
         Command::GiveUp(it) => {
             append_own(output, b"GIVEUP", it.firm, &it.id, &it.report)?;
             append_pairs(output, it.lines.as_slice())
