@@ -1,4 +1,4 @@
-//! The table of messages that are read, as docs/rules/messages.md has it, held against what `read` does with each tag. A table
+//! The table of messages that are read, as docs/RULES-OF-ENGAGEMENT.md has it, held against what `read` does with each tag. A table
 //! changes a sound message of one type: as it is; with all tags twice that other types read; and each of its own outer tags missing,
 //! twice, and with values that aren't allowed. The cells of the rules are above it.
 use crate::rows::{Subject, check};
