@@ -444,7 +444,7 @@ class House:
     # Questions.
 
     def tell(self, word, *names):
-        """What is told to a question, in lines."""
+        """Returns the answer to a question, in lines."""
         return getattr(self, f'tell_{word.lower()}')(*names)
 
     def held(self, account, symbol):

@@ -63,7 +63,7 @@ def script(entries, count, agreements, room):
 
 
 def commands(offers):
-    """Of each kind one in each turn: the claims are of the turn's own give-up, and of an offer without room."""
+    """One of each kind in each turn: the claims are of the turn's own give-up, and of an offer without room."""
     for turn in range(TURNS):
         account = 17 * turn % ACCOUNTS
         giver = account % GIVERS

@@ -171,7 +171,7 @@ struct Choice {
     std::vector<int> via[2];
     std::vector<char> has[2];
 
-    // One look: the node that was reached and that the other search has, -1 for none, -2 where there is nothing more to look at.
+    // One look: the node that was reached and that the other search has, -1 for none, -2 if there is nothing more to look at.
     int look(Search &search, int side) {
         if (search.done == search.queue.size()) return -2;
         int node = search.queue[search.done];

@@ -103,7 +103,7 @@ class Tab:
         return time.monotonic() - since
 
     def until(self, script, seconds=SECONDS):
-        """Waits until a script's value is true: the seconds that it took, or None where it doesn't come in time."""
+        """Waits until a script's value is true: the seconds that it took, or None if it doesn't come in time."""
         since = time.monotonic()
         while time.monotonic() - since < seconds:
             try:

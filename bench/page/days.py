@@ -72,7 +72,7 @@ def script(trades, seed=7, sweep_every=6, tight=1.0):
 
 
 def many_entries(count, has_sweeps=True):
-    """A finished day of so many entries: trades of two firms, some of which are given up, and a sweep at times, or else a claim of each offer."""
+    """A finished day of this many entries: trades of two firms, some of which are given up, and a sweep at times, or else a claim of each offer."""
     yield 'DAY 20260105'
     house, made = House(3), 1
     for line in list(house.opening(1000))[1:]:
@@ -96,7 +96,7 @@ def many_entries(count, has_sweeps=True):
 
 
 def full_house(limits=20_000, offers=4096):
-    """A reference and a script with so many limits and open offers: ten groups, of which one has all the offers, each under keys of little room."""
+    """A reference and a script with this many limits and open offers: ten groups, of which one has all the offers, each under keys of little room."""
     firms, accounts = 40, 1000
     reference = [f'FIRM,F{k}' for k in range(firms)] + ['FIRM,C0', 'FIRM,C1', *(f'GROUP,G{k}' for k in range(10)), *(f'INSTRUMENT,S{k},G{k}' for k in range(10))]
     reference += [f'ACCOUNT,H{k},F{k}' for k in range(firms)] + [f'ACCOUNT,A{k},C{k % 2}' for k in range(accounts)]

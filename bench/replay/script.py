@@ -1,4 +1,4 @@
-"""A mixed script of so many lines over 1,000 accounts: limits first, then trades of two reports, give-ups, claims, refusals, positions, and a sweep every 50 give-ups.
+"""A mixed script of this many lines over 1,000 accounts: limits first, then trades of two reports, give-ups, claims, refusals, positions, and a sweep every 50 give-ups.
 
     script.py N REF    writes the script on standard output, and its reference file to REF
 """

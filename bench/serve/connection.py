@@ -47,7 +47,7 @@ class Connection:
         return self.send('A', f'98=0|108={heartbeat}|1137=9|')
 
     def hear(self, seconds):
-        """What comes within this time, as soon as anything does: the moment, and the fields of each message. Empty where nothing comes or the desk closes."""
+        """What comes within this time, as soon as anything does: the moment, and the fields of each message. Empty if nothing comes or the desk closes."""
         if self.is_closed or not select.select([self.line], [], [], seconds)[0]:
             return time.monotonic(), []
         piece = self.line.recv(65536)
@@ -68,7 +68,7 @@ class Connection:
             self.expected = number + 1
 
     def hear_until(self, fits, seconds=20):
-        """The moment at which a message comes that fits, and all that came up to then. None where none comes in this time."""
+        """The moment at which a message comes that fits, and all that came up to then. None if none comes in this time."""
         end, heard = time.monotonic() + seconds, []
         while time.monotonic() < end and not self.is_closed:
             at, came = self.hear(end - time.monotonic())

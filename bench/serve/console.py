@@ -17,7 +17,7 @@ class Console:
         self.line.sendall(line.encode() + b'\n')
 
     def answer(self):
-        """The lines of the next answer; None where the desk closes the connection before its end."""
+        """The lines of the next answer; None if the desk closes the connection before its end."""
         lines = []
         while True:
             row, found, rest = self.rest.partition(b'\n')
@@ -79,7 +79,7 @@ class Place:
 
 
 def tell(program, path, *lines, seconds=100):
-    """`giveup tell`: its status, the lines that it printed, and how long it took. None for the status where it doesn't end in time."""
+    """`giveup tell`: its status, the lines that it printed, and how long it took. None for the status if it doesn't end in time."""
     since = time.monotonic()
     try:
         done = subprocess.run([program, 'tell', path, *lines], stdin=subprocess.DEVNULL, stdout=subprocess.PIPE, stderr=subprocess.STDOUT, timeout=seconds)

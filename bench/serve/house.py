@@ -11,7 +11,7 @@ def rows(firms):
 
 
 def opening(firms, lots=1_000_000_000):
-    """The script that opens the day, and sets each limit to so many lots."""
+    """The script that opens the day, and sets each limit to this many lots."""
     yield 'DAY 20260105'
     for k in range(1, firms + 1):
         yield f'LIMIT G1 EXEC E{k} {lots}'
@@ -25,7 +25,7 @@ def text(lines):
 
 
 def full_rows(firms, offers):
-    """The reference rows of a house in which E1 has so many agreements, each with an account of C1's."""
+    """The reference rows of a house in which E1 has this many agreements, each with an account of C1's."""
     yield from (f'FIRM,E{k}' for k in range(1, firms + 1))
     yield from ('FIRM,C1', 'GROUP,G1', 'INSTRUMENT,XF6,G1')
     yield from (f'ACCOUNT,H{k},E{k}' for k in range(1, firms + 1))

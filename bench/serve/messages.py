@@ -10,14 +10,14 @@ def stamp():
 
 
 def message(kind, firm, number, fields=''):
-    """A message of a firm to the desk, with its length and check sum. In the fields `|` stands for the byte 0x01."""
+    """A message of a firm to the desk, with its length and check sum. In the fields `|` means the byte 0x01."""
     body = f'35={kind}|49={firm}|56=GIVEUP|34={number}|52={stamp()}|{fields}'.replace('|', SOH)
     front = f'8=FIXT.1.1{SOH}9={len(body)}{SOH}{body}'
     return f'{front}10={sum(front.encode()) % 256:03}{SOH}'.encode()
 
 
 def fields_of(text):
-    """The fields of a message. Of a tag that comes more than once the first counts."""
+    """The fields of a message. If a tag comes more than once, the first counts."""
     fields = {}
     for part in text.rstrip(SOH).split(SOH):
         tag, _, value = part.partition('=')

@@ -52,7 +52,7 @@ class Server:
             self.err += piece
 
     def value_of(self, name):
-        """A number that /proc has of the process, in kB, or 0 where it is gone."""
+        """A number that /proc has of the process, in kB, or 0 if it is gone."""
         try:
             rows = Path(f'/proc/{self.child.pid}/status').read_text().splitlines()
             return next((int(row.split()[1]) for row in rows if row.startswith(name)), 0)
@@ -65,7 +65,7 @@ class Server:
             time.sleep(0.02)
 
     def processor_seconds(self):
-        """User and system time so far; None where it has ended."""
+        """User and system time so far; None if it has ended."""
         try:
             words = Path(f'/proc/{self.child.pid}/stat').read_text().rpartition(')')[2].split()
             return (int(words[11]) + int(words[12])) / TICK
@@ -77,7 +77,7 @@ class Server:
         self.child.wait()
 
     def end(self, seconds=120):
-        """Waits for its end: its status and the lines that it printed. None, and the lines so far, where it doesn't end in time."""
+        """Waits for its end: its status and the lines that it printed. None, and the lines so far, if it doesn't end in time."""
         try:
             self.child.wait(seconds)
         except subprocess.TimeoutExpired:

@@ -12,7 +12,7 @@ from .replica import Replica, ReplicaEnded
 POLL = 0.2              # seconds from one JOURNAL to the next
 LOOK = 0.1              # and from one look at a journal's file to the next
 STATUS = 1.0            # and from one STATUS to the next
-PACE = 0.02             # while the entries that were there before are read, so many seconds at least from one JOURNAL to the next
+PACE = 0.02             # while the entries that were there before are read, this many seconds at least from one JOURNAL to the next
 SILENT = 3.0            # seconds without an answer after which that is said
 STRETCH = 256           # entries of one JOURNAL
 
@@ -116,7 +116,7 @@ class Following:
         self.keep_asking(self.note_status)
 
     def keep_asking(self, read):
-        """Asks the desk again and again, also where it is gone for a while."""
+        """Asks the desk again and again, also if it is gone for a while."""
         while not self.fault:
             try:
                 with contextlib.closing(Watch(self.watch)) as watch:

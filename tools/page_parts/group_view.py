@@ -4,7 +4,7 @@ import time
 
 NEAR = 0.8              # of a limit: from here on it is shown as near
 MOST_SECONDS = 0.25     # that a proposal may take
-LIKELY = 6              # so many times what a limit takes in LIMITS, before a proposal was seen
+LIKELY = 6              # this many times what a limit takes in LIMITS, before a proposal was seen
 
 Limit = collections.namedtuple('Limit', 'group kind name limit use room waiting short state')
 STATES = ('blocks', 'full', 'near', 'free')
@@ -16,7 +16,7 @@ def state_of(limit, use, room):
 
 
 class GroupView:
-    """`proposed` is what a sweep of the group would take now, or None where that isn't known."""
+    """`proposed` is what a sweep of the group would take now, or None if that isn't known."""
 
     def __init__(self, day, place):
         self.group, offers = day.reference.groups[place], day.offers
@@ -60,7 +60,7 @@ class GroupViews:
         return kept
 
     def propose(self, view, seconds):
-        """Asks for a proposal where that isn't too long for whoever waits: a program that was built without its proofs takes a thousand times as long."""
+        """Asks for a proposal if that isn't too long for whoever waits: a program that was built without its proofs takes a thousand times as long."""
         count = len(view.offers)
         cost = self.cost if self.cost is not None else LIKELY * seconds / (1 + len(view.limits))
         if count and cost * count <= MOST_SECONDS and not self.day.is_frozen:

@@ -141,7 +141,7 @@ class JournalText:
         return self.base
 
     def give(self, day, most=2000):
-        """Gives a day the entries that wait, so many at most at a time, and compares what it can."""
+        """Gives a day the entries that wait, this many at most at a time, and compares what it can."""
         rows, marks, self.rows, self.marks = self.rows, collections.deque(self.marks), [], []
         for first in range(0, len(rows), most):
             answers = day.take(rows[first:first + most])

@@ -27,7 +27,7 @@ class Offers:
         self.change(number, lots)
 
     def change(self, number, lots):
-        """So many lots more are left of an offer, or fewer."""
+        """This many lots more are left of an offer, or fewer."""
         group = self.groups[number]
         self.left[number] += lots
         self.lots_waiting[group] += lots

@@ -25,7 +25,7 @@ def panel(title, *parts, note=None, more=None, class_='', is_list=False):
 
 
 def listed(title, made, rows, words, *parts, **more):
-    """A panel with a table of rows, or with words where there is none."""
+    """A panel with a table of rows, or with words if there is none."""
     return panel(title, made(rows, title) if rows else empty(words), *parts, **more)
 
 

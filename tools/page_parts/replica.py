@@ -5,7 +5,7 @@ import select
 import subprocess
 import tempfile
 
-SILENCE = 120           # seconds without a byte after which it is given up
+SILENCE = 120           # seconds of silence after which it is given up
 PIECE = 1 << 16
 WORKER = 62             # the worker that looks and proposes; nothing is committed
 

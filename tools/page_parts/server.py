@@ -37,7 +37,7 @@ class Refused(Exception):
 
 
 def read_request(line):
-    """The request that comes on a connection, or None where nothing comes."""
+    """The request that comes on a connection, or None if nothing comes."""
     data, end = b'', time.monotonic() + SECONDS
     while b'\r\n\r\n' not in data:
         line.settimeout(max(0.01, end - time.monotonic()))
@@ -173,7 +173,7 @@ class Server:
             return self.shown.answer(parts, asked)
 
     def stream(self, line):
-        """Says how it goes each second, and at once if something has changed. Where there are enough streams, it is said once, and asked for again soon."""
+        """Says how it goes each second, and at once if something has changed. If there are enough streams, it is said once, and asked for again soon."""
         is_kept = self.streams.acquire(blocking=False)
         try:
             if not is_kept:

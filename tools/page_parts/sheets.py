@@ -29,7 +29,7 @@ class Sheets:
             self.size -= len(self.texts.pop(next(iter(self.texts))))
 
     def text(self, entry):
-        """The sheet of a sweep, or None where it isn't kept."""
+        """The sheet of a sweep, or None if it isn't kept."""
         return zlib.decompress(self.texts[entry]).decode('latin-1') if entry in self.texts else None
 
     def view(self, entry, text):

@@ -9,7 +9,7 @@ import time
 from .group_view import NEAR, by_need
 
 ROWS, MOST_ROWS = 100, 20_000
-SILENT = 60_000         # milliseconds without a byte from a firm after which it is shown as silent
+SILENT = 60_000         # milliseconds of silence from a firm after which it is shown as silent
 FOUND = 100             # entries of a search
 LOOKED = 10_000         # entries that are looked at for those that follow a limit
 RECENT, BARS = 300_000, 30      # milliseconds before now of which entries are shown by time, and the bars that they are shown in
@@ -34,7 +34,7 @@ class Shown:
         return self.following.day
 
     def answer(self, parts, asked):
-        """The values of the page at a path, of its parts, or None where there is no such page. `asked` is the query."""
+        """The values of the page at a path, of its parts, or None if there is no such page. `asked` is the query."""
         pages = {'overview': self.overview, 'limits': self.limits, 'offers': self.offers, 'sweeps': self.sweeps, 'positions': self.positions,
                  'entries': self.entries, 'connections': self.connections, 'find': self.find}
         single = {'limits': self.limits, 'offers': self.offer, 'sweeps': self.sweep, 'entries': self.entry}
@@ -85,7 +85,7 @@ class Shown:
 
     @staticmethod
     def sum_of(numbers):
-        """The sum of numbers, or None where one isn't known."""
+        """The sum of numbers, or None if one isn't known."""
         numbers = list(numbers)
         return None if None in numbers else sum(numbers)
 
@@ -111,7 +111,7 @@ class Shown:
 
     @staticmethod
     def tenths(count):
-        """A tenth of a count, without a fraction where it has none."""
+        """A tenth of a count, without a fraction if it has none."""
         whole, rest = divmod(count, 10)
         return count / 10 if rest else whole
 

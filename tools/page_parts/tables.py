@@ -62,7 +62,7 @@ def limit_words(row):
 
 
 def bold(value):
-    """A number that matters, and nothing where it is 0."""
+    """A number that matters, and nothing if it is 0."""
     return tag('b', number(value)) if value else ''
 
 

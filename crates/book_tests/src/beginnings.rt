@@ -12,7 +12,7 @@ REPORT E1 R1 M1 B XF6 10 101.5 H1 = 6 OK OPEN
 REPORT E2 R2 M1 S XF6 10 101.5 H2 = 7 OK MATCHED
 ";
 
-/// The same of five thousand lots.
+/// The same for five thousand lots.
 const A_LARGE_TRADE: &str = "\
 DAY 20260105                        = 1 OK
 LIMIT G1 EXEC E1 100                = 2 OK
@@ -23,7 +23,7 @@ REPORT E1 R1 M1 B XF6 5000 101.5 H1 = 6 OK OPEN
 REPORT E2 R2 M1 S XF6 5000 101.5 H2 = 7 OK MATCHED
 ";
 
-/// The same of seven lots, and their give-up to A1.
+/// The same for seven lots, and their give-up to A1.
 const AN_OFFER: &str = "\
 DAY 20260105                      = 1 OK
 LIMIT G1 EXEC E1 100              = 2 OK
@@ -52,7 +52,7 @@ GIVEUP E1 L1 R1 A1 10 A2 12       = 12 OK OFFERS 1 2
 GIVEUP E2 L2 R2 A1 15             = 13 OK OFFERS 3 3
 ";
 
-/// The lines of a beginning by its name.
+/// Returns the lines of a beginning by its name.
 pub fn beginning(name: &str) -> &'static str {
     match name {
         "a trade" => A_TRADE,

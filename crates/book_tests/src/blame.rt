@@ -41,7 +41,7 @@ COMMIT 0
 ",
 ];
 
-/// The steps of a script.
+/// Returns the steps of a script.
 pub fn steps(alloc: Global, script: &str) -> Option<Vec<Step>> {
     let mut steps = Vec::new(alloc);
     for line in script.lines() {
@@ -53,13 +53,13 @@ pub fn steps(alloc: Global, script: &str) -> Option<Vec<Step>> {
     Some(steps)
 }
 
-/// Who is to blame for a step, where that can be told.
+/// Returns who is to blame for a step, if that can be known.
 fn blamed(alloc: Global, steps: &[Step], at: usize) -> Option<Option<u64>> {
     let reference = reference_of(alloc, "", "").ok()?;
     culprit(alloc, reference, steps, at).ok()
 }
 
-/// Whether the last step's commit was stale, by one entry.
+/// Returns whether the last step's commit was stale, by one entry.
 fn ends_stale(world: &World) -> bool {
     matches!(
         world.outcomes().last(),
@@ -67,7 +67,7 @@ fn ends_stale(world: &World) -> bool {
     )
 }
 
-/// Whether a run of these steps has one outcome each, the last stale, and nine entries.
+/// Returns whether a run of these steps has one outcome each, the last stale, and nine entries.
 fn is_run(alloc: Global, steps: &[Step]) -> Option<bool> {
     let reference = reference_of(alloc, "", "").ok()?;
     let world = run(alloc, reference, steps).ok()?;

@@ -1,4 +1,4 @@
-//! Commits of proposals for views that somebody made, and of copies: the book is as it was where one is
+//! Commits of proposals for views that somebody made, and of copies: the book is as it was if one is
 //! refused, and the proposal comes back. And sweeps of views that were just seen.
 
 ghost use Rattle.std.specs.Prelude.{◌≡◌, true};
@@ -46,7 +46,7 @@ ROOM CARRY C1 100
 END
 ";
 
-/// A proposal for the view of a sheet.
+/// Returns a proposal for the view of a sheet.
 fn proposal_for(alloc: Global, sheet: &str) -> Option<Proposal> {
     let sheet = Sheet::read(alloc, sheet.as_bytes()).ok()?;
     let view = sheet.view.copy().ok()?;
@@ -57,7 +57,7 @@ fn proposal_for(alloc: Global, sheet: &str) -> Option<Proposal> {
     }
 }
 
-/// What comes of a proposal: the number of its entry, or why it is refused.
+/// Returns what comes of a proposal: the number of its entry, or why it is refused.
 fn commit_told(rt: &impl Abort, alloc: Global, book: &mut Book, proposal: Proposal) -> String {
     let before = picture(rt, alloc, book);
     let lots = proposal.lots();
@@ -114,7 +114,7 @@ fn sweep_seen(rt: &impl Abort, alloc: Global, book: &mut Book, group: &Group) ->
     sweep_view(rt, alloc, book, view)
 }
 
-/// A book in which G1 has version 6 and offer 1 of seven lots.
+/// Returns a book in which G1 has version 6 and offer 1 of seven lots.
 fn book_with_an_offer(rt: &impl Abort, alloc: Global) -> Book {
     let mut world = world_of(rt, alloc, "", "", Patience::Never);
     let lines = beginning("an offer");

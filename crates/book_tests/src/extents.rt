@@ -1,4 +1,4 @@
-//! Questions whose answers are long: what is told is how much they have.
+//! Questions with long answers: only their length is reported.
 
 use crate::words::{number, word};
 use gu_book::Book;
@@ -6,7 +6,7 @@ use gu_terms::{AccountId, FirmId, MOST_ENTRIES, PositionRows, Stretch};
 use gu_text::texts::{append_last_number, append_last_word, append_number, append_word};
 use std::alloc::AllocError;
 
-/// Tells a stretch: whether it is the last one, the number from which to ask next, and how many notices it has.
+/// Appends a stretch: whether it is the last one, the number from which to ask next, and how many notices it has.
 fn tell_stretch(text: &mut Vec<u8>, stretch: &Stretch) -> Result<(), AllocError> {
     let word: &[u8] = if stretch.is_last { b"LAST" } else { b"MORE" };
     append_word(text, word)?;
@@ -14,7 +14,7 @@ fn tell_stretch(text: &mut Vec<u8>, stretch: &Stretch) -> Result<(), AllocError>
     append_last_number(text, stretch.notices.list.len() as u64)
 }
 
-/// Tells the stretch of a firm's notices from a number on.
+/// Appends the stretch of a firm's notices from a number on.
 fn tell_stretch_of(
     text: &mut Vec<u8>,
     book: &Book,
@@ -47,7 +47,7 @@ fn join_all(book: &Book, firm: &FirmId, joined: &mut Stretch) -> Result<u64, All
     Ok(count)
 }
 
-/// Tells how many stretches there are from a number on and how many notices they have, where these are the notices that are had at
+/// Appends how many stretches there are from a number on and how many notices they have, if these are the same notices as at
 /// once.
 fn tell_stretches_of(
     text: &mut Vec<u8>,
@@ -68,7 +68,7 @@ fn tell_stretches_of(
     append_last_number(text, all.list.len() as u64)
 }
 
-/// Tells how many entries are there, of those with a number up to one more than there are.
+/// Appends how many entries are found by the numbers up to one more than there are.
 fn tell_entries(text: &mut Vec<u8>, book: &Book) -> Result<(), AllocError> {
     let history = book.history();
     let mut count: u64 = 0;
@@ -81,7 +81,7 @@ fn tell_entries(text: &mut Vec<u8>, book: &Book) -> Result<(), AllocError> {
     append_last_number(text, count)
 }
 
-/// Tells how many instruments an account holds, and the lots of all, long and short.
+/// Appends how many instruments an account holds, and their lots, long and short.
 fn tell_rows(text: &mut Vec<u8>, held: &PositionRows) -> Result<(), AllocError> {
     let mut long: u64 = 0;
     let mut short: u64 = 0;
@@ -94,7 +94,7 @@ fn tell_rows(text: &mut Vec<u8>, held: &PositionRows) -> Result<(), AllocError> 
     append_last_number(text, short)
 }
 
-/// The same of a firm's account.
+/// Appends the same for a firm's account.
 fn tell_rows_of(
     text: &mut Vec<u8>,
     book: &Book,
@@ -107,7 +107,7 @@ fn tell_rows_of(
     }
 }
 
-/// What a book tells of such a question. Nothing is told where memory is refused.
+/// Returns the book's answer to such a question; nothing if memory is refused.
 pub fn tell_extent_of(text: &mut Vec<u8>, book: &Book, line: &str) -> Option<()> {
     if word(line, 0) == "ENTRIES" {
         return tell_entries(text, book).ok();

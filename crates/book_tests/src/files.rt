@@ -88,7 +88,7 @@ const BEHIND_THE_LARGEST: [Row; 12] = [
     (b"GUARANTOR,N5,N5", "BadRow 32101"),
 ];
 
-/// The text of a fault, and `OK` where there is none.
+/// Returns the text of a fault, and `OK` if there is none.
 pub fn text_of(rt: &impl Abort, alloc: Global, read: Result<Reference, RefFault>) -> String {
     match read {
         Ok(_) => format!(in alloc; "OK").ok().expect(rt, "a text"),
@@ -96,7 +96,7 @@ pub fn text_of(rt: &impl Abort, alloc: Global, read: Result<Reference, RefFault>
     }
 }
 
-/// Reads rows after those of a file, and compares what comes of it.
+/// Reads rows after those of a file, and compares the outcome.
 fn compare(rt: &impl Abort, alloc: Global, file: &[u8], table: &[Row]) {
     for (rows, want) in table {
         let mut reads = CountedReads::new(file.chain(*rows));

@@ -1,6 +1,6 @@
 //! Calls that are refused memory, one a test, with few allocations before them. Each of these tests passes whichever of its allocations
-//! fails, and where all of them fail from one on (tools/each-growth): a call that is refused memory says so, leaves what it has as it
-//! was, hands back what it was given, and does at the second try what it would have done, where there is memory then.
+//! fails, and if all of them fail from one on (tools/each-growth): a call that is refused memory says so, leaves what it has as it
+//! was, hands back what it was given, and does at the second try what it would have done, if there is memory then.
 
 use crate::blame::steps;
 use crate::files::push_rows;
@@ -20,12 +20,12 @@ use std::alloc::{AllocError, Global};
 use std::process::Abort;
 use std::str;
 
-/// Whether there is memory.
+/// Returns whether there is memory.
 fn has_memory(alloc: Global) -> bool {
     Vec::<u8>::with_capacity(alloc, 1).is_ok()
 }
 
-/// Files, and what becomes of each. One that is accepted has these rows.
+/// Files, and the verdict on each. An accepted one has these rows.
 const FILES: [(&str, &str); 4] = [
     (
         "FIRM,E1\nFIRM,C1\nGROUP,G1\nINSTRUMENT,XF6,G1\nACCOUNT,A1,C1\nAGREEMENT,P1,E1,A1\nGUARANTOR,E1,C1\n",
@@ -36,19 +36,19 @@ const FILES: [(&str, &str); 4] = [
     ("FIRM,E1\nGROUP,G1\nFIRM,E1\n", "Twice 3"),
 ];
 
-/// What becomes of a file.
+/// Returns the verdict on a file.
 fn read(alloc: Global, file: &str) -> Result<Reference, RefFault> {
     Reference::read(alloc, &mut CountedReads::new(file.as_bytes()))
 }
 
-/// Whether a reference has the rows of a file, in its order.
+/// Returns whether a reference has the rows of a file, in its order.
 fn has_rows(alloc: Global, reference: &Reference, file: &str) -> Result<bool, AllocError> {
     let mut rows = Vec::new(alloc);
     push_rows(&mut rows, reference)?;
     Ok(rows.as_slice() == file.as_bytes())
 }
 
-/// Whether a file is accepted with its rows, or refused for its fault.
+/// Returns whether a file is accepted with its rows, or refused for its fault.
 fn is_answered(alloc: Global, file: &str, want: &str) -> Result<bool, AllocError> {
     match read(alloc, file) {
         Ok(reference) => Ok(want == "OK" && has_rows(alloc, &reference, file)?),
@@ -74,7 +74,7 @@ fn refused_to_a_file_leaves_it_to_be_read_again(rt: HostRuntime) {
     }
 }
 
-/// The command of a line, at the second try where memory is refused to the first.
+/// Returns the command of a line, retrying once if memory is refused.
 fn command_again(alloc: Global, line: &str) -> Option<Command> {
     match command_of(alloc, line) {
         Some(command) => Some(command),
@@ -115,7 +115,7 @@ REPORT E1 R3 M2 B YF6 1 101.5 H1
 REPORT E2 R4 M2 S YF6 1 101.5 H2
 ";
 
-/// A book of the sample after them, and after further lines.
+/// Returns a book of the sample after them, and after further lines.
 fn book_after(alloc: Global, lines: &str) -> Option<Book> {
     let mut book = Book::new(alloc, reference_of(alloc, "", "").ok()?);
     let entered = match enter_all(alloc, &mut book, BEFORE) {
@@ -131,7 +131,7 @@ fn book_after(alloc: Global, lines: &str) -> Option<Book> {
     }
 }
 
-/// The same, at the second try where memory is refused to the first. Nothing comes of it once there is no memory.
+/// Returns the same, retrying once if memory is refused. Returns nothing once there is no memory.
 fn book_again(rt: &impl Abort, alloc: Global, lines: &str) -> Option<Book> {
     let book = match book_after(alloc, lines) {
         Some(book) => Some(book),
@@ -158,7 +158,7 @@ CLAIM C1 9                       = 17 NO 13 UnknownOffer
 DAY 20260106                     = 18 OK
 ";
 
-/// The receipt of a command, at the second try where memory is refused to the first, which changes nothing.
+/// Returns the receipt of a command, retrying once if memory is refused, which changes nothing.
 fn entered(rt: &impl Abort, alloc: Global, book: &mut Book, line: &str) -> Option<Receipt> {
     let before = shown(alloc, book)?;
     let command = command_again(alloc, line)?;
@@ -173,7 +173,7 @@ fn entered(rt: &impl Abort, alloc: Global, book: &mut Book, line: &str) -> Optio
     }
 }
 
-/// The text of a receipt.
+/// Returns the text of a receipt.
 fn receipt_text(alloc: Global, receipt: &Receipt) -> Result<Vec<u8>, AllocError> {
     match &receipt.entry {
         Entry::Asked { reply, .. } => reply_text(alloc, receipt.number, reply),
@@ -181,7 +181,7 @@ fn receipt_text(alloc: Global, receipt: &Receipt) -> Result<Vec<u8>, AllocError>
     }
 }
 
-/// The same, at the second try where memory is refused to the first.
+/// Returns the same, retrying once if memory is refused.
 fn receipt_text_again(alloc: Global, receipt: &Receipt) -> Option<Vec<u8>> {
     match receipt_text(alloc, receipt) {
         Ok(text) => Some(text),
@@ -189,7 +189,7 @@ fn receipt_text_again(alloc: Global, receipt: &Receipt) -> Option<Vec<u8>> {
     }
 }
 
-/// What answers the command of a line.
+/// Returns what answers the command of a line.
 fn answer_to(rt: &impl Abort, alloc: Global, book: &mut Book, line: &str) -> Option<Vec<u8>> {
     let receipt = entered(rt, alloc, book, line)?;
     let text = receipt_text_again(alloc, &receipt);
@@ -224,7 +224,7 @@ ROOM ACCT A1 100
 ROOM CARRY C1 100
 ";
 
-/// The view of G1, at the second try where memory is refused to the first.
+/// Returns the view of G1, retrying once if memory is refused.
 fn seen(rt: &impl Abort, book: &Book) -> Option<View> {
     let group = &Group::new(b"G1")?;
     match book.view(group) {
@@ -236,7 +236,7 @@ fn seen(rt: &impl Abort, book: &Book) -> Option<View> {
     }
 }
 
-/// The text of a view, at the second try where memory is refused to the first.
+/// Returns the text of a view, retrying once if memory is refused.
 fn view_text(alloc: Global, view: &View) -> Option<Vec<u8>> {
     let mut text = Vec::new(alloc);
     if tell_view(&mut text, view).is_err() {
@@ -246,7 +246,7 @@ fn view_text(alloc: Global, view: &View) -> Option<Vec<u8>> {
     Some(text)
 }
 
-/// The text of the view of G1.
+/// Returns the text of the view of G1.
 fn seen_text(rt: &impl Abort, alloc: Global, book: &Book) -> Option<Vec<u8>> {
     let view = seen(rt, book)?;
     let text = view_text(alloc, &view);
@@ -265,7 +265,7 @@ fn refused_to_a_view_leaves_it_to_be_seen_again(rt: HostRuntime) {
     }
 }
 
-/// The proposal for a view, at the second try where memory is refused to the first.
+/// Returns the proposal for a view, retrying once if memory is refused.
 fn proposal_for(alloc: Global, view: View) -> Option<Proposal> {
     if !view.nested() {
         return None;
@@ -277,12 +277,12 @@ fn proposal_for(alloc: Global, view: View) -> Option<Proposal> {
     }
 }
 
-/// The same of G1's.
+/// Returns the same for G1's.
 fn proposed(rt: &impl Abort, alloc: Global, book: &Book) -> Option<Proposal> {
     proposal_for(alloc, seen(rt, book)?)
 }
 
-/// A copy of a proposal, at the second try where memory is refused to the first.
+/// Returns a copy of a proposal, retrying once if memory is refused.
 fn copy_of(proposal: &Proposal) -> Option<Proposal> {
     match proposal.copy() {
         Ok(copy) => Some(copy),
@@ -290,7 +290,7 @@ fn copy_of(proposal: &Proposal) -> Option<Proposal> {
     }
 }
 
-/// Whether a proposal is the same as another.
+/// Returns whether a proposal is the same as another.
 fn is_same(proposal: &Proposal, other: &Proposal) -> bool {
     proposal.view().is_same(other.view())
         && proposal.takes().is_same(other.takes())
@@ -298,7 +298,7 @@ fn is_same(proposal: &Proposal, other: &Proposal) -> bool {
         && proposal.lots() == other.lots()
 }
 
-/// Commits a proposal, at the second try where memory is refused to the first, which changes nothing and hands the proposal back.
+/// Commits a proposal, retrying once if memory is refused, which changes nothing and hands the proposal back.
 fn committed(
     rt: &impl Abort,
     alloc: Global,
@@ -322,7 +322,7 @@ fn committed(
     }
 }
 
-/// The receipt of a sweep of G1.
+/// Returns the receipt of a sweep of G1.
 fn swept(rt: &impl Abort, alloc: Global, book: &mut Book) -> Option<Receipt> {
     let proposal = proposed(rt, alloc, book)?;
     let copy = copy_of(&proposal)?;
@@ -369,7 +369,8 @@ COMMIT 0
 COMMIT 1
 ";
 
-/// How many outcomes and entries a run of a script has, and whether its last commit is stale. Nothing comes of it where memory is refused.
+/// Returns how many outcomes and entries a run of a script has, and whether its last commit is stale. Returns nothing if memory is
+/// refused.
 fn run_told(alloc: Global, script: &str) -> Option<(usize, usize, bool)> {
     let steps = steps(alloc, script)?;
     let reference = reference_of(alloc, "", "").ok()?;

@@ -1,4 +1,4 @@
-//! What the house tells firms of its own accord.
+//! What the house reports firms of its own accord.
 
 use crate::transcript::{Patience, follow_all};
 

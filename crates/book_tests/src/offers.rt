@@ -97,7 +97,7 @@ fn give_up_again(
     }
 }
 
-/// How many open offers of a group are listed, with the number of the last one and the lots of all.
+/// Returns how many open offers of a group are listed, with the number of the last one and the lots of all.
 fn listed(rt: &impl Abort, offers: &Offers, group: &Group) -> (usize, u64, u64) {
     let list = offers.of_group(*group).ok().expect(rt, "memory");
     let mut last: u64 = 0;

@@ -6,7 +6,7 @@ use gu_world::World;
 use std::alloc::Global;
 use std::process::Abort;
 
-/// Steps, each with what is told of it.
+/// Steps, each with its outcome.
 const STEPS: &str = "\
 DAY 20260105          = 1 OK
 LIMIT G1 EXEC E1 100  = 2 OK
@@ -26,7 +26,7 @@ LIMIT G1 CARRY C1 100 = 8 OK
 LIMIT G1 EXEC E2 100  = 9 OK
 ";
 
-/// What is told of the outcome at a place; nothing past the last.
+/// Returns the text of the outcome at a place; nothing past the last.
 fn told_at(rt: &impl Abort, alloc: Global, world: &World, place: usize) -> Vec<u8> {
     let mut text = Vec::new(alloc);
     let found = world.outcomes().get(place).ok().expect(rt, "memory");
@@ -36,7 +36,7 @@ fn told_at(rt: &impl Abort, alloc: Global, world: &World, place: usize) -> Vec<u
     text
 }
 
-/// Compares what is told of the outcome at a place.
+/// Compares the text of the outcome at a place.
 fn compare(rt: &impl Abort, alloc: Global, world: &World, place: usize, want: &str) {
     let told = told_at(rt, alloc, world, place);
     let told = str::from_utf8(&told).unwrap_or("").trim_end();

@@ -1,4 +1,4 @@
-//! Questions to a book, and what it tells: line by line.
+//! Questions to a book, and what it reports: line by line.
 
 use crate::extents::tell_extent_of;
 use crate::words::{number, word};
@@ -20,14 +20,14 @@ pub fn end_line(text: &mut Vec<u8>) -> Result<(), AllocError> {
     Ok(())
 }
 
-/// Tells the kind and the name of a key, and a number.
+/// Reports the kind and the name of a key, and a number.
 pub fn tell_key(text: &mut Vec<u8>, key: &LimitKey, lots: u64) -> Result<(), AllocError> {
     append_word(text, key.kind().as_bytes())?;
     append_word(text, key.name())?;
     append_last_number(text, lots)
 }
 
-/// Tells limits: the key of each, the limit, its use and its room.
+/// Reports limits: the key of each, the limit, its use and its room.
 pub fn tell_limits(text: &mut Vec<u8>, rows: &[LimitRow]) -> Result<(), AllocError> {
     for row in rows {
         append_word(text, row.key.kind().as_bytes())?;
@@ -39,7 +39,7 @@ pub fn tell_limits(text: &mut Vec<u8>, rows: &[LimitRow]) -> Result<(), AllocErr
     Ok(())
 }
 
-/// Tells how many limits there are, and the sums of them and of their rooms.
+/// Appends how many limits there are, and the sums of them and of their rooms.
 fn tell_count(text: &mut Vec<u8>, rows: &[LimitRow]) -> Result<(), AllocError> {
     let mut limits: u64 = 0;
     let mut rooms: u64 = 0;
@@ -52,7 +52,7 @@ fn tell_count(text: &mut Vec<u8>, rows: &[LimitRow]) -> Result<(), AllocError> {
     append_last_number(text, rooms)
 }
 
-/// Tells an open offer: its number, what is left of it, its agreement, and the other names on its path.
+/// Reports an open offer: its number, what is left of it, its agreement, and the other names on its path.
 fn tell_offer(text: &mut Vec<u8>, offer: &ViewOffer) -> Result<(), AllocError> {
     append_word(text, b"OFFER")?;
     append_number(text, offer.number.get())?;
@@ -66,7 +66,7 @@ fn tell_offer(text: &mut Vec<u8>, offer: &ViewOffer) -> Result<(), AllocError> {
     end_line(text)
 }
 
-/// Tells a view: its version, its open offers, and the rooms of their keys.
+/// Reports a view: its version, its open offers, and the rooms of their keys.
 pub fn tell_view(text: &mut Vec<u8>, view: &View) -> Result<(), AllocError> {
     append_last_number(text, view.version())?;
     for offer in view.offers() {
@@ -79,7 +79,7 @@ pub fn tell_view(text: &mut Vec<u8>, view: &View) -> Result<(), AllocError> {
     Ok(())
 }
 
-/// Tells the first and the last offer of a view, how many there are, and how many rooms.
+/// Reports the first and the last offer of a view, how many there are, and how many rooms.
 fn tell_extent(text: &mut Vec<u8>, view: &View) -> Result<(), AllocError> {
     if let ([first, ..], [.., last]) = (view.offers(), view.offers()) {
         append_number(text, first.number.get())?;
@@ -89,7 +89,7 @@ fn tell_extent(text: &mut Vec<u8>, view: &View) -> Result<(), AllocError> {
     append_last_number(text, view.rooms().len() as u64)
 }
 
-/// A side, as it is reported.
+/// Returns a side as its word.
 fn side_word(side: Side) -> &'static [u8] {
     match side {
         Side::Buy => b"B",
@@ -97,7 +97,7 @@ fn side_word(side: Side) -> &'static [u8] {
     }
 }
 
-/// What became of an offer.
+/// Returns what became of an offer.
 fn event_word(event: OfferEvent) -> &'static [u8] {
     match event {
         OfferEvent::Offered => b"OFFERED",
@@ -109,7 +109,7 @@ fn event_word(event: OfferEvent) -> &'static [u8] {
     }
 }
 
-/// Tells a report of a trade: the entry that made it, and the report.
+/// Appends a report of a trade: the entry that made it, and the report.
 fn tell_matched(text: &mut Vec<u8>, entry: u64, report: &Report) -> Result<(), AllocError> {
     append_number(text, entry)?;
     append_word(text, report.id.get())?;
@@ -120,7 +120,7 @@ fn tell_matched(text: &mut Vec<u8>, entry: u64, report: &Report) -> Result<(), A
     append_last_word(text, report.account.get())
 }
 
-/// Tells an event of an offer: its number, the lots, the account, and the side and instrument of the trade.
+/// Reports an event of an offer: its number, the lots, the account, and the side and instrument of the trade.
 fn tell_event(text: &mut Vec<u8>, notice: &OfferNotice) -> Result<(), AllocError> {
     append_number(text, notice.offer.get())?;
     append_word(text, event_word(notice.event))?;
@@ -130,7 +130,7 @@ fn tell_event(text: &mut Vec<u8>, notice: &OfferNotice) -> Result<(), AllocError
     append_last_word(text, notice.symbol.get())
 }
 
-/// Tells the number from which to ask next, and each notice.
+/// Reports the number from which to ask next, and each notice.
 fn tell_notices(text: &mut Vec<u8>, next: u64, list: &[Notice]) -> Result<(), AllocError> {
     append_word(text, b"next")?;
     append_last_number(text, next)?;
@@ -143,7 +143,7 @@ fn tell_notices(text: &mut Vec<u8>, next: u64, list: &[Notice]) -> Result<(), Al
     Ok(())
 }
 
-/// Tells the open day, and all that an account holds.
+/// Reports the open day, and all that an account holds.
 fn tell_held(text: &mut Vec<u8>, held: &PositionRows) -> Result<(), AllocError> {
     append_last_number(text, held.day.map_or(0, |day| u64::from(day.number())))?;
     for row in &held.rows {
@@ -154,13 +154,13 @@ fn tell_held(text: &mut Vec<u8>, held: &PositionRows) -> Result<(), AllocError> 
     Ok(())
 }
 
-/// Tells how many entries there are, and the open day.
+/// Appends how many entries there are, and the open day.
 fn tell_book(text: &mut Vec<u8>, book: &Book) -> Result<(), AllocError> {
     append_number(text, book.history().len() as u64)?;
     append_last_number(text, book.day().map_or(0, |day| u64::from(day.number())))
 }
 
-/// Tells the keys over an agreement.
+/// Reports the keys over an agreement.
 fn tell_path(text: &mut Vec<u8>, keys: &[LimitKey]) -> Result<(), AllocError> {
     for key in keys {
         append_word(text, key.kind().as_bytes())?;
@@ -169,7 +169,7 @@ fn tell_path(text: &mut Vec<u8>, keys: &[LimitKey]) -> Result<(), AllocError> {
     Ok(())
 }
 
-/// Tells the limits of a group, or how many there are.
+/// Reports the limits of a group, or how many there are.
 fn tell_limits_of(
     text: &mut Vec<u8>,
     book: &Book,
@@ -186,7 +186,7 @@ fn tell_limits_of(
     told
 }
 
-/// Tells an answer: of a position the lots long and the lots short, and of each other kind what is told of it.
+/// Appends an answer: for a position the lots long and the lots short, and for each other kind its own words.
 fn tell_answer(text: &mut Vec<u8>, answer: &Answer) -> Result<(), AllocError> {
     match answer {
         Answer::Position { long, short } => {
@@ -201,7 +201,7 @@ fn tell_answer(text: &mut Vec<u8>, answer: &Answer) -> Result<(), AllocError> {
     }
 }
 
-/// Tells why there is no answer.
+/// Reports why there is no answer.
 fn tell_no_answer(text: &mut Vec<u8>, why: AskError) -> Result<(), AllocError> {
     match why {
         AskError::UnknownGroup => append_last_word(text, b"UNKNOWN GROUP"),
@@ -209,7 +209,7 @@ fn tell_no_answer(text: &mut Vec<u8>, why: AskError) -> Result<(), AllocError> {
     }
 }
 
-/// Tells what the book answers to a query.
+/// Appends the book's answer to a query.
 fn tell_query(text: &mut Vec<u8>, book: &Book, query: Query) -> Result<(), AllocError> {
     match book.answer(query) {
         Ok(answer) => {
@@ -221,7 +221,7 @@ fn tell_query(text: &mut Vec<u8>, book: &Book, query: Query) -> Result<(), Alloc
     }
 }
 
-/// Tells the extent of the view of a group.
+/// Reports the extent of the view of a group.
 fn tell_extent_of_view(text: &mut Vec<u8>, book: &Book, group: &Group) -> Result<(), AllocError> {
     match book.view(group) {
         Ok(view) => {
@@ -233,7 +233,7 @@ fn tell_extent_of_view(text: &mut Vec<u8>, book: &Book, group: &Group) -> Result
     }
 }
 
-/// Tells of the limits of a group, or of the view of a group.
+/// Reports of the limits of a group, or of the view of a group.
 fn tell_of_group(
     text: &mut Vec<u8>,
     book: &Book,
@@ -247,7 +247,7 @@ fn tell_of_group(
     }
 }
 
-/// Tells the keys over an agreement, where it is known.
+/// Appends the keys over an agreement, if it is known.
 fn tell_path_of(text: &mut Vec<u8>, book: &Book, agreement: AgreementId) -> Result<(), AllocError> {
     match path(book.reference(), agreement) {
         Some(path) => tell_path(text, path.keys()),
@@ -255,7 +255,7 @@ fn tell_path_of(text: &mut Vec<u8>, book: &Book, agreement: AgreementId) -> Resu
     }
 }
 
-/// What a book tells of a question that no script has. Nothing is told where memory is refused.
+/// Returns the book's answer to a question that no script has; nothing if memory is refused.
 fn tell_more(text: &mut Vec<u8>, book: &Book, line: &str) -> Option<()> {
     let name = word(line, 1).as_bytes();
     match word(line, 0) {
@@ -276,7 +276,7 @@ fn tell_more(text: &mut Vec<u8>, book: &Book, line: &str) -> Option<()> {
     }
 }
 
-/// Adds what a book tells of what was read of a line.
+/// Adds the book's answer to what was read of a line.
 fn tell_read(
     text: &mut Vec<u8>,
     book: &Book,
@@ -297,7 +297,7 @@ fn tell_read(
     }
 }
 
-/// Adds what a book tells of a question. Nothing is told where memory is refused.
+/// Adds the book's answer to a question; nothing if memory is refused.
 pub fn tell_of_book(text: &mut Vec<u8>, alloc: Global, book: &Book, line: &str) -> Option<()> {
     let read = Line::read(alloc, line.as_bytes(), 0);
     let told = tell_read(text, book, line, &read);

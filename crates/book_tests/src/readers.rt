@@ -9,7 +9,7 @@ use std::io;
 use std::io::Read;
 use std::process::Abort;
 
-/// Why the rows of a reader are refused, or `OK`.
+/// Returns why the rows of a reader are refused, or `OK`.
 fn told<R: Read + Drop>(rt: &impl Abort, alloc: Global, reader: R) -> String {
     text_of(
         rt,
@@ -75,7 +75,7 @@ const FAILING: [(&str, &str); 3] = [
     ("FIRM,E1\nFIRM,E1\n", "Twice 2"),
 ];
 
-/// Reads a file of a reader that fails after it, and compares what comes of it.
+/// Reads a file from a reader that fails after it, and compares the outcome.
 fn check_failing(rt: &impl Abort, alloc: Global, file: &str, want: &str) {
     let file = file.as_bytes();
     let text = told(rt, alloc, Failing { file });

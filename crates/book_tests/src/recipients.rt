@@ -1,4 +1,4 @@
-//! The firms that an entry may tell something: those that it tells, and no firm of another place.
+//! The firms that an entry may report something: those that it reports, and no firm of another place.
 
 use crate::trades::{report_of, take};
 use crate::transcript::{Patience, follow, world_of};
@@ -12,7 +12,7 @@ use std::alloc::{AllocError, Global};
 use std::process::Abort;
 use std::str;
 
-/// Lines with what they are answered, and the firms of the sample that the line's entry may tell something.
+/// Lines with what they are answered, and the firms of the sample that the line's entry may report something.
 const ROWS: &str = "\
 DAY 20260105                      = 1 OK                              |
 LIMIT G1 EXEC E1 100              = 2 OK                              |
@@ -44,7 +44,7 @@ struct Kept {
 /// Takes a give-up in, whose offers are of a group.
 pub fn give_up(offers: &mut Offers, command: &Command, group: Group) -> Result<(), AllocError> {
     if let Command::GiveUp(it) = command {
-        // The lines tell how many they are.
+        // The number of lines.
         let _ = it.lines.as_slice();
         if offers.count() < 10_000 {
             offers.give_up(it.firm, it.report, group, &it.lines)?;
@@ -53,7 +53,7 @@ pub fn give_up(offers: &mut Offers, command: &Command, group: Group) -> Result<(
     Ok(())
 }
 
-/// Takes an entry in, where it is of a report or a give-up that was accepted.
+/// Takes an entry in, if it is of a report or a give-up that was accepted.
 fn take_in(kept: &mut Kept, entry: &Entry) -> Result<(), AllocError> {
     match entry {
         Entry::Asked {
@@ -100,7 +100,7 @@ fn append_names(
     Ok(())
 }
 
-/// The firms of the sample that each entry of a book may tell something, a line for each entry.
+/// Returns the firms of the sample that each entry of a book may report something, a line for each entry.
 fn recipients(alloc: Global, book: &Book, kept: &Kept) -> Result<Vec<u8>, AllocError> {
     let register = Register {
         reference: book.reference(),
@@ -117,13 +117,13 @@ fn recipients(alloc: Global, book: &Book, kept: &Kept) -> Result<Vec<u8>, AllocE
     Ok(text)
 }
 
-/// A row's line, and its firms.
+/// Returns a row's line, and its firms.
 fn columns(row: &str) -> (&str, &str) {
     let (line, firms) = row.split_once("|").unwrap_or((row, ""));
     (line, firms.trim_end())
 }
 
-/// The firms of the rows, a line for each row.
+/// Returns the firms of the rows, a line for each row.
 fn firms_of_rows(alloc: Global) -> Result<Vec<u8>, AllocError> {
     let mut text = Vec::new(alloc);
     for row in ROWS.lines() {
@@ -154,7 +154,7 @@ fn an_entry_may_tell_the_firms_that_it_tells_and_no_others(rt: HostRuntime) {
     assert!(rt; told == want, "{}", str::from_utf8(&told).unwrap_or("?"));
 }
 
-/// The firms of the sample that the book says each of its entries informs, a line for each entry.
+/// Returns the firms of the sample that the book says each of its entries informs, a line for each entry.
 fn informed(alloc: Global, book: &Book) -> Result<Vec<u8>, AllocError> {
     let mut text = Vec::new(alloc);
     for place in 0..book.history().len() {

@@ -1,9 +1,9 @@
-//! Lines that are said again where memory is refused: in long transcripts, whichever of their allocations fails. What is refused memory
+//! Lines that are repeated if memory is refused: in long transcripts, whichever of their allocations fails. What is refused memory
 //! says so, leaves all as it was, and succeeds at the second try.
 
 use crate::transcript::{Patience, follow_all};
 
-/// Each allocation fails where a vector or a map is full: after 4, 8, 16, 32, 64 and 128 entries.
+/// Each allocation fails when a vector or a map is full: after 4, 8, 16, 32, 64 and 128 entries.
 const TRANSCRIPTS: &str = "\
 == reports and limits
 ROWS GUARANTOR,E2,C1; GUARANTOR,E2,C2; GUARANTOR,C1,E1

@@ -69,7 +69,7 @@ GUARANTOR,N#+1,N# x 999
 GUARANTOR,N0,N999
 ";
 
-/// The rows of a file by its name.
+/// Returns the rows of a file by its name.
 fn rows_of(name: &str) -> &'static str {
     match name {
         "the house" => HOUSE,
@@ -88,7 +88,7 @@ fn push_number(text: &mut String, n: u64) -> Result<(), AllocError> {
     }
 }
 
-/// How much more than the number a `#` means, by the text after it, and the rest of this text.
+/// Returns how much more than the number a `#` means, by the text after it, and the rest of this text.
 fn more_after(part: &str) -> (u64, &str) {
     if let Some(rest) = part.strip_prefix("+1") {
         return (1, rest);
@@ -121,7 +121,7 @@ fn push_rows(file: &mut String, row: &str) -> Result<(), AllocError> {
     Ok(())
 }
 
-/// The text of a file, and more rows, with `; ` between two.
+/// Returns the text of a file, and more rows, with `; ` between two.
 pub fn file_of(alloc: Global, name: &str, rows: &str) -> Result<String, AllocError> {
     let mut file = String::new(alloc);
     for row in rows_of(name).lines() {
@@ -133,7 +133,7 @@ pub fn file_of(alloc: Global, name: &str, rows: &str) -> Result<String, AllocErr
     Ok(file)
 }
 
-/// The reference of a file with more rows.
+/// Returns the reference of a file with more rows.
 pub fn reference_of(alloc: Global, name: &str, rows: &str) -> Result<Reference, RefFault> {
     let file = file_of(alloc, name, rows)?;
     Reference::read(alloc, &mut CountedReads::new(file.as_bytes()))

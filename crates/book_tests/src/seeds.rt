@@ -4,7 +4,7 @@ use crate::sample::reference_of;
 use crate::transcript::{Patience, follow, world_of};
 use gu_terms::Seed;
 use gu_world::World;
-use std::alloc::Global;
+use std::alloc::{AllocError, Global};
 use std::process::Abort;
 
 /// Reports and give-ups whose ids have one hash, and trades whose match ids have one, under the seed 0: their first 24 bytes take
@@ -43,7 +43,31 @@ EACH 10000000 10200000 1: REPORT E1 OBXDFWPGUMLAQOEMee2FH7sr#ZZZZZZZZZZZZZZZZ WT
 BOOK = 200001 20260105
 ";
 
-/// A world of the sample whose tables have another seed.
+/// The limits that give-ups of the sample need.
+const LIMITS: &str = "\
+DAY 20260105 = 1 OK
+LIMIT G1 EXEC E1 1000000000 = 2 OK
+LIMIT G1 AGR P1 1000000000 = 3 OK
+LIMIT G1 ACCT A1 1000000000 = 4 OK
+LIMIT G1 CARRY C1 1000000000 = 5 OK
+";
+
+/// Returns lines for 4,000 trades of such ids: each is reported, given up, and then refused, so that the next ones find room for open offers.
+fn given_up_from(alloc: Global, first: u32) -> Result<String, AllocError> {
+    let first = u64::from(first);
+    let (offer, end_of_offers) = (first + 1, first + 4_001);
+    let (first, end) = (first + 10_000_000, first + 10_004_000);
+    format!(in alloc;
+        "\
+EACH {first} {end} 1: REPORT E1 OBXDFWPGUMLAQOEMee2FH7sr#ZZZZZZZZZZZZZZZZ M# B XF6 2 101.5 H1 = OK OPEN
+EACH {first} {end} 1: REPORT E2 S# M# S XF6 2 101.5 H2 = OK MATCHED
+EACH {first} {end} 1: GIVEUP E1 OBXDFWPGUMLAQOEMee2FH7sr#ZZZZZZZZZZZZZZZZ OBXDFWPGUMLAQOEMee2FH7sr#ZZZZZZZZZZZZZZZZ A1 1 = OK OFFERS
+EACH {offer} {end_of_offers} 1: REFUSE C1 # 1 = OK LOTS 1
+"
+    )
+}
+
+/// Returns a world of the sample whose tables have another seed.
 fn seeded(rt: &impl Abort, alloc: Global) -> World {
     let reference = reference_of(alloc, "", "").ok().expect(rt, "a reference");
     World::seeded(alloc, reference, Seed::new(20_260_105))
@@ -77,4 +101,31 @@ fn answers_do_not_depend_on_the_seed(rt: HostRuntime) {
 fn colliding_ids_cost_nothing_under_another_seed(rt: HostRuntime) {
     let mut world = seeded(&rt, rt.alloc());
     follow(&rt, rt.alloc(), &mut world, "many", MANY, Patience::Never);
+}
+
+/// The lots of these reports that are given up are counted in a table of their own, under the seed of the book.
+#[test]
+fn colliding_give_ups_cost_nothing_under_another_seed(rt: HostRuntime) {
+    let mut world = seeded(&rt, rt.alloc());
+    follow(
+        &rt,
+        rt.alloc(),
+        &mut world,
+        "limits",
+        LIMITS,
+        Patience::Never,
+    );
+    for block in 0..15_u32 {
+        let text = given_up_from(rt.alloc(), block.saturating_mul(4_000))
+            .ok()
+            .expect(&rt, "memory");
+        follow(
+            &rt,
+            rt.alloc(),
+            &mut world,
+            "given up",
+            &text,
+            Patience::Never,
+        );
+    }
 }

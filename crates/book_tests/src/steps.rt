@@ -1,4 +1,4 @@
-//! Lines that ask for steps, and what is told of these.
+//! Lines that ask for steps, and the text of their outcomes.
 
 use gu_terms::{Command, Day, Entry, Group, ReportSide, SweepEntry};
 use gu_text::texts::{append_last_number, append_last_word, append_number, append_word};
@@ -6,7 +6,7 @@ use gu_text::{Line, TextError, append_outcome};
 use gu_world::{Outcome, Step, Worker, World};
 use std::alloc::{AllocError, Global};
 
-/// A report on a day that it names.
+/// Returns a report on a day that it names.
 fn report_on(command: &Command, on: Day) -> Option<Step> {
     match command {
         Command::ReportSide(report) => Some(Step::Enter(Command::ReportSide(ReportSide {
@@ -17,7 +17,7 @@ fn report_on(command: &Command, on: Day) -> Option<Step> {
     }
 }
 
-/// The same, where a step enters one.
+/// Returns the report that a step enters, if it enters one.
 fn step_on(step: &Step, on: Day) -> Option<Step> {
     match step {
         Step::Enter(command) => report_on(command, on),
@@ -25,7 +25,7 @@ fn step_on(step: &Step, on: Day) -> Option<Step> {
     }
 }
 
-/// The same, where a step was read of a line.
+/// Returns the report of the step in a line, if the line is a step.
 fn read_on(read: &Result<Option<Line>, TextError>, on: Day) -> Option<Step> {
     match read {
         Ok(Some(Line::Step(step))) => step_on(step, on),
@@ -33,7 +33,7 @@ fn read_on(read: &Result<Option<Line>, TextError>, on: Day) -> Option<Step> {
     }
 }
 
-/// The step of a line as `20260105 REPORT E1 R1 M1 B XF6 10 101.5 H1`.
+/// Returns the step of a line as `20260105 REPORT E1 R1 M1 B XF6 10 101.5 H1`.
 fn dated(alloc: Global, line: &str) -> Option<Step> {
     let (date, report) = line.split_once(" ")?;
     let on = Day::read(date.as_bytes()).ok()?;
@@ -43,7 +43,7 @@ fn dated(alloc: Global, line: &str) -> Option<Step> {
     step
 }
 
-/// The command of a line.
+/// Returns the command of a line.
 pub fn command_of(alloc: Global, line: &str) -> Option<Command> {
     match Line::read(alloc, line.as_bytes(), 0) {
         Ok(Some(Line::Step(Step::Enter(command)))) => Some(command),
@@ -88,7 +88,7 @@ fn take_dated(alloc: Global, world: &mut World, line: &str) -> Option<bool> {
     }
 }
 
-/// Takes the steps that a line asks for, and says whether there are any. Nothing comes of it where memory is refused.
+/// Takes the steps that a line asks for, and returns whether there are any. Gives up if memory is refused.
 pub fn take_steps(alloc: Global, world: &mut World, line: &str) -> Option<bool> {
     match Line::read(alloc, line.as_bytes(), 0) {
         Ok(Some(line)) => take_read(world, line),
@@ -98,7 +98,7 @@ pub fn take_steps(alloc: Global, world: &mut World, line: &str) -> Option<bool> 
     }
 }
 
-/// Tells what a sweep takes, where that is something, and its cut.
+/// Appends what a sweep takes, if anything, and its cut.
 fn tell_sweep(text: &mut Vec<u8>, sweep: &SweepEntry) -> Result<(), AllocError> {
     for take in sweep.takes.as_slice() {
         if take.lots > 0 {
@@ -119,7 +119,7 @@ fn tell_sweep(text: &mut Vec<u8>, sweep: &SweepEntry) -> Result<(), AllocError> 
     Ok(())
 }
 
-/// Tells what came of a step.
+/// Appends the outcome of a step.
 pub fn tell_outcome(text: &mut Vec<u8>, outcome: &Outcome) -> Result<(), AllocError> {
     append_outcome(text, None, None, outcome)?;
     match outcome {

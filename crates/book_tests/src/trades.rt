@@ -7,7 +7,7 @@ use gu_world::Step;
 use std::alloc::{AllocError, Global};
 use std::process::Abort;
 
-/// Reports of one day, and what becomes of each.
+/// Reports of one day, and the fate of each.
 const REPORTS: &str = "\
 REPORT E1 R1 M1 B XF6 10 101.5 H1  = waits
 REPORT E1 R1 M9 S XF6 10 101.5 H1  = is known
@@ -27,7 +27,7 @@ REPORT E1 R8 M7 B XF6 10 101.5 H1  = waits
 REPORT E2 R8 M7 S XF6 10 101.5 H2  = is of a trade
 ";
 
-/// The report that a firm asks for, on one day.
+/// Returns the report that a firm asks for, on one day.
 pub fn report_of(command: &Command) -> Option<Report> {
     let day = Day::new(2026, 1, 5)?;
     match command {
@@ -46,7 +46,7 @@ pub fn report_of(command: &Command) -> Option<Report> {
     }
 }
 
-/// The same, where a step enters it.
+/// Returns the report that a step enters, if it enters one.
 fn report_entered(step: &Step) -> Option<Report> {
     match step {
         Step::Enter(command) => report_of(command),
@@ -54,7 +54,7 @@ fn report_entered(step: &Step) -> Option<Report> {
     }
 }
 
-/// The same, where a step was read of a line.
+/// Returns the report of the step in a line, if the line is a step.
 fn report_in(read: &Result<Option<Line>, TextError>) -> Option<Report> {
     match read {
         Ok(Some(Line::Step(step))) => report_entered(step),
@@ -62,7 +62,7 @@ fn report_in(read: &Result<Option<Line>, TextError>) -> Option<Report> {
     }
 }
 
-/// The report of a line.
+/// Returns the trade report that a line describes.
 fn read_report(alloc: Global, line: &str) -> Option<Report> {
     let read = Line::read(alloc, line.as_bytes(), 0);
     let report = report_in(&read);
@@ -70,7 +70,7 @@ fn read_report(alloc: Global, line: &str) -> Option<Report> {
     report
 }
 
-/// Takes in a report where it is new and fits, and tells what becomes of it.
+/// Takes in a report if it is new and fits, and appends its fate.
 pub fn take(trades: &mut Trades, report: &Report) -> Result<&'static str, AllocError> {
     if trades.side_of(report.firm, report.id).is_some() {
         return Ok("is known");
@@ -95,7 +95,7 @@ pub fn take(trades: &mut Trades, report: &Report) -> Result<&'static str, AllocE
     })
 }
 
-/// The same, at the second try where memory is refused to the first, which changes nothing.
+/// Returns the same, retrying once if memory is refused, which changes nothing.
 fn take_again(rt: &impl Abort, trades: &mut Trades, report: &Report) -> &'static str {
     let before = trades.trade(report.match_id);
     if let Ok(told) = take(trades, report) {

@@ -1,4 +1,4 @@
-//! Transcripts: what is said to a world line by line, and after ` = ` what it tells. `== name` begins one, in a world of its own,
+//! Transcripts: lines for a world, each with its answer after ` = `. `== name` begins one, in a world of its own,
 //! whose reference is the sample. Below it `FILE name` may give another file, `ROWS row; row` for more rows, and `BEHIND name`
 //! for the lines of a beginning. A line is one of a script (docs/rules/script.md), or one of these:
 //!
@@ -7,18 +7,18 @@
 //! - `VIEW G1`: the view of a group; `LOOK 0`: what a worker saw last
 //! - `EXTENT G1`: the first and the last open offer of a group, how many there are, and how many rooms
 //! - `COUNT G1`: how many limits are set in a group, and the sums of them and of their rooms
-//! - `HELD E1 H1`: what a firm is told that an account holds
+//! - `HELD E1 H1`: the answer to a firm that asks what an account holds
 //! - `PATH P1`: the keys over an agreement
-//! - `NOTICES E1 7`: what a firm is told of the entries from a number on
-//! - `STRETCH E1 7`: of the stretch from a number on whether it is the last one, the number from which to ask next, and how many
+//! - `NOTICES E1 7`: the notices that a firm receives for the entries from a number on
+//! - `STRETCH E1 7`: for the stretch from a number on, whether it is the last one, the number from which to ask next, and how many
 //!   notices it has
 //! - `STRETCHES E1 7`: how many stretches there are from a number on, and how many notices they have: those of `NOTICES E1 7`
 //! - `ROWS E1 H1`: how many instruments an account holds, and the lots of all, long and short
 //! - `ENTRIES`: how many entries are found by their numbers
 //! - `EACH 10 40 3: line; line`: these lines for each third number from 10 up to 40, which takes the place of `#`, and the next two of
-//!   `#+1` and `#+2`; what is told to each has in it what comes after ` = `
+//!   `#+1` and `#+2`; each answer contains what comes after ` = `
 //!
-//! What is told in several lines has `, ` between two of them.
+//! An answer of several lines has `, ` between two of them.
 
 use crate::beginnings::beginning;
 use crate::questions::{tell_of_book, tell_view};
@@ -37,7 +37,7 @@ use std::str;
 #[derive(Clone, Copy)]
 pub enum Patience {
     Never,
-    /// Once to the steps, which change nothing then, and once to what is told.
+    /// Memory is refused once to the steps, which then change nothing, and once to the answers.
     Once,
 }
 
@@ -74,7 +74,7 @@ fn show(text: &mut Vec<u8>, alloc: Global, book: &Book) -> Option<()> {
     Some(())
 }
 
-/// What a book of the sample shows, at the second try where memory is refused to the first; nothing where it is refused to both.
+/// Returns what a book of the sample shows, retrying once if memory is refused; nothing if it is refused again.
 pub fn shown(alloc: Global, book: &Book) -> Option<Vec<u8>> {
     let mut text = Vec::new(alloc);
     if show(&mut text, alloc, book).is_none() {
@@ -84,12 +84,12 @@ pub fn shown(alloc: Global, book: &Book) -> Option<Vec<u8>> {
     Some(text)
 }
 
-/// The same, where memory may be refused once.
+/// Returns the same, with memory refused at most once.
 pub fn picture(rt: &impl Abort, alloc: Global, book: &Book) -> Vec<u8> {
     shown(alloc, book).expect(rt, "memory")
 }
 
-/// Tells what a worker saw, from a line as `LOOK 0`.
+/// Appends what a worker saw, from a line such as `LOOK 0`.
 fn tell_look(text: &mut Vec<u8>, world: &World, line: &str) -> Option<()> {
     let worker = Worker::new(u8::try_from(number(line, 1)?).ok()?)?;
     match world.look(worker) {
@@ -98,7 +98,7 @@ fn tell_look(text: &mut Vec<u8>, world: &World, line: &str) -> Option<()> {
     }
 }
 
-/// Adds what a world tells of a question, or of its last step where there is none. Nothing comes of it where memory is refused.
+/// Adds a world's answer to a question, or the outcome of its last step if there is none; nothing if memory is refused.
 fn tell(text: &mut Vec<u8>, alloc: Global, world: &World, question: &str) -> Option<()> {
     match word(question, 0) {
         "" => match world.outcomes().last() {
@@ -110,7 +110,7 @@ fn tell(text: &mut Vec<u8>, alloc: Global, world: &World, question: &str) -> Opt
     }
 }
 
-/// What a world tells of a question, or of its last step.
+/// Returns a world's answer to a question, or the outcome of its last step.
 fn told(
     rt: &impl Abort,
     alloc: Global,
@@ -130,7 +130,7 @@ fn told(
     text
 }
 
-/// Takes the steps of a line, at the second try where memory is refused to the first: then the book shows what it showed before.
+/// Takes the steps of a line, retrying once if memory is refused: then the book shows what it showed before.
 fn take_again(rt: &impl Abort, alloc: Global, world: &mut World, line: &str) -> bool {
     let before = picture(rt, alloc, world.book());
     let count = world.outcomes().len();
@@ -146,7 +146,7 @@ fn take_again(rt: &impl Abort, alloc: Global, world: &mut World, line: &str) -> 
     take_steps(alloc, world, line).expect(rt, "memory at the second try")
 }
 
-/// What is told to a line, whose steps are taken before.
+/// Returns what answers a line, whose steps are taken before.
 fn say(
     rt: &impl Abort,
     alloc: Global,
@@ -168,7 +168,7 @@ fn fill(text: &mut String, form: &str, n: u64) -> Result<(), AllocError> {
     push_numbered(text, form, n)
 }
 
-/// A form with a number for each `#`, at the second try where memory is refused to the first.
+/// Returns a form with a number for each `#`, retrying once if memory is refused.
 fn numbered(rt: &impl Abort, alloc: Global, form: &str, n: u64) -> String {
     let mut text = String::new(alloc);
     if fill(&mut text, form, n).is_err() {
@@ -218,7 +218,7 @@ fn say_each(
     }
 }
 
-/// Whether what is told has these lines, with `, ` between two of them.
+/// Returns whether an answer has these lines, with `, ` between two of them.
 fn has_lines(told: &str, lines: &str) -> bool {
     let mut wanted = lines.split(", ");
     for line in told.split("\n") {
@@ -230,7 +230,7 @@ fn has_lines(told: &str, lines: &str) -> bool {
     wanted.next().is_none()
 }
 
-/// Says a line, and compares what is told.
+/// Says a line, and compares the answer.
 fn say_one(
     rt: &impl Abort,
     alloc: Global,
@@ -249,7 +249,7 @@ fn say_one(
     assert!(rt; has_lines(told, want), "{name}: {line}: told {told}");
 }
 
-/// Says lines, and compares what is told to each.
+/// Says lines, and compares the answer to each.
 pub fn follow(
     rt: &impl Abort,
     alloc: Global,
@@ -263,7 +263,7 @@ pub fn follow(
     }
 }
 
-/// A world of a file with more rows, read at the second try where memory is refused to the first.
+/// Returns a world of a file with more rows, read at the second try if memory is refused to the first.
 pub fn world_of(
     rt: &impl Abort,
     alloc: Global,
@@ -284,7 +284,8 @@ pub fn world_of(
     }
 }
 
-/// What comes after a mark with which a text begins, up to the end of its line, and the lines below; without the mark nothing, and all.
+/// Returns what comes after a mark with which a text begins, up to the end of its line, and the lines below; without the mark nothing, and
+/// all.
 fn marked<'a>(text: &'a str, mark: &str) -> (&'a str, &'a str) {
     match text.strip_prefix(mark) {
         Some(rest) => rest.split_once("\n").unwrap_or((rest, "")),

@@ -146,7 +146,7 @@ fn lines_are_answered_as_a_script_is(rt: HostRuntime) {
         Blank::new(4),
         &transcript,
     );
-    // Others hear of each of the 16 entries, the last of them too.
+    // Others receive each of the 16 entries, including the last.
     assert_eq!(rt; heard, (16, 16));
 }
 

@@ -42,14 +42,14 @@ CUT 4(0*2000)/ -> BAD LINE//
 CUT 4/CLOSE/CUT 4/ -> CUT//CLOSING/
 CLOSE/CUT 4/ -> CLOSING//CUT//";
 
-/// A text with LF and CR in the places of their signs.
+/// Returns a text with LF and CR in the places of their signs.
 fn bytes_of(alloc: Global, text: &str) -> Result<String, AllocError> {
     meant(alloc, text)?
         .replace(alloc, "/", "\n")?
         .replace(alloc, "~", "\r")
 }
 
-/// What answers pieces that a new connection brings.
+/// Returns what answers pieces that a new connection brings.
 fn served<E: EntryLedger, S: LotLedger, R: Wait>(
     alloc: Global,
     operator: &mut Operator<'_, E, S, R, TestOffice, Heard>,

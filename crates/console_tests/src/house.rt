@@ -32,7 +32,7 @@ AGREEMENT,P3,E2,A1
 AGREEMENT,P4,E2,A3
 ";
 
-/// A book of the sample without entries.
+/// Returns a book of the sample without entries.
 pub fn book_of(alloc: Global) -> Option<Book> {
     let read = Reference::read(alloc, &mut CountedReads::new(ROWS.as_bytes()));
     Some(Book::new(alloc, read.ok()?))
@@ -120,7 +120,7 @@ impl Office for TestOffice {
     }
 }
 
-/// Counts the entries that others hear of, and those of them that an operator made at this office's moment, and knows the number of the
+/// Counts the entries that others receive, and those of them that an operator made at this office's moment, and keeps the number of the
 /// last.
 #[derive(Drop)]
 pub struct Heard {
@@ -130,7 +130,7 @@ pub struct Heard {
 }
 
 impl Heard {
-    /// Nothing was heard yet.
+    /// Creates one that has received nothing yet.
     pub fn new() -> Self {
         Heard {
             entries: AtomicU64::new(0),
@@ -139,7 +139,7 @@ impl Heard {
         }
     }
 
-    /// Returns how many entries were heard of, and the number of the last.
+    /// Returns how many entries were received, and the number of the last.
     pub fn counts(&self) -> (u64, u64) {
         (
             self.entries.load(Ordering::SeqCst),

@@ -53,7 +53,7 @@ fn at_most_256_entries_are_shown_at_once(rt: HostRuntime) {
     assert_eq!(rt; heard, (601, 601));
 }
 
-/// Entries of 352 to 354 bytes, `@` for sixteen pairs of 21: of the first 185 the lines have 65,382 bytes, and no 186th fits.
+/// Entries of 352 to 354 bytes, `@` for sixteen pairs of 21: the lines of the first 185 have 65,382 bytes, and a 186th doesn't fit.
 const BYTES: &str = "\
 (- GIVEUP E1 L% R1@
 *1..400)> JOURNAL

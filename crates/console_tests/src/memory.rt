@@ -1,4 +1,4 @@
-//! Lines whose allocations fail. The test passes whichever of its allocations fails, and where all fail from one on (tools/each-growth): a
+//! Lines whose allocations fail. The test passes whichever of its allocations fails, and if all fail from one on (tools/each-growth): a
 //! line that is answered by MEMORY, or by nothing, has done nothing, and at the second try does what it would have done.
 
 ghost use Rattle.std.specs.Prelude.{◌≡◌};
@@ -37,7 +37,7 @@ STATUS = DESK OPEN DAY 20260105 ENTRIES 10 OF 1000000 SWEPT 4 CONNECTIONS 2 OF 8
 nonsense = BAD LINE//
 CUT 4 = CUT//";
 
-/// Whether bytes are a text, in which `/` is LF.
+/// Returns whether bytes are a text, in which `/` is LF.
 fn is_text(bytes: &[u8], text: &str) -> bool {
     let text = text.as_bytes();
     if bytes.len() != text.len() {
@@ -48,7 +48,7 @@ fn is_text(bytes: &[u8], text: &str) -> bool {
     })
 }
 
-/// What answers a line, at the second try where memory fails for the first; none where it fails for the second too.
+/// Returns the answer to a line, retrying once if memory is refused; none if the second try fails too.
 fn answered<E: EntryLedger, S: LotLedger, R: Wait + Abort>(
     rt: &R,
     alloc: Global,
@@ -60,14 +60,14 @@ fn answered<E: EntryLedger, S: LotLedger, R: Wait + Abort>(
         match operator.answer(line.as_bytes(), &mut output) {
             Ok(_) if is_text(&output, "MEMORY//") => {}
             Ok(_) => return Some(output),
-            // The next JOURNAL goes on where this one would have begun: its answer is compared by the caller.
+            // The next JOURNAL continues from the place where this one would have begun; the caller compares its answer.
             Err(AllocError) => assert!(rt; output.is_empty(), "{line}"),
         }
     }
     None
 }
 
-/// Tells the lines, and compares their answers. A sweep whose sheet has no memory is answered by its line alone.
+/// Sends the lines, and compares their answers. A sweep whose sheet has no memory is answered by its line alone.
 fn tell_lines<E: EntryLedger, S: LotLedger, R: Wait + Abort>(
     rt: &R,
     alloc: Global,
@@ -83,7 +83,7 @@ fn tell_lines<E: EntryLedger, S: LotLedger, R: Wait + Abort>(
     }
 }
 
-/// Tells the lines at a desk that is opened over a book. Where there is no memory to open it, nothing is told.
+/// Sends the lines to a desk that is opened over a book. If there is no memory to open it, nothing is sent.
 fn tell_at<E: EntryLedger, S: LotLedger, R: Wait + Abort>(
     rt: &R,
     alloc: Global,

@@ -11,14 +11,14 @@ use std::alloc::{AllocError, Global};
 use std::process::Abort;
 use std::sync::ledger::Blank;
 
-/// The history of a book, for a desk over it.
+/// Returns the history of a book, for a desk over it.
 pub fn annals_of(rt: &impl Abort, alloc: Global, book: &Book) -> BlankAnnals
     ensures { result.entries ≡ book.now.history }
 {
     BlankAnnals::of(alloc, book).ok().expect(rt, "memory")
 }
 
-/// A desk over a book, with three seats.
+/// Returns a desk over a book, with three seats.
 fn opened<E: EntryLedger, S: LotLedger, R: Abort>(
     rt: &R,
     alloc: Global,
@@ -59,7 +59,7 @@ fn keeping<E: EntryLedger, S: LotLedger>(
     keeping
 }
 
-/// A desk over a book, with three seats that keep their receipts.
+/// Returns a desk over a book, with three seats that keep their receipts.
 pub fn desk_of<E: EntryLedger, S: LotLedger, R: Abort>(
     rt: &R,
     alloc: Global,

@@ -51,7 +51,7 @@ fn a_line_is_known_before_it_is_sent(rt: HostRuntime) {
     }
 }
 
-/// A text with LF and CR in the places of their signs.
+/// Returns a text with LF and CR in the places of their signs.
 fn bytes_of(alloc: Global, text: &str) -> Result<String, AllocError> {
     meant(alloc, text)?
         .replace(alloc, "/", "\n")?
@@ -111,7 +111,7 @@ NO 1// -> answered NO 1/
 1 O -> ended 1 O
  -> ended ";
 
-/// The name of what came of a line.
+/// Returns the name of what came of a line.
 fn name_of(told: Result<Told, TellError>) -> &'static str {
     match told {
         Ok(Told::Answered) => "answered",
@@ -123,7 +123,7 @@ fn name_of(told: Result<Told, TellError>) -> &'static str {
     }
 }
 
-/// Tells a line of which answers come in pieces of a length, with so many reads and writes, and shows what came of it.
+/// Sends a line whose answers come in pieces of a length, with this many reads and writes, and shows what came of it.
 fn told_of(
     alloc: Global,
     answers: &str,

@@ -27,7 +27,7 @@ pub struct Room<'a, E: EntryLedger, S: LotLedger, R> {
     pub heard: &'a Heard,
 }
 
-/// An operator from a seat.
+/// Returns an operator from a seat.
 pub fn operator_of<'a, E: EntryLedger, S: LotLedger, R: Wait>(
     room: &Room<'a, E, S, R>,
     seat: SeatReceipts<E, S>,
@@ -45,7 +45,7 @@ pub fn operator_of<'a, E: EntryLedger, S: LotLedger, R: Wait>(
     Operator::new(console, seat)
 }
 
-/// Whether a line of a transcript is one that is told.
+/// Returns whether a line of a transcript is one that is sent.
 fn begins_told(line: &str) -> bool {
     matches!(
         line.as_bytes(),
@@ -53,7 +53,7 @@ fn begins_told(line: &str) -> bool {
     )
 }
 
-/// The answer of a transcript that these lines begin, up to the next line that is told, and how many lines it has.
+/// Returns the answer of a transcript that these lines begin, up to the next line that is sent, and how many lines it has.
 fn expected_of(alloc: Global, lines: &[&str]) -> Option<String> {
     let mut expected = String::new(alloc);
     for line in lines {
@@ -68,7 +68,7 @@ fn expected_of(alloc: Global, lines: &[&str]) -> Option<String> {
     Some(expected)
 }
 
-/// The lines of a text.
+/// Returns the lines of a text.
 fn lines_of(alloc: Global, text: &str) -> Option<Vec<&str>> {
     let mut lines = Vec::new(alloc);
     for line in text.lines() {
@@ -111,7 +111,7 @@ fn check_seen<E: EntryLedger, S: LotLedger, R: Wait + Abort>(
     }
 }
 
-/// Tells the lines of a transcript, and compares their answers.
+/// Sends the lines of a transcript, and compares their answers.
 fn follow<E: EntryLedger, S: LotLedger, R: Wait + Abort>(
     rt: &R,
     alloc: Global,
@@ -149,7 +149,7 @@ fn follow<E: EntryLedger, S: LotLedger, R: Wait + Abort>(
     drop(watch.into_seat());
 }
 
-/// Plays a transcript at a desk over a book, and returns how many entries others heard of, and the number of the last.
+/// Plays a transcript at a desk over a book, and returns how many entries others received, and the number of the last.
 pub fn play<E: EntryLedger, S: LotLedger, R: Wait + Abort>(
     rt: &R,
     alloc: Global,

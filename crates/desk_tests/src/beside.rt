@@ -21,7 +21,7 @@ use std::sync::ledger::Blank;
 use std::thread;
 use std::thread::Threads;
 
-/// How often a thread looks at a count before it goes on all the same, and the test fails.
+/// How often a thread looks at a count before it gives up, and the test fails.
 const TURNS: u64 = 1_000_000;
 
 /// How often the gate was asked to propose, how many lines were answered, and how often a wait ran out.
@@ -33,7 +33,7 @@ struct Counts {
 }
 
 impl Counts {
-    /// Nothing yet.
+    /// Creates one in which nothing has happened yet.
     fn new() -> Counts {
         Counts {
             asked: AtomicU64::new(0),
@@ -42,7 +42,7 @@ impl Counts {
         }
     }
 
-    /// Waits until a count has come to a number, for at most so many turns.
+    /// Waits until a count has come to a number, for at most this many turns.
     fn wait_for(&self, count: &AtomicU64, number: u64) {
         for _ in 0..TURNS {
             if count.load(Ordering::SeqCst) >= number {
@@ -160,7 +160,7 @@ const ROWS: &[Row] = &[
     },
 ];
 
-/// The last seat as one that keeps its receipts.
+/// Returns the last seat as one that keeps its receipts.
 fn kept_seat<E: EntryLedger, S: LotLedger>(
     alloc: Global,
     seats: &mut Vec<Seat<E, S>>,
@@ -171,7 +171,7 @@ fn kept_seat<E: EntryLedger, S: LotLedger>(
     Some(SeatReceipts::new(alloc, seat))
 }
 
-/// What comes of a sweep from a seat that keeps its receipts, and how many entries it has seen then.
+/// Returns what comes of a sweep from a seat that keeps its receipts, and how many entries it has seen then.
 fn sweep_with_receipts<E: EntryLedger, S: LotLedger, R: Wait>(
     rt: &R,
     desk: &Desk<E, S>,
@@ -186,7 +186,7 @@ fn sweep_with_receipts<E: EntryLedger, S: LotLedger, R: Wait>(
     (swept, seat.seen())
 }
 
-/// What comes of a sweep by the gate, and how many entries its seat has seen then.
+/// Returns what comes of a sweep by the gate, and how many entries its seat has seen then.
 fn sweep<E: EntryLedger, S: LotLedger, R: Wait>(
     rt: &R,
     desk: &Desk<E, S>,
@@ -218,7 +218,7 @@ fn sweep<E: EntryLedger, S: LotLedger, R: Wait>(
     (swept, seat.seen())
 }
 
-/// Enters a line from a seat. False where it isn't entered.
+/// Enters a line from a seat. False if it isn't entered.
 fn submit<E: EntryLedger, S: LotLedger, R: Wait>(
     rt: &R,
     alloc: Global,
@@ -232,7 +232,7 @@ fn submit<E: EntryLedger, S: LotLedger, R: Wait>(
     }
 }
 
-/// Enters each line once the gate was asked again. False where one isn't entered.
+/// Enters each line once the gate was asked again. False if one isn't entered.
 fn submit_in_turn<E: EntryLedger, S: LotLedger, R: Wait>(
     rt: &R,
     alloc: Global,
@@ -252,7 +252,7 @@ fn submit_in_turn<E: EntryLedger, S: LotLedger, R: Wait>(
     are_entered
 }
 
-/// Enters the lines of a row while another thread sweeps, and says what comes of the sweep. None where a thread can't be started, or a
+/// Enters the lines of a row while another thread sweeps, and returns the outcome of the sweep. None if a thread can't be started, or a
 /// line isn't entered.
 fn swept_beside<E: EntryLedger + Send + Sync, S: LotLedger + Send + Sync, R: Threads + Wait + Sync>(
     rt: &R,

@@ -49,7 +49,7 @@ fn published<R: Wait + Abort>(rt: &R, alloc: Global, board: &Board, lines: &str)
     token
 }
 
-/// What a token reads.
+/// Returns what a token reads.
 fn read_text(rt: &impl Abort, alloc: Global, board: &Board, token: &ViewToken) -> String
     requires { Shows board.now token.now }
 {

@@ -16,7 +16,7 @@ use std::sync::Wait;
 use std::sync::ledger::Blank;
 use std::thread::Threads;
 
-/// What is entered before the threads begin: with 47 commands of each of four firms that makes 200.
+/// The entries before the threads begin: with 47 commands of each of four firms that makes 200.
 const MORNING: &str = "\
 DAY 20260105
 LIMIT G1 EXEC E1 1000
@@ -43,7 +43,7 @@ const FIRMS: [&str; 4] = [
     "CLAIM C2 #",
 ];
 
-/// The work of eight threads.
+/// Returns the work of eight threads.
 fn works(alloc: Global) -> Result<Vec<Work>, AllocError> {
     let (to, from) = crossbeam_channel::unbounded(alloc)?;
     let mut works = Vec::with_capacity(alloc, 8)?;
@@ -57,7 +57,7 @@ fn works(alloc: Global) -> Result<Vec<Work>, AllocError> {
     Ok(works)
 }
 
-/// Adds the receipts of a shift, and its seat to the others. False where not all went well.
+/// Adds a shift's receipts, and its seat, to the others. Returns false if not all went well.
 fn gather<E: EntryLedger, S: LotLedger>(
     seats: &mut Vec<Seat<E, S>>,
     receipts: &mut Vec<Receipt>,
@@ -71,7 +71,7 @@ fn gather<E: EntryLedger, S: LotLedger>(
     is_well && is_kept
 }
 
-/// How many receipts are of commands, and the lots of those of sweeps.
+/// Returns how many receipts are of commands, and the lots of those of sweeps.
 fn totals_of(receipts: &[Receipt]) -> (u64, u64) {
     let mut asked: u64 = 0;
     let mut swept: u64 = 0;
@@ -84,7 +84,7 @@ fn totals_of(receipts: &[Receipt]) -> (u64, u64) {
     (asked, swept)
 }
 
-/// Whether the last entry is a sweep.
+/// Returns whether the last entry is a sweep.
 fn is_swept_at_last(book: &Book) -> bool {
     let history = book.history();
     match history.entry(history.len() as u64) {
@@ -107,7 +107,7 @@ fn audit_with(
     assert!(rt; receipts.pop().is_some());
 }
 
-/// A receipt of this number, which tells of the first report, and that it was matched.
+/// Returns a receipt with this number for the first report, which was matched.
 fn changed(rt: &impl Abort, alloc: Global, number: u64) -> Receipt {
     let command = command_of(alloc, "REPORT E1 R1 M1 B XF6 5000 101.5 H1");
     Receipt {
@@ -158,7 +158,7 @@ fn audit_all(rt: &impl Abort, alloc: Global, book: &Book, mut receipts: Vec<Rece
     assert_eq!(rt; audit(alloc, book, &receipts), Ok(()));
 }
 
-/// The shift of the morning.
+/// Returns the shift of the morning.
 fn morning_of<E: EntryLedger, S: LotLedger, R: Wait + Abort>(
     rt: &R,
     alloc: Global,

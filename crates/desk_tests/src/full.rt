@@ -40,7 +40,7 @@ DAY 20260106 = Full
 VIEW G1 = VERSION 2
 ";
 
-/// What is entered last.
+/// The last entries.
 #[derive(Clone, Copy)]
 enum Last {
     Command,
@@ -48,7 +48,7 @@ enum Last {
 }
 
 impl Last {
-    /// The lines that enter it, and what is answered then.
+    /// Returns the lines that enter it, and what is answered then.
     fn lines(self) -> &'static str {
         match self {
             Last::Command => A_COMMAND_IS_LAST,
@@ -56,7 +56,7 @@ impl Last {
         }
     }
 
-    /// The line that is refused to a seat which has seen one entry less, and sees then that the book is full.
+    /// Returns the line that is refused to a seat which has seen one entry less, and sees then that the book is full.
     fn refused(self) -> &'static str {
         match self {
             Last::Command => "DAY 20260106 = Full",
@@ -65,7 +65,7 @@ impl Last {
     }
 }
 
-/// A book with 999,999 entries: a day, and then the same day again and again.
+/// Returns a book with 999,999 entries: a day, and then the same day again and again.
 fn almost_full(rt: &impl Abort, alloc: Global) -> Book {
     let mut book = book_of(alloc).expect(rt, "a book");
     let day = command_of(alloc, "DAY 20260105").expect(rt, "a command");

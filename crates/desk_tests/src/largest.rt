@@ -32,7 +32,7 @@ STRETCH C1 266 = NOTICES 100 NEXT 268 LAST
 STRETCH E1 1 = NOTICES 102 NEXT 268 LAST
 ";
 
-/// Enters a line. False where it isn't entered.
+/// Enters a line. False if it isn't entered.
 fn enter(alloc: Global, book: &mut Book, line: &str) -> bool {
     match command_of(alloc, line) {
         Some(command) => book.reply_to(&command).is_ok(),
@@ -40,7 +40,7 @@ fn enter(alloc: Global, book: &mut Book, line: &str) -> bool {
     }
 }
 
-/// The line of a give-up of sixteen lots, in as many offers.
+/// Returns the line of a give-up of sixteen lots, in as many offers.
 fn give_up(alloc: Global, number: u64) -> Result<String, AllocError> {
     let mut line = format!(in alloc; "GIVEUP E1 L{number} R3")?;
     for _ in 0..16 {
@@ -49,7 +49,7 @@ fn give_up(alloc: Global, number: u64) -> Result<String, AllocError> {
     Ok(line)
 }
 
-/// A book with 265 entries and 4,096 open offers.
+/// Returns a book with 265 entries and 4,096 open offers.
 fn book_with_offers(rt: &impl Abort, alloc: Global) -> Book {
     let mut book = book_of(alloc).expect(rt, "a book");
     for line in A_TRADE.lines() {

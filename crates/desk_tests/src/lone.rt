@@ -56,7 +56,7 @@ CLAIM C1 1 = 10 NO 14 OfferClosed
 SWEEP G1 = 11 SWEPT 0
 ";
 
-/// What is answered to a seat from which nothing was entered yet.
+/// The answers to a seat from which nothing was entered yet.
 const FROM_ANOTHER_SEAT: &str = "\
 POSITION A1 XF6 = LONG 7 SHORT 0
 SEE 0 G1 = VERSION 8
@@ -87,7 +87,7 @@ fn sweep_seen<E: EntryLedger, S: LotLedger, R: Wait + Abort>(
     assert_eq!(rt; text.as_str(), "VERSION 6, OFFER 1 7");
 }
 
-/// Gives the lots up once more, and asks in the same hold what the firm is told that carries the account: it is told of this entry's offer.
+/// Gives the lots up once more, and asks in the same hold for the carrying firm's notices: they include this entry's offer.
 fn offer_told<E: EntryLedger, S: LotLedger, R: Wait + Abort>(
     rt: &R,
     alloc: Global,
@@ -157,7 +157,7 @@ fn a_lone_sweep_takes_what_is_there(rt: HostRuntime) {
     lone::<Brand, Brand, HostRuntime>(&rt, alloc, book, annals, Blank::new(3), Blank::new(3));
 }
 
-/// The group that is to be swept after a line, if any.
+/// Returns the group that is to be swept after a line, if any.
 fn order_of(alloc: Global, book: &mut Book, line: &str) -> Result<Option<Group>, AllocError> {
     let Some(command) = command_of(alloc, line) else {
         return Ok(None);

@@ -1,6 +1,6 @@
 //! Calls that are refused memory, with few allocations before them. Each of these tests passes whichever of its allocations fails, and
-//! where all of them fail from one on (tools/each-growth): a call that is refused memory says so, leaves the desk as it was, hands back
-//! what it was given, and does at the second try what it would have done, where there is memory then.
+//! if all of them fail from one on (tools/each-growth): a call that is refused memory says so, leaves the desk as it was, hands back
+//! what it was given, and does at the second try what it would have done, if there is memory then.
 
 ghost use Rattle.std.specs.Prelude.{◌≡◌, IfSome};
 ghost use Rattle.gu_terms.specs.Histories.{lots_swept};
@@ -20,7 +20,7 @@ use std::process::Abort;
 use std::sync::Wait;
 use std::sync::ledger::Blank;
 
-/// Whether there is memory.
+/// Returns whether there is memory.
 fn has_memory(alloc: Global) -> bool {
     Vec::<u8>::with_capacity(alloc, 1).is_ok()
 }
@@ -57,7 +57,7 @@ fn show<E: EntryLedger, S: LotLedger, R: Wait>(
     Ok(())
 }
 
-/// What a desk shows, at the second try where memory is refused to the first.
+/// Returns what a desk shows, retrying once if memory is refused.
 fn shown<E: EntryLedger, S: LotLedger, R: Wait>(
     rt: &R,
     alloc: Global,
@@ -72,7 +72,7 @@ fn shown<E: EntryLedger, S: LotLedger, R: Wait>(
     Some(text)
 }
 
-/// The command of a line, at the second try where memory is refused to the first.
+/// Returns the command of a line, retrying once if memory is refused.
 fn command_again(alloc: Global, line: &str) -> Option<Command> {
     match command_of(alloc, line) {
         Some(command) => Some(command),
@@ -80,7 +80,7 @@ fn command_again(alloc: Global, line: &str) -> Option<Command> {
     }
 }
 
-/// The receipt of a command, at the second try where memory is refused to the first, which changes nothing.
+/// Returns the receipt of a command, retrying once if memory is refused, which changes nothing.
 fn entered<E: EntryLedger, S: LotLedger, R: Wait + Abort>(
     rt: &R,
     alloc: Global,
@@ -100,7 +100,7 @@ fn entered<E: EntryLedger, S: LotLedger, R: Wait + Abort>(
     }
 }
 
-/// The receipt of a sweep of G1, at the second try where memory is refused to the first, which changes nothing.
+/// Returns the receipt of a sweep of G1, retrying once if memory is refused, which changes nothing.
 fn swept<E: EntryLedger, S: LotLedger, R: Wait + Abort>(
     rt: &R,
     alloc: Global,
@@ -120,7 +120,7 @@ fn swept<E: EntryLedger, S: LotLedger, R: Wait + Abort>(
     }
 }
 
-/// The text of a receipt, at the second try where memory is refused to the first.
+/// Returns the text of a receipt, retrying once if memory is refused.
 fn receipt_text_again(alloc: Global, receipt: &Receipt) -> Option<String> {
     match receipt_text(alloc, receipt) {
         Ok(text) => Some(text),
@@ -128,7 +128,7 @@ fn receipt_text_again(alloc: Global, receipt: &Receipt) -> Option<String> {
     }
 }
 
-/// The text of a view, at the second try where memory is refused to the first.
+/// Returns the text of a view, retrying once if memory is refused.
 fn view_text_again(alloc: Global, view: &View) -> Option<String> {
     match view_text(alloc, view) {
         Ok(text) => Some(text),
@@ -136,7 +136,7 @@ fn view_text_again(alloc: Global, view: &View) -> Option<String> {
     }
 }
 
-/// What is read after a look at G1, at the second try where memory is refused to the first.
+/// Returns what is read after a look at G1, retrying once if memory is refused.
 fn looked<E: EntryLedger, S: LotLedger, R: Wait + Abort>(
     rt: &R,
     alloc: Global,
@@ -201,7 +201,7 @@ fn follow<E: EntryLedger, S: LotLedger, R: Wait + Abort>(
     keep(rt, alloc, receipts, receipt, "10 SWEPT 7")
 }
 
-/// The receipt of a command that is entered in a hold, at the second try where memory is refused to the first, and a reader that goes on
+/// Returns the receipt of a command that is entered in a hold, retrying once if memory is refused, and a reader that goes on
 /// after it.
 fn reader_after<E: EntryLedger, S: LotLedger, R: Wait>(
     rt: &R,
@@ -222,7 +222,7 @@ fn reader_after<E: EntryLedger, S: LotLedger, R: Wait>(
     Some((Receipt { number, entry }, reader))
 }
 
-/// Reads what there is, at the second try where memory is refused to the first, which leaves what was read.
+/// Reads what there is, retrying once if memory is refused, which leaves what was read.
 fn read_again<E: EntryLedger, S: LotLedger, R: Wait>(
     rt: &R,
     desk: &Desk<E, S>,
@@ -262,7 +262,7 @@ fn follow_and_read<E: EntryLedger, S: LotLedger, R: Wait + Abort>(
     Some(reader)
 }
 
-/// Audits receipts, at the second try where memory is refused to the first.
+/// Audits receipts, retrying once if memory is refused.
 fn check_audit(rt: &impl Abort, alloc: Global, book: &Book, receipts: &[Receipt]) {
     let told = match audit(alloc, book, receipts) {
         Err(AuditFault::Memory) => audit(alloc, book, receipts),
@@ -275,7 +275,7 @@ fn check_audit(rt: &impl Abort, alloc: Global, book: &Book, receipts: &[Receipt]
     }
 }
 
-/// Room for sixteen receipts.
+/// Returns room for sixteen receipts.
 fn room_for_receipts(alloc: Global) -> Option<Vec<Receipt>> {
     match Vec::with_capacity(alloc, 16) {
         Ok(room) => Some(room),
@@ -311,7 +311,7 @@ fn use_desk<E: EntryLedger, S: LotLedger, R: Wait + Abort>(
     }
 }
 
-/// Makes each call of a desk over a book. It gives the book back where no desk is made.
+/// Makes each call of a desk over a book. It gives the book back if no desk is made.
 fn open_and_use<E: EntryLedger, S: LotLedger, R: Wait + Abort>(
     rt: &R,
     alloc: Global,
@@ -338,7 +338,7 @@ fn open_and_use<E: EntryLedger, S: LotLedger, R: Wait + Abort>(
     }
 }
 
-/// A book of the sample, at the second try where memory is refused to the first.
+/// Returns a book of the sample, retrying once if memory is refused.
 fn book_again(rt: &impl Abort, alloc: Global) -> Option<Book> {
     let book = match book_of(alloc) {
         Some(book) => Some(book),
@@ -351,7 +351,7 @@ fn book_again(rt: &impl Abort, alloc: Global) -> Option<Book> {
     book
 }
 
-/// The history of a book, at the second try where memory is refused to the first.
+/// Returns the history of a book, retrying once if memory is refused.
 fn annals_again(alloc: Global, book: &Book) -> Option<BlankAnnals>
     ensures { IfSome result (λ annals. annals.entries ≡ book.now.history) }
 {
@@ -387,7 +387,7 @@ fn refused_to_a_desk_leaves_each_call_to_be_made_again(rt: HostRuntime) {
     assert!(rt; !has_memory(alloc), "no memory for a desk");
 }
 
-/// Publishes a view, at the second try where memory is refused to the first, which hands the view back, and reads it.
+/// Publishes a view, retrying once if memory is refused, which hands the view back, and reads it.
 fn published<R: Wait + Abort>(
     rt: &R,
     alloc: Global,
@@ -407,7 +407,7 @@ fn published<R: Wait + Abort>(
     }
 }
 
-/// A board, at the second try where memory is refused to the first.
+/// Returns a board, retrying once if memory is refused.
 fn board_again(alloc: Global) -> Option<Board> {
     match Board::new(alloc) {
         Ok(board) => Some(board),
@@ -415,7 +415,7 @@ fn board_again(alloc: Global) -> Option<Board> {
     }
 }
 
-/// The view of G1, at the second try where memory is refused to the first.
+/// Returns the view of G1, retrying once if memory is refused.
 fn view_of(book: &Book) -> Option<View> {
     let group = &group_of("G1")?;
     match book.view(group) {
@@ -424,7 +424,7 @@ fn view_of(book: &Book) -> Option<View> {
     }
 }
 
-/// What is read of the view of G1 once it is published.
+/// Returns what is read of the view of G1 once it is published.
 fn published_text<R: Wait + Abort>(rt: &R, alloc: Global, book: &Book) -> Option<String> {
     let board = board_again(alloc)?;
     let view = view_of(book)?;

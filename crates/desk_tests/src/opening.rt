@@ -10,14 +10,14 @@ use std::alloc::{AllocError, Global};
 use std::process::Abort;
 use std::sync::ledger::Blank;
 
-/// The history of a book, for a desk over it.
+/// Returns the history of a book, for a desk over it.
 pub fn annals_of(rt: &impl Abort, alloc: Global, book: &Book) -> BlankAnnals
     ensures { result.entries ≡ book.now.history }
 {
     BlankAnnals::of(alloc, book).ok().expect(rt, "memory")
 }
 
-/// A desk over a book, with its seats.
+/// Returns a desk over a book, with its seats.
 pub fn opened<E: EntryLedger, S: LotLedger, R: Abort>(
     rt: &R,
     alloc: Global,

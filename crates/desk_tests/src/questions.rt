@@ -39,7 +39,7 @@ impl Question for Count {
     }
 }
 
-/// Whether a set may hold a firm of this name.
+/// Returns whether a set may hold a firm of this name.
 fn may_hold(rt: &impl Abort, firms: FirmFilter, name: &str) -> bool {
     let firm = FirmId::new(name.as_bytes()).expect(rt, "a firm");
     firms.has(FirmPlace::of(&firm))

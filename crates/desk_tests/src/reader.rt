@@ -8,7 +8,7 @@ use gu_terms::Entry;
 use std::alloc::{AllocError, Global};
 use std::process::Abort;
 
-/// What was read of a desk's history from a front on, and the front behind it.
+/// What was read of a desk's history from a front on, and the front after it.
 pub struct Reader<E: EntryLedger> {
     front: Front<E>,
     place: usize,
@@ -46,7 +46,7 @@ impl<E: EntryLedger> Reader<E> {
         }
     }
 
-    /// Reads at most so many entries.
+    /// Reads at most this many entries.
     pub fn read<S: LotLedger>(
         &mut self,
         held: &mut LockedBook<E, S>,

@@ -15,7 +15,7 @@ use std::process::Abort;
 use std::sync::Wait;
 use std::sync::ledger::Blank;
 
-/// Returns the number after the last entry, as a seat is told.
+/// Returns the number after the last entry, as a seat sees it.
 fn next_of<E: EntryLedger, S: LotLedger, R: Wait + Abort>(
     rt: &R,
     desk: &Desk<E, S>,
@@ -104,7 +104,7 @@ fn read_in_pieces<E: EntryLedger, S: LotLedger, R: Wait + Abort>(
     reader.compare(rt, &book);
 }
 
-/// A book with a day, limits and a trade.
+/// Returns a book with a day, limits and a trade.
 fn book_with_a_trade(rt: &impl Abort, alloc: Global) -> Book {
     let mut book = book_of(alloc).expect(rt, "a book");
     for line in A_TRADE.lines() {

@@ -1,4 +1,4 @@
-//! The sample reference, and what is said to its book.
+//! The sample reference, and the lines for its book.
 
 use gu_book::Book;
 use gu_ref::Reference;
@@ -40,7 +40,7 @@ REPORT E1 R1 M1 B XF6 10 101.5 H1
 REPORT E2 R2 M1 S XF6 10 101.5 H2
 ";
 
-/// The same, and seven of the lots are given up.
+/// The same, with seven of the lots given up.
 pub const SEVEN_LOTS: &str = "\
 DAY 20260105
 LIMIT G1 EXEC E1 100
@@ -52,18 +52,18 @@ REPORT E2 R2 M1 S XF6 10 101.5 H2
 GIVEUP E1 L1 R1 A1 7
 ";
 
-/// A book of the sample without entries.
+/// Returns a book of the sample without entries.
 pub fn book_of(alloc: Global) -> Option<Book> {
     let read = Reference::read(alloc, &mut CountedReads::new(ROWS.as_bytes()));
     Some(Book::new(alloc, read.ok()?))
 }
 
-/// The group of a name.
+/// Returns the group of a name.
 pub fn group_of(name: &str) -> Option<Group> {
     Group::new(name.as_bytes())
 }
 
-/// The command that a line of a script says.
+/// Returns the command that a line of a script says.
 pub fn command_of(alloc: Global, line: &str) -> Option<Command> {
     match Line::read(alloc, line.as_bytes(), 1) {
         Ok(Some(Line::Step(Step::Enter(command)))) => Some(command),

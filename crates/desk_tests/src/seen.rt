@@ -14,7 +14,7 @@ use std::process::Abort;
 use std::sync::Wait;
 use std::sync::ledger::Blank;
 
-/// What is said from a seat, what is answered, and how many entries the seat has seen then. What is entered from one seat, the other sees
+/// Lines from a seat, their answers, and how many entries the seat has seen then. Entries from one seat, the other sees
 /// with its next answer, and not before.
 const FIRST: &[(&str, &str, u64)] = &[
     ("VIEW G9", "UnknownGroup", 2),
@@ -23,7 +23,7 @@ const FIRST: &[(&str, &str, u64)] = &[
     ("LIMIT G1 EXEC E1 100", "3 OK", 3),
 ];
 
-/// What is said from the other seat after that, which has seen two entries until then.
+/// Lines from the other seat after that, which has seen two entries until then.
 const SECOND: &[(&str, &str, u64)] = &[
     ("SWEEP G9", "UnknownGroup", 2),
     ("POSITION A1 XF6", "LONG 0 SHORT 0", 3),
@@ -32,7 +32,7 @@ const SECOND: &[(&str, &str, u64)] = &[
     ("INTEREST XF6", "LOTS 0", 5),
 ];
 
-/// What is said from the first seat then, one line after each of which the other enters a command.
+/// Lines from the first seat then; after each of them the other enters a command.
 const IN_TURN: &[(&str, &str, u64)] = &[
     ("VIEW G1", "VERSION 4", 5),
     ("SEE 0 G1", "VERSION 4", 6),
@@ -135,7 +135,7 @@ fn say_all<E: EntryLedger, S: LotLedger, R: Wait + Abort>(
     assert!(rt; desk.close(seats).is_ok());
 }
 
-/// A book with a day and a limit.
+/// Returns a book with a day and a limit.
 fn book_with_a_limit(rt: &impl Abort, alloc: Global) -> Book {
     let mut book = book_of(alloc).expect(rt, "a book");
     for line in ["DAY 20260105", "LIMIT G1 AGR P1 100"] {

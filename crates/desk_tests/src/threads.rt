@@ -33,7 +33,7 @@ impl Drop for Work {
     }
 }
 
-/// A thread's seat, its receipts, the number after the last entry that it heard of, and whether all that it did was answered as it should
+/// A thread's seat, its receipts, the number after the last entry that it received, and whether all that it did was answered as it should
 /// be.
 pub struct Shift<E: EntryLedger, S: LotLedger> {
     seat: Seat<E, S>,
@@ -57,7 +57,7 @@ impl<E: EntryLedger, S: LotLedger> Drop for Shift<E, S> {
 }
 
 impl<E: EntryLedger, S: LotLedger> Shift<E, S> {
-    /// A shift that begins.
+    /// Returns a shift that begins.
     pub fn new(alloc: Global, seat: Seat<E, S>) -> Self {
         Shift {
             seat,
@@ -67,7 +67,7 @@ impl<E: EntryLedger, S: LotLedger> Shift<E, S> {
         }
     }
 
-    /// Its seat, its receipts, and whether all went well.
+    /// Returns its seat, its receipts, and whether all went well.
     pub fn into_parts(self) -> (Seat<E, S>, Vec<Receipt>, bool) {
         let Shift {
             seat,
@@ -140,7 +140,7 @@ impl<E: EntryLedger, S: LotLedger> Shift<E, S> {
         }
     }
 
-    /// Sweeps a group, up to so many times while it is stale. No other refusal is well.
+    /// Sweeps a group, up to this many times while it is stale. No other refusal is well.
     pub fn sweep<R: Wait>(&mut self, rt: &R, desk: &Desk<E, S>, group: Group, tries: u32) {
         match desk.sweep_until(rt, &mut self.seat, group, tries.clamp(1, 1000), &Direct) {
             Ok(receipt) => self.keep(receipt),
@@ -164,7 +164,7 @@ impl<E: EntryLedger, S: LotLedger> Shift<E, S> {
     }
 }
 
-/// What a thread does from a seat.
+/// Returns what a thread does from a seat.
 fn worked<E: EntryLedger, S: LotLedger, R: Wait>(
     rt: &R,
     alloc: Global,
@@ -185,7 +185,7 @@ fn worked<E: EntryLedger, S: LotLedger, R: Wait>(
     shift
 }
 
-/// Starts a thread from a seat. None where it can't be started.
+/// Starts a thread from a seat. None if it can't be started.
 fn started<
     's,
     X,
@@ -235,7 +235,7 @@ fn run_all<
     Ok(())
 }
 
-/// What threads hand back that do these works at the same time, from a seat each.
+/// Returns what threads hand back that do this work at the same time, each from its own seat.
 pub fn shifts_of<
     E: EntryLedger + Send + Sync,
     S: LotLedger + Send + Sync,

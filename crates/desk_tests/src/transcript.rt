@@ -13,7 +13,7 @@ use std::alloc::{AllocError, Global};
 use std::process::Abort;
 use std::sync::Wait;
 
-/// A view: its version, and the number and the lots of each offer.
+/// Returns a view: its version, and the number and the lots of each offer.
 pub fn view_text(alloc: Global, view: &View) -> Result<String, AllocError> {
     let mut text = format!(in alloc; "VERSION {}", view.version())?;
     for offer in view.offers() {
@@ -23,7 +23,7 @@ pub fn view_text(alloc: Global, view: &View) -> Result<String, AllocError> {
     Ok(text)
 }
 
-/// A receipt: the reply to a command, or the lots of a sweep.
+/// Returns a receipt: the reply to a command, or the lots of a sweep.
 pub fn receipt_text(alloc: Global, receipt: &Receipt) -> Result<String, AllocError> {
     match &receipt.entry {
         Entry::Asked { reply, .. } => {
@@ -37,7 +37,7 @@ pub fn receipt_text(alloc: Global, receipt: &Receipt) -> Result<String, AllocErr
     }
 }
 
-/// An answer to a query.
+/// Returns an answer to a query.
 fn answer_text(alloc: Global, answer: &Answer) -> Result<String, AllocError> {
     match answer {
         Answer::Position { long, short } => format!(in alloc; "LONG {long} SHORT {short}"),
@@ -51,19 +51,19 @@ fn answer_text(alloc: Global, answer: &Answer) -> Result<String, AllocError> {
     }
 }
 
-/// A stretch of notices.
+/// Returns a stretch of notices.
 pub fn stretch_text(alloc: Global, stretch: &Stretch) -> Result<String, AllocError> {
     let Notices { next, list } = &stretch.notices;
     let end = if stretch.is_last { "LAST" } else { "MORE" };
     format!(in alloc; "NOTICES {} NEXT {next} {end}", list.len())
 }
 
-/// A word of a line.
+/// Returns a word of a line.
 fn word(line: &str, place: usize) -> &str {
     line.split(' ').nth(place).unwrap_or("")
 }
 
-/// The query that a line asks, where it asks one that isn't of a script.
+/// Returns the query that a line asks, if it asks one that isn't of a script.
 fn query_of(line: &str) -> Option<Query> {
     let name = word(line, 1).as_bytes();
     match word(line, 0) {
@@ -82,7 +82,7 @@ fn query_of(line: &str) -> Option<Query> {
     }
 }
 
-/// The firm and the number of a line that asks for a stretch.
+/// Returns the firm and the number of a line that asks for a stretch.
 fn stretch_of(line: &str) -> Option<(FirmId, u64)> {
     if word(line, 0) != "STRETCH" {
         return None;
@@ -91,7 +91,7 @@ fn stretch_of(line: &str) -> Option<(FirmId, u64)> {
     Some((firm, word(line, 2).parse().ok()?))
 }
 
-/// What is answered to a question for a stretch.
+/// Returns what is answered to a question for a stretch.
 fn answer_to_stretch<E: EntryLedger, S: LotLedger, R: Wait>(
     rt: &R,
     alloc: Global,
@@ -104,7 +104,7 @@ fn answer_to_stretch<E: EntryLedger, S: LotLedger, R: Wait>(
     stretch_text(alloc, &stretch)
 }
 
-/// What is answered to a command.
+/// Returns what is answered to a command.
 fn answer_to_command<E: EntryLedger, S: LotLedger, R: Wait>(
     rt: &R,
     alloc: Global,
@@ -118,7 +118,7 @@ fn answer_to_command<E: EntryLedger, S: LotLedger, R: Wait>(
     }
 }
 
-/// What is answered to a sweep.
+/// Returns what is answered to a sweep.
 fn answer_to_sweep<E: EntryLedger, S: LotLedger, R: Wait>(
     rt: &R,
     alloc: Global,
@@ -132,7 +132,7 @@ fn answer_to_sweep<E: EntryLedger, S: LotLedger, R: Wait>(
     }
 }
 
-/// What is read after a look.
+/// Returns what is read after a look.
 fn answer_to_look<E: EntryLedger, S: LotLedger, R: Wait>(
     rt: &R,
     alloc: Global,
@@ -146,7 +146,7 @@ fn answer_to_look<E: EntryLedger, S: LotLedger, R: Wait>(
     }
 }
 
-/// What is answered to a query.
+/// Returns what is answered to a query.
 fn answer_to_query<E: EntryLedger, S: LotLedger, R: Wait>(
     rt: &R,
     alloc: Global,
@@ -160,7 +160,7 @@ fn answer_to_query<E: EntryLedger, S: LotLedger, R: Wait>(
     }
 }
 
-/// What is answered to a line.
+/// Returns what is answered to a line.
 pub fn answer_to<E: EntryLedger, S: LotLedger, R: Wait>(
     rt: &R,
     alloc: Global,

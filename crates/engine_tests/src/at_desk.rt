@@ -1,4 +1,4 @@
-//! A seat at a desk as a house: others hear of each entry that a message asks for, and of which message it is.
+//! A seat at a desk as a house: others learn of each entry that a message asks for, and from which message it is.
 
 ghost use Rattle.std.specs.Prelude.{◌≡◌};
 ghost use Rattle.gu_terms.specs.Histories.{lots_swept};
@@ -18,14 +18,14 @@ use std::process::Abort;
 use std::sync::ledger::Blank;
 use std::sync::{Mutex, Wait};
 
-/// The last entry that others heard of: its number, and who made it.
+/// The last entry that others received: its number, and who made it.
 #[derive(Drop)]
 struct Heard {
     last: Mutex<Option<(u64, Origin)>>,
 }
 
 impl Heard {
-    /// Returns what was heard of since the last call, if anything was.
+    /// Returns what was received since the last call, if anything was.
     fn take(&self) -> Option<(u64, Origin)> {
         let mut last = self.last.try_lock()?;
         let heard = *last;
@@ -52,7 +52,7 @@ const MESSAGES: &[(u64, u64, u64, &str)] = &[
     (7, 5, 1_003, "DAY 20260105"),
 ];
 
-/// What a line asks for.
+/// Returns what a line asks for.
 fn request_of(alloc: Global, line: &str) -> Option<Request> {
     match Line::read(alloc, line.as_bytes(), 1) {
         Ok(Some(Line::Step(Step::Enter(command)))) => Some(Request::Enter(command)),
@@ -63,17 +63,17 @@ fn request_of(alloc: Global, line: &str) -> Option<Request> {
     }
 }
 
-/// The firm that sends the messages.
+/// Returns the firm that sends the messages.
 fn sender(rt: &impl Abort) -> FirmId {
     FirmId::new(b"E1").expect(rt, "a firm")
 }
 
-/// A moment of the day of this number.
+/// Returns a moment of the day of this number.
 fn moment_of(rt: &impl Abort, number: u64) -> Moment {
     Moment::new(number).expect(rt, "a moment")
 }
 
-/// Asks a house for each message, and compares what others hear of with what was asked.
+/// Asks a house for each message, and compares what others learn with what was asked.
 fn ask_all<E: EntryLedger, S: LotLedger, R: Wait + Abort>(
     rt: &R,
     alloc: Global,
@@ -150,7 +150,7 @@ fn ask_at<E: EntryLedger, S: LotLedger, R: Wait + Abort>(
     drop(from);
 }
 
-/// The history of a book, for a desk over it.
+/// Returns the history of a book, for a desk over it.
 fn annals_of(rt: &impl Abort, alloc: Global, book: &Book) -> BlankAnnals
     ensures { result.entries ≡ book.now.history }
 {

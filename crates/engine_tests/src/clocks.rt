@@ -25,7 +25,7 @@ impl rt::Clock for Machine {
     }
 }
 
-/// What a machine's clock gives, in milliseconds.
+/// Returns what a machine's clock gives, in milliseconds.
 fn told(since: Option<Duration>) -> Result<u64, ClockFault> {
     let machine = Machine { since };
     let now = SystemClock::new(&machine).now();

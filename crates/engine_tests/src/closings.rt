@@ -15,7 +15,7 @@ in A 1 98=0|108=30|1137=9|
 silence
 out 5 2002 58=Closing|";
 
-/// A visit that has had its Logon and its notices.
+/// Returns a visit that has had its Logon and its notices.
 fn logged_on(rt: &impl Abort, alloc: Global, talk: &Talk, gate: Gate) -> Visit {
     let input = wire(alloc, &talk.input).expect(rt, "memory");
     let mut visit = Visit::new(rt, alloc, gate);

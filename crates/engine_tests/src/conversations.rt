@@ -1,4 +1,4 @@
-//! Connections of firms to one book. What is sent is worked out by hand.
+//! Connections of firms to one book. The messages sent are worked out by hand.
 
 use crate::exchanges::check_cases;
 
@@ -47,8 +47,8 @@ fn faulty_messages_are_rejected_and_an_unknown_firm_is_served(rt: HostRuntime) {
     check_cases(&rt, rt.alloc(), "", REJECTED);
 }
 
-/// On the path of P1, with limits of 100, a trade of ten lots of E1 with E2 is given up by E1, which is told of it; C1 is told of the offer and claims
-/// it, once, and asks for what it claimed; E1 asks for another firm's account.
+/// On the path of P1, with limits of 100, a trade of ten lots of E1 with E2 is given up by E1, which receives its notice; C1 receives the
+/// offer and claims it, once, and asks for what it claimed; E1 asks for another firm's account.
 const SHARED: &str = "\
 connections one after another share a book: DAY 20260105/LIMIT G1 EXEC E1 100/LIMIT G1 AGR P1 100/LIMIT G1 ACCT A1 100/LIMIT G1 CARRY C1 100/REPORT E1 R1 M1 B XF6 10 101.5 H1/REPORT E2 R2 M1 S XF6 10 101.5 H2/ -> 10
 firm E1
@@ -207,7 +207,7 @@ fn notices_come_after_a_message(rt: HostRuntime) {
     check_cases(&rt, rt.alloc(), report, TOLD_LATER);
 }
 
-/// Memory is wanting for the first command.
+/// Memory is short for the first command.
 const FOR_MEMORY: &str = "\
 a report that isn't entered for want of memory is entered when it comes again under a new number: DAY 20260105/ -> 2
 firm E1

@@ -7,7 +7,7 @@ use std::alloc::Global;
 use std::process::Abort;
 use trials::{AMPLE, Sink, Source, Talk, wire};
 
-/// What a firm sends.
+/// Returns what a firm sends.
 pub fn source<'a>(input: &'a [u8], talk: &'a Talk) -> Source<'a> {
     Source {
         bytes: input,
@@ -17,7 +17,7 @@ pub fn source<'a>(input: &'a [u8], talk: &'a Talk) -> Source<'a> {
     }
 }
 
-/// Bytes in pieces of 200, of which so many can be read.
+/// Returns bytes in pieces of 200, of which this many can be read.
 fn pieces(bytes: &[u8], reads: usize) -> Source<'_> {
     Source {
         bytes,
@@ -27,7 +27,7 @@ fn pieces(bytes: &[u8], reads: usize) -> Source<'_> {
     }
 }
 
-/// What a run writes.
+/// Returns what a run writes.
 fn run_on(rt: &impl Abort, alloc: Global, input: &[u8], talk: &Talk) -> Vec<u8> {
     let mut sink = Sink::new(alloc, usize::MAX, AMPLE.writes);
     let conversation = conversation(rt, alloc);

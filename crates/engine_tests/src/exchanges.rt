@@ -45,7 +45,7 @@ fn enter(alloc: Global, house: &mut OverBook, firm: FirmId, line: &str) -> Resul
     Ok(())
 }
 
-/// The failure of this name.
+/// Returns the failure of this name.
 fn failure_named(name: &str) -> Option<Failure> {
     match name {
         "Memory" => Some(Failure::Memory),
@@ -93,7 +93,7 @@ impl House for Desk<'_> {
     }
 }
 
-/// How the exchange of a firm's connection ends.
+/// Appends how the exchange of a firm's connection ends.
 fn exchanged(
     desk: Desk<'_>,
     firm: &str,
@@ -116,7 +116,7 @@ fn exchanged(
     end
 }
 
-/// How an exchange ended, `: `, and what it wrote, where `|` is SOH.
+/// Returns how an exchange ended, `: `, and what it wrote, with `|` for SOH.
 fn told_of(
     alloc: Global,
     end: Result<(), StreamError>,
@@ -129,7 +129,7 @@ fn told_of(
     }
 }
 
-/// What the exchange of a firm's connection tells that reads these bytes.
+/// Returns what the exchange of a firm's connection reports that reads these bytes.
 fn told_on(
     desk: Desk<'_>,
     firm: &str,
@@ -149,13 +149,13 @@ fn told_on(
     told_of(alloc, end, &sink.held)
 }
 
-/// What the exchange of a firm's connection tells.
+/// Returns what the exchange of a firm's connection reports.
 pub fn told(desk: Desk<'_>, firm: &str, talk: &Talk, terms: Terms) -> Result<String, AllocError> {
     let input = wire(desk.alloc, &talk.input)?;
     told_on(desk, firm, input.as_bytes(), talk, terms)
 }
 
-/// The longest text that a connection of a firm writes at once, and how much it writes in all.
+/// Returns the longest text that a connection of a firm writes at once, and how much it writes in all.
 pub fn longest_write(
     house: &mut OverBook,
     alloc: Global,
@@ -217,7 +217,7 @@ pub fn check_cases(rt: &impl Abort, alloc: Global, besides: &str, table: &str) {
     }
 }
 
-/// What a connection of E1 to a book after a script tells that reads these bytes, after how many entries the book has then.
+/// Returns what a connection of E1 to a book after a script reports that reads these bytes, after how many entries the book has then.
 fn told_after_on(
     alloc: Global,
     script: &str,
@@ -241,7 +241,7 @@ fn told_after_on(
     format!(in alloc; "{entries} entries, {told}")
 }
 
-/// What a connection of E1 to a book after a script tells, after how many entries the book has then.
+/// Returns what a connection of E1 to a book after a script reports, after how many entries the book has then.
 pub fn told_after(
     alloc: Global,
     script: &str,
@@ -252,7 +252,7 @@ pub fn told_after(
     told_after_on(alloc, script, input.as_bytes(), talk, terms)
 }
 
-/// The same where the byte at a place of the input is one higher.
+/// Returns the same if the byte at a place of the input is one higher.
 pub fn told_raised(
     alloc: Global,
     script: &str,

@@ -6,7 +6,8 @@ use std::alloc::Global;
 use std::process::Abort;
 use trials::{Talk, Terms, columns, front_told};
 
-/// A report above the gap is asked for, one at its number is entered, and the same again is not. The answers end at 93, 176, 271 and 358 bytes.
+/// A report above the gap is asked for, one at its number is entered, and the same again is not. The answers end at 93, 176, 271 and 358
+/// bytes.
 const ENTERED_ONCE: &str = "\
 in A 1 98=0|108=30|1137=9|
 sent 8=FIXT.1.1|9=70|35=A|49=GIVEUP|56=E1|34=1|52=20260105-09:00:00.000|98=0|108=30|1137=9|10=189|
@@ -75,12 +76,12 @@ raw 8=FIXT.1.1|9=66|35=A|49=E1|56=GIVEUP|34=1|52=20260105-09:00:00|98=0|108=30|1
 in AE 2 571=R1|880=M1|55=XF6|32=10|31=101.5|75=20260105|552=1|54=1|1=H1|
 ";
 
-/// What is sent where the second Logon is the first message.
+/// The messages sent if the second Logon is the first message.
 const BY_THE_SECOND: &str = "\
 out A 1 98=0|108=30|1137=9|
 out AR 2 571=R1|880=M1|939=0|";
 
-/// What is sent where the second Logon is garbled.
+/// The messages sent if the second Logon is garbled.
 const BY_THE_FIRST: &str = "\
 out A 1 98=0|108=20|1137=9|
 out AR 2 571=R1|880=M1|939=0|";

@@ -21,7 +21,7 @@ out j 3 45=3|379=1|372=AT|380=0|58=Full|
 in 5 4
 out 5 4";
 
-/// A book with as many entries as there may be: a day that is opened once, and again and again.
+/// Returns a book with as many entries as there may be: a day that is opened once, and again and again.
 fn full_book(rt: &impl Abort, alloc: Global) -> Book {
     let mut book = Book::new(alloc, sample(alloc).expect(rt, "the sample"));
     let day = Day::new(2026, 1, 5).expect(rt, "a day");

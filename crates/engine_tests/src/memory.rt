@@ -5,7 +5,7 @@ use crate::exchanges::told_after;
 use std::alloc::{AllocError, Global};
 use trials::{AMPLE, Talk};
 
-/// Whether a run did all and told all, or stopped after a prefix of it. (The output grows too, so that its writer may fail.)
+/// Returns whether a run did all and reported all, or stopped after a prefix of it. (The output grows too, so that its writer may fail.)
 fn is_all_or_prefix(told: &str, done: &str, all: &str) -> bool {
     let (end, text) = told.split_once(": ").unwrap_or((told, ""));
     if end == done {
@@ -24,25 +24,25 @@ out AR 2 571=R1|880=M1|939=0|
 in AE 3 571=R1|880=M1|55=XF6|32=10|31=101.5|552=1|54=1|1=H1|
 out AR 3 571=R1|880=M1|939=1|751=99|58=DuplicateId|";
 
-/// What is sent where the first isn't entered.
+/// The messages sent if the first one isn't entered.
 const IS_LEFT_OUT: &str = "\
 out A 1 98=0|108=0|1137=9|
 out AR 2 571=R1|880=M1|939=1|751=99|58=Memory|
 out AR 3 571=R1|880=M1|939=0|";
 
-/// What is sent where the second isn't entered.
+/// The messages sent if the second one isn't entered.
 const IS_LEFT_OUT_THEN: &str = "\
 out A 1 98=0|108=0|1137=9|
 out AR 2 571=R1|880=M1|939=0|
 out AR 3 571=R1|880=M1|939=1|751=99|58=Memory|";
 
-/// Whether a run tells that one report was entered, and this.
+/// Returns whether a run reports that one report was entered, and this.
 fn is_told_of_one(told: &str, output: &str) -> bool {
     told.strip_prefix("2 entries, done: ") == Some(output)
 }
 
-/// Whether a report twice has one of its right ends, if one allocation at most failed: it is entered and refused, or left out
-/// and entered, or entered and left out, or the engine stops with a prefix of what it would send.
+/// Returns whether sending a report twice ends in one of the right ways, if one allocation at most failed: it is entered and refused, or
+/// left out and entered, or entered and left out, or the engine stops with a prefix of what it would send.
 fn is_answered_or_stops(alloc: Global) -> Result<bool, AllocError> {
     let twice = Talk::of(alloc, "E1", COMES_TWICE)?;
     let first_out = Talk::of(alloc, "E1", IS_LEFT_OUT)?;

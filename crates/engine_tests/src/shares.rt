@@ -21,7 +21,7 @@ use std::process::Abort;
 use std::sync::Wait;
 use std::sync::ledger::Blank;
 
-/// Nobody hears of entries.
+/// Nobody receives entries.
 #[derive(Drop)]
 struct Nobody;
 
@@ -39,7 +39,7 @@ const QUOTA: Quota = Quota {
     offers: 2,
 };
 
-/// Who asks for what, and what becomes of it. `SWEEP` is done at another seat, and a line that is none asks for positions.
+/// Who asks for what, and the outcome. `SWEEP` is done at another seat, and a line that is none asks for positions.
 const MESSAGES: &[(&str, &str, &str)] = &[
     ("E1", "GIVEUP E1 L1 R1 A1 4", "offered"),
     // Two offers more would be three. What isn't entered isn't counted.
@@ -85,7 +85,7 @@ const MESSAGES: &[(&str, &str, &str)] = &[
     ("E2", "CLAIM E2 9", "denied"),
 ];
 
-/// What a line asks for.
+/// Returns what a line asks for.
 fn request_of(alloc: Global, line: &str) -> Option<Request> {
     match Line::read(alloc, line.as_bytes(), 1) {
         Ok(Some(Line::Step(Step::Enter(command)))) => Some(Request::Enter(command)),
@@ -186,14 +186,14 @@ fn ask_at<E: EntryLedger, S: LotLedger, R: Wait + Abort>(
     drop(from);
 }
 
-/// The history of a book, for a desk over it.
+/// Returns the history of a book, for a desk over it.
 fn annals_of(rt: &impl Abort, alloc: Global, book: &Book) -> BlankAnnals
     ensures { result.entries ≡ book.now.history }
 {
     BlankAnnals::of(alloc, book).ok().expect(rt, "memory")
 }
 
-/// The book with which the desk begins.
+/// Returns the book with which the desk begins.
 fn begun(rt: &impl Abort, alloc: Global) -> Book {
     book_after(alloc, SCRIPT).ok().expect(rt, "a book")
 }

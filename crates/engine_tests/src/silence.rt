@@ -2,7 +2,7 @@
 
 use crate::exchanges::check_cases;
 
-/// C1 logs on, and hears of E1's offer while it sends nothing. Its Logon at nine is its last message.
+/// C1 logs on, and receives E1's offer while it sends nothing. Its Logon at nine is its last message.
 const TIMES: &str = "\
 a silent firm gets notices, and then what its interval asks for: DAY 20260105/REPORT E1 R1 M1 B XF6 10 101.5 H1/REPORT E2 R2 M1 S XF6 10 101.5 H2/ -> 4
 firm C1

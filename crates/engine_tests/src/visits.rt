@@ -28,7 +28,7 @@ pub struct FullHouse {
     pub alloc: Global,
 }
 
-/// The notice of each entry.
+/// Returns the notice of each entry.
 fn notice() -> Option<Notice> {
     Some(Notice::Offer(OfferNotice {
         offer: OfferNo::new(1)?,
@@ -70,7 +70,7 @@ impl House for FullHouse {
     }
 }
 
-/// A clock that stands at nine.
+/// A clock that is at nine.
 #[derive(Drop)]
 pub struct Nine;
 
@@ -86,7 +86,7 @@ impl Clock for Nine {
     }
 }
 
-/// A stream that has room for so many bytes, and then would block.
+/// A stream that has room for this many bytes, and then would block.
 #[derive(Drop)]
 pub struct Narrow {
     pub taken: Vec<u8>,
@@ -114,7 +114,7 @@ impl Write for Narrow {
     }
 }
 
-/// A conversation of E1.
+/// Returns a conversation of E1.
 pub fn conversation(rt: &impl Abort, alloc: Global) -> Conversation {
     let firm = FirmId::new(b"E1").expect(rt, "a firm");
     let firms = Vec::from_slice(alloc, &[firm]).expect(rt, "memory");
@@ -131,7 +131,7 @@ pub struct Visit {
 }
 
 impl Visit {
-    /// A visit before its first turn, whose answers go out by this gate.
+    /// Returns a visit before its first turn, whose answers go out by this gate.
     pub fn new(rt: &impl Abort, alloc: Global, gate: Gate) -> Self {
         Visit {
             conversation: Some(conversation(rt, alloc)),
@@ -145,12 +145,12 @@ impl Visit {
         }
     }
 
-    /// The conversation.
+    /// Returns the conversation.
     pub fn conversation(&mut self, rt: &impl Abort) -> &mut Conversation {
         self.conversation.as_mut().expect(rt, "a conversation")
     }
 
-    /// Makes a turn, at which the stream has room for so many bytes. Then the room of what is empty is given back.
+    /// Makes a turn, at which the stream has room for this many bytes. Then the room of what is empty is given back.
     pub fn turn<R: Read>(
         &mut self,
         rt: &impl Abort,
@@ -174,7 +174,7 @@ impl Visit {
         turned
     }
 
-    /// Makes turns until all was sent, but at most so many, and returns whether all was sent.
+    /// Makes turns until all was sent, but at most this many, and returns whether all was sent.
     pub fn turns<R: Read>(
         &mut self,
         rt: &impl Abort,

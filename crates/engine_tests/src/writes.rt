@@ -7,7 +7,8 @@ use std::alloc::Global;
 use std::process::Abort;
 use trials::{Talk, meant};
 
-/// Asserts that what a firm's connection to a book after a script writes in all is at least so long, and what it writes at once at most so long.
+/// Asserts that what a firm's connection to a book after a script writes in all is at least so long, and what it writes at once at most so
+/// long.
 fn check(
     rt: &impl Abort,
     alloc: Global,
@@ -40,7 +41,7 @@ fn three_resends_of_one_read_are_not_held_together(rt: HostRuntime) {
     check(&rt, rt.alloc(), "", "E1", RESENDS, (2_360_864, 685_564));
 }
 
-/// 200 give-ups of sixteen lots each and the claims of them tell C1 6,400 notices of some 170 bytes.
+/// 200 give-ups of sixteen lots each and the claims of them report C1 6,400 notices of some 170 bytes.
 const CLAIMS: &str = "\
 DAY 20260105/LIMIT G1 EXEC E1 100000/LIMIT G1 AGR P1 100000/LIMIT G1 ACCT A1 100000/LIMIT G1 CARRY C1 100000/REPORT E1 R1 M1 B XF6 10000 101.5 H1/REPORT E2 R2 M1 S XF6 10000 101.5 H2/(GIVEUP E1 L% R1 A1 1 A1 1 A1 1 A1 1 A1 1 A1 1 A1 1 A1 1 A1 1 A1 1 A1 1 A1 1 A1 1 A1 1 A1 1 A1 1/*1..200)(CLAIM C1 %/*1..3200)";
 

@@ -18,7 +18,7 @@ impl Clocks {
         self.system_ms = self.system_ms.saturating_add(passed);
     }
 
-    /// Goes on with a machine that sleeps: its monotonic clock stands still.
+    /// Resumes a machine that sleeps: its monotonic clock doesn't move.
     pub fn sleep(&mut self, ms: u64) {
         let passed = ms.saturating_mul(self.rate) / 1_000;
         self.system_ms = self.system_ms.saturating_add(passed);

@@ -3,7 +3,7 @@ use gu_etcd::{MAX_ANSWER, NodeError, PutAnswer, read_put};
 use std::alloc::Global;
 use std::test::Fail;
 
-/// What is read of an answer, as a word.
+/// Returns what is read of an answer, as a word.
 fn word(alloc: Global, answer: &str) -> &'static str {
     match read_put(alloc, answer.as_bytes()) {
         Ok(PutAnswer::Kept) => "kept",

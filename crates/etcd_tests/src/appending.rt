@@ -1,9 +1,9 @@
 //! Days over a model of etcd: the product's own appender, with lost requests and answers, doubled requests, and two desks.
 use crate::etcd::{Etcd, Fate, Way};
 use gu_etcd::{
-    AppendError, Appender, Gateway, LAST_NUMBER, MAX_BATCH, MAX_ENTRY, Name, NodeError, TRIES,
-    entry_of,
+    AppendError, Appender, Gateway, LAST_NUMBER, MAX_ENTRY, Name, NodeError, TRIES, entry_of,
 };
+use gu_journal::MAX_BATCH;
 use std::alloc::{AllocError, Global};
 use std::test::Fail;
 
@@ -55,7 +55,7 @@ const DESK_A: Desk<'static> = Desk {
     count: 0,
 };
 
-/// What becomes of the requests for one batch, what the appender says, and how often a request came.
+/// The fates of the requests for one batch, the appender's result, and how often a request came.
 const FATES: &[(&str, &[Fate], Result<u64, AppendError>, usize)] = &[
     ("answered", &[], Ok(1), 1),
     ("a lost request", &[Fate::RequestLost], Ok(1), 2),
@@ -226,7 +226,7 @@ fn a_log_is_read_page_by_page(rt: HostRuntime) -> Result<(), Fail> {
 /// Two batches of a day.
 const BATCHES: &[&str] = &["DAY 20260105\n", "LIMIT G1 EXEC E1 100\n"];
 
-/// Returns how many of two batches are kept, at the second try if the first gets no memory.
+/// Returns how many of two batches are kept, retrying once if memory is refused.
 fn two_batches(alloc: Global, etcd: &mut Etcd) -> Result<u64, AppendError> {
     let mut desk = DESK_A;
     for batch in BATCHES {

@@ -5,7 +5,7 @@ use gu_etcd::{Exchange, NodeError};
 use serde_json::Value;
 use std::alloc::{AllocError, Global};
 
-/// What becomes of a request.
+/// The fate of a request.
 #[derive(Clone, Copy, PartialEq, Eq)]
 pub enum Fate {
     /// It is carried out and answered.
@@ -110,7 +110,7 @@ fn range_request_of(alloc: Global, body: &str) -> Option<RangeRequest> {
     })
 }
 
-/// The answer that a value is at a key.
+/// Returns the answer that a value is at a key.
 fn found_text(alloc: Global, key: &str, value: &str) -> Result<String, AllocError> {
     format!(in alloc;
         "{{\"responses\":[{{\"response_range\":{{\"kvs\":[{{\"key\":\"{key}\",\"value\":\"{value}\"}}],\"count\":\"1\"}}}}]}}"
@@ -156,7 +156,7 @@ pub struct Way<'a> {
 }
 
 impl Way<'_> {
-    /// Returns what becomes of the next request.
+    /// Returns the fate of the next request.
     fn next_fate(&mut self) -> Fate {
         match self.fates {
             [fate, rest @ ..] => {
@@ -167,7 +167,7 @@ impl Way<'_> {
         }
     }
 
-    /// Carries a request out as often as its fate says, and returns what is answered.
+    /// Carries a request out as often as its fate says, and returns the answer.
     fn play(&mut self, alloc: Global, request: &Request) -> Result<Option<String>, AllocError> {
         match self.next_fate() {
             Fate::Answered => Ok(Some(self.etcd.answer(alloc, request)?)),

@@ -18,4 +18,6 @@ mod memory;
 #[cfg(test)]
 mod pages;
 #[cfg(test)]
+mod sinks;
+#[cfg(test)]
 mod texts;

@@ -7,7 +7,7 @@ use std::alloc::{AllocError, Global};
 use std::test::Fail;
 
 /// Returns an etcd with an empty log, which desk A-2 asks, and whose calls have these fates, the last one first.
-fn node_of(alloc: Global, leads: bool, fates: &[Fate]) -> Result<MemoryNode, AllocError>
+pub fn node_of(alloc: Global, leads: bool, fates: &[Fate]) -> Result<MemoryNode, AllocError>
     ensures leader { IfOk result (λ node. node.leader.items ≡ codes "A-2") }
     ensures log { IfOk result (λ node. node.log.items ≡ []) }
     ensures known { IfOk result (λ node. node.known ≡ 0) }

@@ -1,4 +1,4 @@
-//! What is read of an answer, however it comes.
+//! Answers as they are read, however they arrive.
 use crate::line::{Line, Piece};
 use gu_etcd::{MAX_ANSWER, NodeError};
 use gu_exchange::Connection;

@@ -46,7 +46,7 @@ const LATE: &[Piece] = &[
     Piece::Text("HTTP/1.1 200 OK\r\nContent-Length: 4\r\n\r\nlate"),
 ];
 
-/// Returns what is answered, as a text, or `-` if nothing is.
+/// Returns the answer as a text, or `-` if there is none.
 fn said<C: Connector>(exchange: &mut HttpExchange<C>, alloc: Global, endpoint: usize) -> String {
     let answer = match exchange.post(alloc, endpoint, "/v3/kv/txn", "{}") {
         Ok(answer) => String::from_utf8(answer).ok(),

@@ -13,7 +13,7 @@ pub enum Piece {
     Signal,
     /// The read fails.
     Fault,
-    /// As many bytes as there is room for, so many times.
+    /// As many bytes as there is room for, this many times.
     Endless(u32),
 }
 

@@ -1,4 +1,4 @@
--- What is kept beside a history takes accepted commands in.
+-- Applying accepted commands to the totals kept beside a history.
 use Rattle.std.proofs.Common.{◌≡◌, ℕ, zero, suc, ◌+◌, ◌*◌, ◌-◌, ◌<◌, ◌≤◌, ◌&&◌, ◌++◌, true, false, List, [], ◌∷◌, length, slice_index_or, Option, None, Some, unwrap_or, Result, Ok, Err, refl, sym, ap, ◌∙◌, arith, subst}
 use Rattle.std.specs.Prelude.{All}
 use Rattle.std.specs.Result.{OnOk}
@@ -54,7 +54,7 @@ use Rattle.gu_book.specs.declared.deed.Moved.{Moved}
 use Rattle.gu_book.specs.declared.totals.Totals.{Totals}
 use Rattle.gu_book.proofs.KeptOffers.{kept-refused, kept-taken, kept-taken_back, within-taken}
 
--- what follows from two facts of a result, and from three
+-- consequences of two properties of a result, and of three
 pub on_ok_two : {T E P Q R : Type 0} (r : Result T E) → (P → Q → R) → OnOk r P → OnOk r Q → OnOk r R
 on_ok_two (Ok x) f p q = f p q
 on_ok_two (Err e) f p q = tt
@@ -63,7 +63,7 @@ pub on_ok_three : {T E P Q R S : Type 0} (r : Result T E) → (P → Q → R →
 on_ok_three (Ok x) f p q s = f p q s
 on_ok_three (Err e) f p q s = tt
 
--- what is kept is the state that the history comes to
+-- the totals are the state that the history leads to
 pub state_is : (reference : Tables) (history : List Entry) (totals : Totals) → IsBeside reference history totals → state_in totals ≡ state_of reference history
 state_is reference history totals b =
     λ i. record {
@@ -74,17 +74,17 @@ state_is reference history totals b =
       room = λ group key. b.limits group key i - b.uses group key i;
     }
 
--- so that the answer by it is the answer
+-- so the answer from them is the answer
 pub answer_is : (reference : Tables) (history : List Entry) (totals : Totals) (command : Command) → IsBeside reference history totals
     → answer_in reference (state_in totals) command ≡ answer reference history command
 answer_is reference history totals command b = ap (λ (s : State). answer_in reference s command) (state_is reference history totals b)
 
--- there are 16 offers an entry at most
+-- there are at most 16 offers for each entry
 pub few_offers : (reference : Tables) (history : List Entry) (totals : Totals) → IsKept reference history totals → length totals.offers ≤ 16 * length history
 few_offers reference history totals kept =
     omega (arith, ap (λ (rs : List Row). length rs) kept.beside.offers, length-standing_from history 1 (offers_of history), kept.orderly.few)
 
--- the lots of a place lie in it
+-- the lots of a place are in it
 own_place : (side : Side) (account : AccountId) (symbol : Symbol) (lots : ℕ) → lots_at side account symbol lots side account symbol ≡ lots
 own_place Buy account symbol lots = rw (same_account-own account, same_symbol-own symbol) refl
 own_place Sell account symbol lots = rw (same_account-own account, same_symbol-own symbol) refl
@@ -94,7 +94,7 @@ pub some-terms : (found : Option Report) (terms : Terms) → Some terms ≡ opti
 some-terms None terms is = absurd (none-some terms (sym is))
 some-terms (Some r) terms is = (r, refl, ap (λ (t : Option Terms). unwrap_or t terms) (sym is))
 
--- an offer and the terms of its report, as they are found, are those of the history
+-- an offer and the terms of its report, as found, are those of the history
 pub seen-is : (reference : Tables) (history : List Entry) (totals : Totals) (n : ℕ) (offer : Offer) (report : Terms) (found : Report) (row : Row) → IsBeside reference history totals
     → AreFound totals n offer report → IsThere history n row found → (offer ≡ row.offer) × (report ≡ terms_of found)
 seen-is reference history totals n offer report found row b seen there =
@@ -105,7 +105,7 @@ seen-is reference history totals n offer report found row b seen there =
 
 -- ---- claims
 
--- lots that are left of an open offer are there
+-- lots left of an open offer are held
 pub taken-there : (reference : Tables) (history : List Entry) (totals : Totals) (n lots : ℕ) (row : Row) (report : Report) → IsKept reference history totals → IsThere history n row report
     → row.is_shut ≡ false → row.moved + lots ≤ row.offer.lots → lots ≤ lots_in totals.positions report.side report.account report.symbol
 taken-there reference history totals n lots row report kept there stands less =
@@ -116,7 +116,7 @@ taken-there reference history totals n lots row report kept there stands less =
     (within-taken history n lots row there.at less o.within) in
     omega (arith, has, own_place report.side report.account report.symbol lots, kept.beside.positions report.side report.account report.symbol)
 
--- an entry that takes lots of an open offer is taken in
+-- an entry that takes lots from an open offer is applied
 pub lots-taken : (reference : Tables) (history : List Entry) (old new : Totals) (entry : Entry) (n lots : ℕ) (offer : Offer) (report : Terms) (found : Report) (row : Row) → AreFound old n offer report → TakesOne entry n lots
     → SameEntries old new → new.offers ≡ changed old.offers n (taken lots) → UsesMore reference old.limits new.limits offer lots
     → HoldsMoved old.positions new.positions report report.account offer.account lots → IsKept reference history old → IsThere history n row found → row.is_shut ≡ false → row.moved + lots ≤ row.offer.lots
@@ -128,11 +128,11 @@ lots-taken reference history old new entry n lots offer report found row seen ta
     (subst (λ (r : Terms). HoldsMoved old.positions new.positions r r.account row.offer.account lots) is.1
     (subst (λ (o : Offer). HoldsMoved old.positions new.positions report report.account o.account lots) is.0 holds))
 
--- what a claim of some firm moves
+-- the lots that a firm's claim moves
 abbrev pub ClaimsAll : Tables → Totals → Command → Moved → Type 0
 ClaimsAll reference totals command it = MovesLots reference totals command claim_of it (left_in totals.offers it.number)
 
--- a claim has room, and its lots are there
+-- a claim has room, and its lots are held
 pub claim-fits : (reference : Tables) (totals : Totals) (command : Command) (it : Moved) → MayTakeIn reference totals command → (is : ClaimsAll reference totals command it)
     → MayCharge totals.limits it.group (path_after reference is.offer) it.lots it.limits × (it.lots ≤ lots_in totals.positions it.report.side it.report.account it.report.symbol)
 claim-fits reference totals command it may is = (record { under = is.under; once = path_after-once reference is.offer; room = room }, there)
@@ -165,7 +165,7 @@ claim-fits reference totals command it may is = (record { under = is.under; once
         let fits = taken-there reference history totals (it.number) (left_in (standing_of history) it.number) f.0 f.1 asked.kept f.2.there f.2.stands f.2.less in
         subst (λ (r : Terms). it.lots ≤ lots_in totals.positions r.side r.account r.symbol) (sym same.1) (omega (arith, fits, left))
 
--- a claim is taken in
+-- a claim is applied
 pub claim-taken : (reference : Tables) (old new : Totals) (command : Command) (it : Moved) → (is : ClaimsAll reference old command it) → SameEntries old new → new.offers ≡ changed old.offers it.number (taken it.lots)
     → ((keys : List LimitKey) → MayCharge old.limits it.group keys it.lots it.limits → Charges old.limits new.limits it.group keys it.lots)
     → HoldsMoved old.positions new.positions it.report it.report.account it.account it.lots → TakesIn reference old new command
@@ -182,7 +182,7 @@ claim-taken reference old new command it is same offers uses holds =
 
 -- ---- refusals
 
--- a refusal is taken in
+-- a refusal is applied
 pub refusal-taken : (reference : Tables) (old new : Totals) (n : ℕ) → SameEntries old new → new.offers ≡ changed old.offers n closed → new.limits ≡ old.limits → new.positions ≡ old.positions
     → (firm : FirmId) (why : AllocReject) → TakesIn reference old new (Refuse (record { firm = firm; offer = n; why = why }))
 refusal-taken reference old new n same offers limits positions firm why history kept accepted =
@@ -191,17 +191,17 @@ refusal-taken reference old new n same offers limits positions firm why history 
 
 -- ---- reversals
 
--- a key of a path stands in it
+-- a key of a path is on it
 pub key_at : (path : List LimitKey) (k : ℕ) (d : LimitKey) → k < length path → has_key path (slice_index_or path k d) ≡ true
 key_at [] k d within = absurd (omega arith)
 key_at (key ∷ path) zero d within = rw (key_eq-refl key) refl
 key_at (key ∷ path) (suc k) d within = either-true (key_eq key (slice_index_or path k d)) (has_key path (slice_index_or path k d)) (key_at path k d (omega arith))
 
--- what a reversal of some firm moves
+-- the lots that a firm's reversal moves
 abbrev pub TakesBack : Tables → Totals → Command → Moved → Type 0
 TakesBack reference totals command it = MovesLots reference totals command reversal_of it (today_in totals.offers it.number)
 
--- what is reversed was used, and its lots are there
+-- what is reversed was used, and its lots are held
 pub reversal-fits : (reference : Tables) (totals : Totals) (command : Command) (it : Moved) → MayTakeIn reference totals command → (is : TakesBack reference totals command it)
     → MayReturn totals.limits it.group (path_after reference is.offer) it.lots it.limits × (it.lots ≤ lots_in totals.positions it.report.side it.account it.report.symbol)
 reversal-fits reference totals command it may is = (record { under = is.under; once = path_after-once reference is.offer; used = used }, there)
@@ -247,7 +247,7 @@ reversal-fits reference totals command it may is = (record { under = is.under; o
         subst (λ (r : Terms). it.lots ≤ lots_in totals.positions r.side it.account r.symbol) (sym same.1)
         (subst (λ (account : AccountId). it.lots ≤ lots_in totals.positions found.side account found.symbol) (sym account) fits)
 
--- a reversal is taken in
+-- a reversal is applied
 pub reversal-taken : (reference : Tables) (old new : Totals) (command : Command) (it : Moved) → (is : TakesBack reference old command it) → SameEntries old new → new.offers ≡ changed old.offers it.number reversed
     → ((keys : List LimitKey) → MayReturn old.limits it.group keys it.lots it.limits → Returns old.limits new.limits it.group keys it.lots)
     → HoldsMoved old.positions new.positions it.report it.account it.report.account it.lots → TakesIn reference old new command

@@ -1,4 +1,4 @@
--- What is kept beside no history, and after what was refused.
+-- The totals of the empty history, and after a refusal.
 use Rattle.std.proofs.Common.{◌≡◌, true, false, ◌<◌, ◌++◌, List, [], ◌∷◌, length, None, sym, ap, ◌∙◌, arith, subst}
 use Rattle.gu_terms.specs.Commands.{MayBeAsked}
 use Rattle.gu_terms.specs.declared.command.Command.{Command}
@@ -23,7 +23,7 @@ use Rattle.gu_book.specs.declared.totals.Totals.{Totals}
 use Rattle.gu_book.specs.declared.versions.Versions.{Versions}
 use Rattle.gu_book.proofs.KeptQuiet.{kept-denied}
 
--- what is kept beside no history
+-- the totals of the empty history
 pub nothing-kept : (reference : Tables) (totals : Totals) (versions : Versions) → totals.today ≡ None → totals.trades ≡ [] → totals.offers ≡ [] → totals.give_ups.keys ≡ [] → totals.limits ≡ [] → totals.positions ≡ []
     → versions.days ≡ 0 → ((group : Group) → version_in versions group ≡ 0) → IsKeptLegal reference [] totals versions
 nothing-kept reference totals versions today trades offers give_ups limits positions days none = record {
@@ -45,7 +45,7 @@ nothing-kept reference totals versions today trades offers give_ups limits posit
   counted = record { each = none; days = omega (arith, days) };
 }
 
--- where an allocation failed, what was kept still is
+-- if an allocation failed, the totals are unchanged
 pub still-kept : (reference : Tables) (history : List Entry) (old new : Totals) → IsKept reference history old → SameAnswers old new → IsKept reference history new
 still-kept reference history old new kept same =
     let b = kept.beside in
@@ -64,7 +64,7 @@ still-kept reference history old new kept same =
       };
     }
 
--- a legal history grows by it
+-- a legal history extended by an accepted command
 pub legal-accepted : (reference : Tables) (history : List Entry) (old new : Totals) (before after : Versions) (command : Command) (reply : Reply) → IsKeptLegal reference history old before
     → length history < 1000000 → MayBeAsked command → reply ≡ answer reference history command → accepts reply ≡ true → TakesIn reference old new command
     → AreVersions (history ++ Asked command reply ∷ []) after → IsKeptLegal reference (history ++ Asked command reply ∷ []) new after
@@ -76,7 +76,7 @@ legal-accepted reference history old new before after command reply kept room as
       counted = counted;
     }
 
--- and by one that was refused
+-- and by a refused one
 pub legal-denied : (reference : Tables) (history : List Entry) (totals : Totals) (before after : Versions) (command : Command) (reply : Reply) → IsKeptLegal reference history totals before
     → length history < 1000000 → MayBeAsked command → reply ≡ answer reference history command → accepts reply ≡ false
     → AreVersions (history ++ Asked command reply ∷ []) after → IsKeptLegal reference (history ++ Asked command reply ∷ []) totals after
@@ -88,7 +88,7 @@ legal-denied reference history totals before after command reply kept room asked
       counted = counted;
     }
 
--- where nothing was entered, all of it stays
+-- if nothing was entered, everything is unchanged
 pub legal-refused : (reference : Tables) (history : List Entry) (old new : Totals) (before after : Versions) → IsKeptLegal reference history old before → SameAnswers old new
     → AreVersions history after → IsKeptLegal reference history new after
 legal-refused reference history old new before after kept same counted = record {

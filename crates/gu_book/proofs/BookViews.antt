@@ -1,4 +1,4 @@
--- The view that is made of what is kept is the view of the history.
+-- The view made from the totals is the view of the history.
 use Rattle.std.proofs.Common.{◌≡◌, ◌-◌, List, map}
 use Rattle.gu_terms.specs.declared.entry.Entry.{Entry}
 use Rattle.gu_terms.specs.declared.group.Group.{Group}

@@ -1,4 +1,4 @@
--- Claims that are answered by what is kept, and histories that are cut back.
+-- Claims answered from the totals, and truncated histories.
 use Rattle.std.proofs.Common.{◌≡◌, ℕ, Bool, true, false, List, [], ◌∷◌, Option, Some, None, refl, ◌∙◌, nat_lt, ◌==◌, ap, zero, suc, arith, inl, inr, ◌++◌, length, take}
 use Rattle.std.proofs.Math.Seq.{take-append_seam}
 use Rattle.std.proofs.lemmas.Bool.{cases_Bool}
@@ -16,7 +16,7 @@ use Rattle.gu_rules.specs.Limits.{path_after}
 use Rattle.gu_rules.proofs.Passing.{room_first}
 use Rattle.gu_book.specs.Beside.{short_key, some_lots}
 
--- of an offer of which lots are left, a claim is refused by the first key that has less room
+-- for an offer with lots left, a claim is refused for the first key with less room
 pub claim_refused : (reference : Tables) (state : State) (n : ℕ) → (left_in state.offers n == 0) ≡ false
     → refusal_in (claim_tests reference state n) ≡ option_map LimitReached (short_key reference state n (left_in state.offers n))
 claim_refused reference state n some = first (left_in state.offers n == 0) some ∙ rooms (row_at state.offers n)
@@ -36,7 +36,7 @@ claim_refused reference state n some = first (left_in state.offers n == 0) some 
     rooms None = refl
     rooms (Some row) = room_first (state.room row.offer.group) left (path_after reference row.offer)
 
--- the first key of an offer that is found, by its own path
+-- the first such key of an offer that is found, from its own path
 pub short_key-of : (reference : Tables) (state : State) (n lots : ℕ) (offer : Offer) → Some offer ≡ option_map (λ (row : Row). row.offer) (row_at state.offers n)
     → find (λ key. nat_lt (state.room offer.group key) lots) (path_after reference offer) ≡ short_key reference state n lots
 short_key-of reference state n lots offer shown = by (row_at state.offers n) shown
@@ -47,7 +47,7 @@ short_key-of reference state n lots offer shown = by (row_at state.offers n) sho
     by None e = cc
     by (Some row) e = let one : offer ≡ row.offer = cc in ap (λ (o : Offer). find (λ key. nat_lt (state.room o.group key) lots) (path_after reference o)) one
 
--- some lots are those, and not none
+-- if there are lots, they are these and not 0
 pub lots_are : (n lots : ℕ) → Some lots ≡ some_lots n → (lots ≡ n) × ((n == 0) ≡ false)
 lots_are zero lots e = cc
 lots_are (suc n) lots e =
@@ -59,7 +59,7 @@ lots_are (suc n) lots e =
       ],
     )
 
--- a history that is cut back to what it was
+-- a history truncated to what it was
 pub truncated : (history : List Entry) (entry : Entry) (count : ℕ) (pushed cut : List Entry) → count ≡ length history → pushed ≡ history ++ entry ∷ [] → cut ≡ take count pushed → cut ≡ history
 truncated history entry count pushed cut counted added is =
     is ∙ ap (λ (n : ℕ). take n pushed) counted ∙ ap (take (length history)) added ∙ take-append_seam history (entry ∷ [])

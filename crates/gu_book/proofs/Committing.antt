@@ -1,4 +1,4 @@
--- A legal history grows by a sweep that is committed.
+-- A legal history extended by a committed sweep.
 use Rattle.std.proofs.Common.{◌≡◌, ◌+◌, ◌≤◌, List, [], ◌∷◌, ◌++◌, length, if◌then◌else◌, refl, sym, ap, ◌∙◌, arith, subst}
 use Rattle.std.specs.List.{AllByRecursion}
 use Rattle.gu_terms.specs.declared.entry.Entry.{Entry}
@@ -41,7 +41,7 @@ may-move book proposal old mid versions view takes kept current right same made 
     subst (λ (offers : List ViewOffer). MayMove book.reference mid offers takes) (sym shown)
     (subst (MayMove book.reference mid (offers_shown book.reference book.history proposal.view.group)) (sym are) may)
 
--- where an allocation failed, all stays
+-- if an allocation failed, everything is unchanged
 pub legal-still : (reference : Tables) (history : List Entry) (old mid : Totals) (old_counts new_counts : Versions) → IsKeptLegal reference history old old_counts → SameAnswers old mid
     → new_counts.days ≡ old_counts.days → ((group : Group) → version_in new_counts group ≡ version_in old_counts group)
     → IsKeptLegal reference history mid new_counts
@@ -51,7 +51,7 @@ legal-still reference history old mid old_counts new_counts kept same days count
   counted = versions-same history old_counts new_counts kept.counted days counts;
 }
 
--- the history with the sweep
+-- the history followed by the sweep
 pub legal-swept : (book : BookState) (proposal : ProposedSweep) (mid new : Totals) (counts new_counts : Versions) → IsKeptLegal book.reference book.history mid counts → IsCurrent book proposal.view
     → IsSweepOf proposal.view (sweep_of proposal) → MovesAll book.reference mid new proposal.takes → new_counts.days ≤ counts.days + 1
     → ((group : Group) → version_in new_counts group ≡ (if is_touched (Only proposal.view.group) group then version_in counts group + 1 else version_in counts group))
@@ -64,7 +64,7 @@ legal-swept book proposal mid new counts new_counts kept current right moves day
       counted = versions-push book.history (Swept sweep) counts new_counts (Only proposal.view.group) kept.counted (λ group. refl) touched days;
     }
 
--- in which it stands last
+-- the sweep is its last entry
 pub swept-last : (book : BookState) (proposal : ProposedSweep) (totals : Totals) (versions : Versions) → IsKeptLegal book.reference book.history totals versions → IsCurrent book proposal.view
     → IsSweepOf proposal.view (sweep_of proposal) → StandsLast book.reference (length book.history + 1) (Swept (sweep_of proposal))
 swept-last book proposal totals versions kept current right = stands_last book.reference book.history (Swept (sweep_of proposal)) kept.legal current.room tt (may-sweep book proposal current right)

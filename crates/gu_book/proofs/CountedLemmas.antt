@@ -1,4 +1,4 @@
--- Versions as they are kept: what one entry adds to the counts.
+-- Versions as stored: what one entry adds to the counts.
 use Rattle.std.proofs.Common.{◌≡◌, ℕ, suc, zero, ◌+◌, ◌<◌, ◌≤◌, ◌^◌, Bool, true, false, cond, List, [], ◌∷◌, ◌++◌, length, Option, Some, None, unwrap_or, inl, inr, refl, sym, ap, ◌∙◌, arith, length-append, if◌then◌else◌}
 use Rattle.std.specs.Prelude.{slice_get}
 use Rattle.std.specs.Option.{option_map, option_map_or}
@@ -29,7 +29,7 @@ use Rattle.gu_book.specs.declared.totals.Totals.{Totals}
 use Rattle.gu_book.specs.declared.versions.Touched.{Touched}
 use Rattle.gu_book.specs.declared.versions.Versions.{Versions}
 
--- a group that is new was touched by none
+-- a new group was touched by no entry
 pub version_in-new : (old new : Versions) (group : Group) → new.days ≡ old.days → Updates same_group old.own new.own group (Some 0) → get same_group old.own group ≡ None
     → (other : Group) → version_in new other ≡ version_in old other
 version_in-new old new group days updated none other = (λ i. days i + unwrap_or (updated.0 other i) 0) ∙ by (same_group group other) refl
@@ -47,13 +47,13 @@ stored group (e ∷ entries) k found =
       | inr miss ↦ stored group entries k (rw miss at found)
     ]
 
--- what stands at the place of an entry
+-- the value at the index of an entry
 value-at : (entries : List (Group × ℕ)) (place : ℕ) (e : Group × ℕ) → slice_get entries place ≡ Some e → slice_get (values_of entries) place ≡ Some e.1
 value-at [] place e h = cc
 value-at (first ∷ entries) zero e h = ap (option_map (λ (e : Group × ℕ). e.1)) h
 value-at (first ∷ entries) (suc place) e h = value-at entries place e h
 
--- so its count stands where it was found
+-- so its count is where it was found
 pub counted-at : (versions : Versions) (place : ℕ) (group k : Group) (n : ℕ) → slice_get versions.own.entries place ≡ Some (k, n)
     → Some k ≡ get_key_by (same_group group) versions.own → Some n ≡ get same_group versions.own group → IsCountAt versions place group
 counted-at versions place group k n here key value = record {
@@ -63,7 +63,7 @@ counted-at versions place group k n here key value = record {
   written = value-at versions.own.entries place (k, n) here;
 }
 
--- a count that is written at its place is one group's
+-- a count written at its index is that of one group
 pub version_in-touched : (old : Versions) (place : ℕ) (group : Group) (n : ℕ) → IsCountAt old place group → Some n ≡ slice_get (values old.own) place → IsUnique same_group old.own
     → (other : Group) → version_in (record old { own = with_value_at old.own place (n + 1) }) other ≡ (if same_group group other then version_in old other + 1 else version_in old other)
 version_in-touched old place group n at found unique other =
@@ -88,7 +88,7 @@ version_in-touched old place group n at found unique other =
 
 -- ---- which groups an entry touches
 
--- the offer of a number is of the group of its row
+-- the offer with a number is in the group of its row
 of-row : (history : List Entry) (group : Group) (n : ℕ)
     → option_map_or (λ (at : Group). same_group at group) (option_map (λ (row : Row). row.offer.group) (row_at (standing_of history) n)) false ≡ is_of_group history group n
 of-row history group zero = refl
@@ -101,7 +101,7 @@ of-row history group (suc place) = go 1 (offers_of history) place
     go m (offer ∷ offers) zero = refl
     go m (offer ∷ offers) (suc at) = go (m + 1) offers at
 
--- so an offer of a known group is of it
+-- so an offer with a known group is in it
 of-group : (history : List Entry) (totals : Totals) (group at : Group) (n : ℕ) → totals.offers ≡ standing_of history → Some at ≡ option_map (λ (row : Row). row.offer.group) (row_at totals.offers n)
     → same_group at group ≡ is_of_group history group n
 of-group history totals group at n offers here =
@@ -113,12 +113,12 @@ pub group-found : (found : Option Row) (offer : Offer) → Some offer ≡ option
 group-found None offer e = cc
 group-found (Some row) offer e = ap (λ (o : Option Offer). option_map (λ (o : Offer). o.group) o) e
 
--- and so is one that is known
+-- and of one that is known
 of-offer : (history : List Entry) (totals : Totals) (group : Group) (offer : Offer) (n : ℕ) → totals.offers ≡ standing_of history → Some offer ≡ option_map (λ (row : Row). row.offer) (row_at totals.offers n)
     → same_group offer.group group ≡ is_of_group history group n
 of-offer history totals group offer n offers shown = of-group history totals group offer.group n offers (group-found (row_at totals.offers n) offer shown)
 
--- a deed touches the groups that its entry touches
+-- an effect touches the groups that its entry touches
 pub accepted-touches : (reference : Tables) (history : List Entry) (totals : Totals) (command : Command) (deed : Deed) (group : Group) → totals.offers ≡ standing_of history → IsDeedOf reference totals command deed
     → is_touched (touched_by deed) group ≡ touches history group (Asked command (Accepted (done_by deed)))
 accepted-touches reference history totals command (Opens opening) group offers is = rw is refl
@@ -129,18 +129,18 @@ accepted-touches reference history totals command (Claims claimed) group offers 
 accepted-touches reference history totals command (Refuses number at lots) group offers is = rw is.is (of-group history totals group at number offers is.group_is)
 accepted-touches reference history totals command (Reverses reversed) group offers is = rw (is.is, is.group_is) (of-offer history totals group is.offer reversed.number offers is.seen.shown)
 
--- and a refused command touches none
+-- a refused command touches none
 pub denied-touches : (history : List Entry) (command : Command) (why : Refusal) (group : Group) → false ≡ touches history group (Asked command (Denied why))
 denied-touches history (OpenDay it) why group = refl
 denied-touches history command why group = refl
 
 -- ---- the counts after one more entry
 
--- where nothing was entered, they stay
+-- if nothing was entered, they are unchanged
 pub versions-same : (history : List Entry) (old new : Versions) → AreVersions history old → new.days ≡ old.days → ((group : Group) → version_in new group ≡ version_in old group) → AreVersions history new
 versions-same history old new are days same = record { each = λ group. same group ∙ are.each group; days = omega (arith, days, are.days) }
 
--- and an entry adds one where it touches
+-- an entry adds one for each group that it touches
 pub versions-push : (history : List Entry) (entry : Entry) (old new : Versions) (touched : Touched) → AreVersions history old
     → ((group : Group) → is_touched touched group ≡ touches history group entry)
     → ((group : Group) → version_in new group ≡ (if is_touched touched group then version_in old group + 1 else version_in old group)) → new.days ≤ old.days + 1
@@ -150,7 +150,7 @@ versions-push history entry old new touched are is adds days = record {
   days = omega (arith, days, are.days, length-append history (entry ∷ []));
 }
 
--- the counts of a history with room for an entry are far from their bound
+-- the counts of a history with room for an entry are far below their bound
 pub versions-fit : (history : List Entry) (versions : Versions) → AreVersions history versions → length history ≤ 1000000 → (group : Group) → version_in versions group + 1 < 2 ^ 64
 versions-fit history versions are few group =
     let e : version_in versions group ≤ 1000000 = omega (arith, are.each group, version-le history group, few) in

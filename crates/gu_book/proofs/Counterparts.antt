@@ -1,4 +1,4 @@
--- What a report meets, by the reports with its match id, and what it brings to positions.
+-- The counterpart of a report among those with its match id, and what the report adds to positions.
 use Rattle.std.proofs.Common.{◌≡◌, ◌+◌, ◌≤◌, Bool, true, false, List, [], ◌∷◌, Option, None, Some, unwrap_or, refl, sym, ap, ◌∙◌, arith, subst, inl, inr}
 use Rattle.std.specs.Prelude.{if◌then◌else◌}
 use Rattle.std.proofs.lemmas.Bool.{cases_Bool}
@@ -19,7 +19,7 @@ use Rattle.gu_rules.specs.Answer.{first_standing}
 use Rattle.gu_book.specs.Beside.{answer_to_match, waiting_of}
 use Rattle.gu_book.specs.Effects.{HoldsMore, made_a_trade}
 
--- the last test of a report, by what it meets
+-- the last test of a report, given its counterpart
 pub answer-met : (sides : List Report) (report : Report)
     → answer_to_match (counterpart_of sides (terms_of report)) ≡ first_standing ((conflicts sides report, MatchConflict) ∷ []) (Reported (is_waiting sides))
 answer-met [] report = refl
@@ -30,22 +30,22 @@ answer-met (first ∷ []) report =
     ]
 answer-met (first ∷ second ∷ more) report = refl
 
--- where none waits alone, nobody is met who waits
+-- if there isn't exactly one report, none is waiting
 pub nobody_waits : (sides : List Report) (terms : Terms) → is_waiting sides ≡ false → waiting_of (counterpart_of sides terms) ≡ None
 nobody_waits [] terms alone = refl
 nobody_waits (first ∷ []) terms alone = cc
 nobody_waits (first ∷ second ∷ more) terms alone = refl
 
--- what is told where these terms are told if they fit
+-- the result when these terms are returned if they fit
 told_alone : (terms waiting : Terms) (fits : Bool) → Some waiting ≡ waiting_of (if fits then Waiting terms else Conflicting) → (terms ≡ waiting) × (fits ≡ true)
 told_alone terms waiting true own = (ap (λ (t : Option Terms). unwrap_or t waiting) (sym own), refl)
 told_alone terms waiting false own = cc
 
--- who waits is somebody (a `cc` among reports would look into each of their fields)
+-- a waiting report is a report (a `cc` among reports would look into each of their fields)
 somebody_waits : {A : Type 0} (waiting : Terms) → Some waiting ≡ None → A
 somebody_waits waiting own = cc
 
--- who waits is alone, and the other side
+-- a waiting report is alone, and is the other side
 waits_alone : (sides : List Report) (report : Report) (waiting : Terms) → Some waiting ≡ waiting_of (counterpart_of sides (terms_of report))
     → (first : Report) × (sides ≡ first ∷ []) × (terms_of first ≡ waiting) × (is_other_side first report ≡ true)
 waits_alone [] report waiting own = somebody_waits waiting own
@@ -59,7 +59,7 @@ pub waits : (sides : List Report) (report : Report) (found : Option Terms) (wait
     → (first : Report) × (sides ≡ first ∷ []) × (terms_of first ≡ waiting) × (is_other_side first report ≡ true)
 waits sides report found waiting is met = waits_alone sides report waiting (sym is ∙ met)
 
--- where a report conflicts with none and nobody waits, there is none
+-- if a report doesn't conflict and none is waiting, there is none
 pub nobody : (sides : List Report) (report : Report) (found : Option Terms) → found ≡ None → found ≡ waiting_of (counterpart_of sides (terms_of report)) → conflicts sides report ≡ false → sides ≡ []
 nobody [] report found is met fits = refl
 nobody (first ∷ []) report found is met fits =
@@ -69,7 +69,7 @@ nobody (first ∷ []) report found is met fits =
     ]
 nobody (first ∷ second ∷ more) report found is met fits = cc
 
--- both sides of a trade are held
+-- both sides of a trade are added
 pub holds-both : (old made mid new : List Row) (sides : List Report) (report : Report) (found : Option Terms) (waiting : Terms) → found ≡ Some waiting → found ≡ waiting_of (counterpart_of sides (terms_of report)) → KeepsLots old made
     → ((on : Side) (account : AccountId) (symbol : Symbol) → lots_in mid on account symbol ≡ lots_in made on account symbol + lots_at waiting.side waiting.account waiting.symbol waiting.lots on account symbol)
     → ((on : Side) (symbol : Symbol) → lots_on mid on symbol ≤ lots_on made on symbol + 1000000)
@@ -87,7 +87,7 @@ holds-both old made mid new sides report found waiting is met same first most se
     } in
     subst (λ (rs : List Report). HoldsMore old new (made_a_trade rs report)) (sym alone.1) both
 
--- and a report that opens brings nothing
+-- a report that opens adds nothing
 pub holds-none : (rows : List Row) (sides : List Report) (report : Report) (found : Option Terms) → found ≡ None → found ≡ waiting_of (counterpart_of sides (terms_of report)) → conflicts sides report ≡ false
     → HoldsMore rows rows (made_a_trade sides report)
 holds-none rows sides report found is met fits =

@@ -1,4 +1,4 @@
--- A view is that of its group.
+-- A view is its group's.
 use Rattle.std.proofs.Common.{◌≡◌, ℕ, ◌+◌, ◌<◌, ◌++◌, List, [], ◌∷◌, length, take, drop, get_or, Option, sym, ap, ◌∙◌, append_assoc, take-append-drop}
 use Rattle.std.specs.List.{filter_map}
 use Rattle.std.specs.Option.{option_to_list}
@@ -6,7 +6,7 @@ use Rattle.std.proofs.lemmas.List.{append_cancel_left, drop_more, take_more}
 use Rattle.std.proofs.lemmas.List.Elements.{filter_map-append}
 use Rattle.gu_terms.proofs.Gathered.{filter_map-last}
 
--- what is given by a list, by the items before one, the item, and those after it
+-- the list of given elements, split into those of the items before one, of the item, and of those after it
 filter_map-at : {X Y : Type 0} (given : X → Option Y) (items : List X) (i : ℕ) (d : X) → i < length items
     → filter_map given items ≡ filter_map given (take i items) ++ (option_to_list (given (get_or items i d)) ++ filter_map given (drop (i + 1) items))
 filter_map-at {X} {Y} given items i d within =
@@ -16,13 +16,13 @@ filter_map-at {X} {Y} given items i d within =
     ∙ ap (λ (ys : List Y). filter_map given (take i items) ++ ys)
     (filter_map-append given (get_or items i d ∷ []) (drop (i + 1) items) ∙ ap (λ (ys : List Y). ys ++ filter_map given (drop (i + 1) items)) (filter_map-last given [] (get_or items i d)))
 
--- what is left of all that is given begins with what the next item gives
+-- the remaining given elements begin with what the next item gives
 pub rest-begins : {X Y : Type 0} (given : X → Option Y) (items : List X) (i : ℕ) (d : X) (all rest : List Y) → i < length items
     → all ≡ filter_map given (take i items) ++ rest → all ≡ filter_map given items → rest ≡ option_to_list (given (get_or items i d)) ++ filter_map given (drop (i + 1) items)
 rest-begins given items i d all rest within so_far whole =
     append_cancel_left (filter_map given (take i items)) rest (option_to_list (given (get_or items i d)) ++ filter_map given (drop (i + 1) items)) (sym so_far ∙ whole ∙ filter_map-at given items i d within)
 
--- what was given so far, with what the next item gives
+-- the elements given so far, followed by what the next item gives
 pub given-next : {X Y : Type 0} (given : X → Option Y) (items : List X) (i : ℕ) (d : X) (all rest others : List Y) → i < length items
     → all ≡ filter_map given (take i items) ++ rest → rest ≡ option_to_list (given (get_or items i d)) ++ others → all ≡ filter_map given (take (i + 1) items) ++ others
 given-next {Y = Y} given items i d all rest others within so_far begins =

@@ -1,4 +1,4 @@
--- A view that shows all that is open, and each room as it is, is that of its group.
+-- A view that shows all open offers, and each room as it is now, is its group's.
 use Rattle.std.proofs.Common.{◌≡◌, ◌-◌, List, [], ◌∷◌, map, refl, sym, ap, ◌∙◌, subst}
 use Rattle.std.specs.List.{AllByRecursion, filter_map}
 use Rattle.std.proofs.lemmas.List.Elements.{All-from_recursion, recursion_from_All}
@@ -19,7 +19,7 @@ use Rattle.gu_book.specs.Beside.{IsBeside}
 use Rattle.gu_book.specs.Current.{HasRooms, ShowsAll}
 use Rattle.gu_book.specs.declared.totals.Totals.{Totals}
 
--- rooms, by their keys
+-- rooms from their keys
 rooms-by-keys : (limits : List GroupLimit) (group : Group) (rooms : List Room) → AllByRecursion (λ (r : Room). r.lots ≡ room_in limits group r.key) rooms
     → rooms ≡ map (λ k. record { key = k; lots = room_in limits group k }) (map (λ (r : Room). r.key) rooms)
 rooms-by-keys limits group [] all = refl
@@ -27,13 +27,13 @@ rooms-by-keys limits group (r ∷ rooms) all =
     let rest = rooms-by-keys limits group rooms all.1 in
     λ i. record { key = r.key; lots = all.0 i } ∷ rest i
 
--- and back
+-- and keys from rooms
 rooms-of-keys : (limits : List GroupLimit) (group : Group) (keys : List LimitKey) → AllByRecursion (λ (r : Room). r.lots ≡ room_in limits group r.key) (map (λ k. record { key = k; lots = room_in limits group k }) keys)
 rooms-of-keys limits group [] = tt
 rooms-of-keys limits group (k ∷ keys) = (refl, rooms-of-keys limits group keys)
 
 module _ (reference : Tables) (history : List Entry) (totals : Totals) (beside : IsBeside reference history totals) where
-  -- the open offers, by what is kept
+  -- the open offers, from the totals
   offers-kept : (group : Group) → filter_map (shown_at reference totals.offers) (open_numbers totals.offers group) ≡ offers_shown reference history group
   offers-kept group =
       ap (λ (rows : List Row). filter_map (shown_at reference rows) (open_numbers rows group)) beside.offers
@@ -50,7 +50,7 @@ module _ (reference : Tables) (history : List Entry) (totals : Totals) (beside :
       let rest = rooms-kept group keys in
       λ i. record { key = k; lots = room-kept group k i } ∷ rest i
 
-  -- what shows all is the view of its group
+  -- a view that shows everything is its group's
   pub shows-view : (view : GroupView) → IsView view → view.version ≡ version_of history view.group → ShowsAll reference totals view → view ≡ group_view reference history view.group
   shows-view view sound version shows =
       let offers : view.offers ≡ offers_shown reference history view.group = shows.offers ∙ offers-kept view.group in
@@ -60,7 +60,7 @@ module _ (reference : Tables) (history : List Entry) (totals : Totals) (beside :
       ∙ ap (λ (keys : List LimitKey). map (λ k. record { key = k; lots = room_of reference history view.group k }) keys) (sound.rooms ∙ ap keys_of offers) in
       λ i. record { group = view.group; version = version i; offers = offers i; rooms = rooms i }
 
-  -- and the view of a group shows all
+  -- the view of a group shows everything
   pub view-shows : (view : GroupView) → view ≡ group_view reference history view.group → ShowsAll reference totals view
   view-shows view is = record {
     offers = ap (λ (v : GroupView). v.offers) is ∙ sym (offers-kept view.group);

@@ -1,5 +1,5 @@
--- Deeds, as they may be done, and reports, as they are taken in.
-use Rattle.std.proofs.Common.{◌≡◌, ℕ, ◌<◌, ◌++◌, true, List, [], ◌∷◌, Option, Some, None, Result, Ok, length, is_some, unwrap_or, refl, sym, ap, ◌∙◌, subst}
+-- Effects that may be applied, and reports as they are added.
+use Rattle.std.proofs.Common.{◌≡◌, ℕ, ◌<◌, true, List, Option, Some, None, Result, Ok, length, is_some, unwrap_or, refl, sym, ap, ◌∙◌, subst}
 use Rattle.std.specs.List.{AllByRecursion}
 use Rattle.std.specs.Option.{option_map}
 use Rattle.gu_terms.specs.declared.command.Command.{Command}
@@ -23,7 +23,7 @@ use Rattle.gu_book.specs.Deeds.{Deed, HaveReports, IsDeedOf, done_by, reply_by}
 use Rattle.gu_book.specs.declared.totals.Totals.{Totals}
 use Rattle.gu_book.proofs.Accepting.{answer_is}
 
--- what is kept has the reports of its offers
+-- the totals have the reports of their offers
 pub have_reports : (reference : Tables) (history : List Entry) (totals : Totals) → IsKept reference history totals → HaveReports totals
 have_reports reference history totals kept =
     subst (λ (rows : List Row). AllByRecursion (λ (row : Row). is_some (report_after totals.trades row) ≡ true) rows) (sym kept.beside.offers)
@@ -39,7 +39,7 @@ has-report totals n offer all shown = by (row_at totals.offers n) refl shown
         let same : offer ≡ row.offer = ap (λ (o : Option Offer). unwrap_or o offer) e in
         subst (λ (o : Offer). is_some (report_by totals.trades o.firm o.report) ≡ true) (sym same) (all-at (λ (r : Row). is_some (report_after totals.trades r) ≡ true) totals.offers n row at all)
 
--- a deed by which a command is answered, as one of its kind, may be done; that is its answer, and its deed
+-- the effect decided for a command of one kind may be applied; it gives the command's answer, and is its effect
 pub may-do : {D : Type 0} → (does : D → Deed) → (reference : Tables) (history : List Entry) (totals : Totals) (command asked : Command) (decided : Result D Refusal) (deed : D) → command ≡ asked
     → IsKept reference history totals → length history < 1000000 → decided ≡ Ok deed → reply_by does decided ≡ answer_in reference (state_in totals) asked → IsDeedOf reference totals asked (does deed)
     → (Accepted (done_by (does deed)) ≡ answer reference history command) × (MayDo reference totals (does deed) × IsDeedOf reference totals command (does deed))

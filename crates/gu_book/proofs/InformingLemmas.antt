@@ -1,4 +1,4 @@
--- Whom the entry of a number informs.
+-- The firms notified of the entry with a number.
 use Rattle.std.proofs.Common.{◌≡◌, ◌≤◌, ◌∙◌, ℕ, ◌+◌, List, length, slice_get, Option, None, Some, IfSome, refl, sym, ap, subst, add-one}
 use Rattle.gu_terms.specs.Histories.{entry_at}
 use Rattle.gu_terms.specs.declared.entry.Entry.{Entry}
@@ -12,25 +12,25 @@ use Rattle.gu_notices.specs.declared.firm_filter.FirmFilter.{FirmFilter}
 use Rattle.gu_notices.proofs.RecipientLemmas.{grows-self, recipients-at}
 use Rattle.gu_book.specs.Informing.{HoldsInformed}
 
--- a set that covers an entry may hold whom it informs by what the book has now
+-- a set that covers an entry may hold every firm notified of it, as the book is now
 covered : (book : BookState) (number : ℕ) (firms : FirmFilter) → ((id : Id) → length (with_match id (reports_of book.history)) ≤ 2) → (found : Option Entry)
     → ((entry : Entry) → found ≡ Some entry → Covers (register_of book) entry firms)
     → IfSome found (λ (entry : Entry). Holds firms (told_by (register_of book) number entry))
 covered book number firms sides None covers = tt
 covered book number firms sides (Some entry) covers = covers entry refl number (register_of book) (grows-self (register_of book) sides)
 
--- the entry after a place
+-- the entry after an index
 at-number : (history : List Entry) (place : ℕ) → entry_at history (place + 1) ≡ slice_get history place
 at-number history place = ap (entry_at history) (add-one place)
 
--- a set that covers the entry at a place may hold whom it informs
+-- a set that covers the entry at an index may hold every firm notified of it
 pub informed-at : (book : BookState) (place : ℕ) (entry : Entry) (firms : FirmFilter) → ((id : Id) → length (with_match id (reports_of book.history)) ≤ 2)
     → slice_get book.history place ≡ Some entry → Covers (register_of book) entry firms → HoldsInformed book (place + 1) firms
 informed-at book place entry firms sides at covers =
     covered book (place + 1) firms sides (entry_at book.history (place + 1))
     (λ other is. let same : entry ≡ other = cc (at-number book.history place) in subst (λ (e : Entry). Covers (register_of book) e firms) same covers)
 
--- a set that was noted for the entry at a place may hold whom it informs
+-- so may a set recorded for the entry at an index
 pub informed-noted : (book : BookState) (recipients : List FirmFilter) (place : ℕ) (firms : FirmFilter) → ((id : Id) → length (with_match id (reports_of book.history)) ≤ 2)
     → AreRecipients (register_of book) book.history recipients → slice_get recipients place ≡ Some firms → HoldsInformed book (place + 1) firms
 informed-noted book recipients place firms sides are at =

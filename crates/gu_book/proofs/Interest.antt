@@ -1,4 +1,4 @@
--- The open interest by rows is that by accounts.
+-- The open interest summed over rows equals that summed over accounts.
 use Rattle.std.proofs.Common.{◌≡◌, ℕ, ◌-◌, ◌&&◌, false, List, [], ◌∷◌, Option, Some, None, find, is_some, refl, sym, ap, ◌∙◌, arith}
 use Rattle.std.specs.List.{AllByRecursion, IsDistinct}
 use Rattle.std.specs.Option.{option_map_or}
@@ -22,7 +22,7 @@ use Rattle.gu_rules.proofs.LegalLaws.{unknown-holds-none}
 use Rattle.gu_book.specs.Beside.{IsBeside}
 use Rattle.gu_book.specs.declared.totals.Totals.{Totals}
 
--- a row is the one that its account and its instrument find
+-- a row is the one found by its account and its instrument
 found-own : (rows : List Row) → IsDistinct same_row rows → AllByRecursion (λ (r : Row). find (is_of r.account r.symbol) rows ≡ Some r) rows
 found-own [] once = tt
 found-own (first ∷ rows) once = (
@@ -34,17 +34,17 @@ found-own (first ∷ rows) once = (
       (IsDistinct-head same_row first rows once) (found-own rows (IsDistinct-tail same_row first rows once)),
 )
 
--- of a row whose account isn't in the reference nothing is long
+-- a row whose account isn't in the reference has no long lots
 none-long : (reference : Tables) (history : List Entry) (totals : Totals) (r : Row) → IsLegal reference history → IsBeside reference history totals → find (is_of r.account r.symbol) totals.positions ≡ Some r
     → is_some (account_row reference r.account) ≡ false → r.long ≡ 0
 none-long reference history totals r legal beside found none =
     ap (λ (o : Option Row). option_map_or (lots_of Buy) o 0) (sym found) ∙ beside.positions Buy r.account r.symbol ∙ unknown-holds-none reference history Buy r.account r.symbol legal none
 
--- what a row has long above what it has short
+-- a row's excess of long lots over short ones
 abbrev net : Row → ℕ
 net r = r.long - r.short
 
--- of the row of an account and an instrument
+-- that of the row of an account and an instrument
 net-in : (rows : List Row) (account : AccountId) (symbol : Symbol) → option_map_or net (find (is_of account symbol) rows) 0 ≡ lots_in rows Buy account symbol - lots_in rows Sell account symbol
 net-in rows account symbol = by (find (is_of account symbol) rows)
   where
@@ -52,7 +52,7 @@ net-in rows account symbol = by (find (is_of account symbol) rows)
     by None = refl
     by (Some r) = refl
 
--- the open interest by rows is that by accounts
+-- the open interest summed over rows equals that summed over accounts
 pub interest-is : (book : BookState) (totals : Totals) (symbol : Symbol) → IsDistinct (λ a b. same_account a.account b.account) book.reference.accounts → IsDistinct same_row totals.positions
     → IsLegal book.reference book.history → IsBeside book.reference book.history totals → open_interest_in totals.positions symbol ≡ open_interest_of book symbol
 interest-is book totals symbol accounts once legal beside =

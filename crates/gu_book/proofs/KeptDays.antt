@@ -1,4 +1,4 @@
--- What is kept beside a history after an opening, a limit, and a give-up.
+-- The totals after an opening, a limit, and a give-up.
 use Rattle.std.proofs.Common.{◌≡◌, ℕ, ◌-◌, ◌≤◌, ◌&&◌, ◌||◌, ◌++◌, Bool, true, false, List, [], ◌∷◌, length, map, Option, Some, is_some, unwrap_or, refl, sym, ap, ◌∙◌, if◌then◌else◌, inl, inr}
 use Rattle.std.proofs.lemmas.Bool.{cases_Bool}
 use Rattle.std.proofs.lemmas.List.Folds.{list_any-append}
@@ -102,7 +102,7 @@ kept-set reference history old new group key lots kept today trades give_ups off
     b : IsBeside reference history old
     b = kept.beside
 
-    -- the two ways of asking whether a place is the one that is set
+    -- two ways of comparing a place with the one that is set
     turned : (at : Group) (on : LimitKey) → same_place at on group key ≡ (same_group group at && key_eq key on)
     turned at on = same_place-sym at on group key
 
@@ -126,7 +126,7 @@ kept-set reference history old new group key lots kept today trades give_ups off
           | inr miss ↦ rw (turned at on, miss, left at on miss) (b.limits at on)
         ]
 
--- a give-up of a matched report that has lots free for the lines
+-- a give-up of a matched report with enough free lots
 pub kept-given_up : (reference : Tables) (history : List Entry) (old new : Totals) (id : Id) (report : Report) (lines : List Line) (group : Group) (first : ℕ) → IsKept reference history old
     → new.today ≡ old.today → new.trades ≡ old.trades → new.give_ups.keys ≡ old.give_ups.keys ++ record { firm = report.firm; id = id } ∷ []
     → new.offers ≡ with_lines old.offers report.firm report.id group lines → new.limits ≡ old.limits → new.positions ≡ old.positions

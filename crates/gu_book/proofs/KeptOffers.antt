@@ -1,4 +1,4 @@
--- What is kept beside a history after an entry that changes one offer.
+-- The totals after an entry that changes one offer.
 use Rattle.std.proofs.Common.{◌≡◌, ℕ, ◌+◌, ◌-◌, ◌≤◌, ◌++◌, false, List, [], ◌∷◌, Some, refl, sym, ap, ◌∙◌, arith}
 use Rattle.gu_terms.specs.declared.alloc_reject.AllocReject.{AllocReject}
 use Rattle.gu_terms.specs.declared.entry.Entry.{Entry}
@@ -26,7 +26,7 @@ use Rattle.gu_book.specs.Effects.{HoldsMoved, SameEntries, UsesLess, UsesMore}
 use Rattle.gu_book.specs.declared.totals.Totals.{Totals}
 use Rattle.gu_book.proofs.KeptQuiet.{beside-quiet}
 
--- the entries open no day, report nothing, give nothing up and set no limit
+-- these entries open no day, report nothing, give nothing up and set no limit
 quiet-taken : (history : List Entry) (entry : Entry) (n lots : ℕ) → TakesOne entry n lots → IsQuiet history entry
 quiet-taken history entry n lots takes = record { opens = takes.only.opens; reports = takes.only.reports (open_day history); gives_up = takes.only.gives_up; sets = takes.only.sets }
 
@@ -36,7 +36,7 @@ quiet-refused history firm n why lots = record { opens = refl; reports = unrepor
 quiet-taken_back : (history : List Entry) (firm : FirmId) (n lots : ℕ) → IsQuiet history (taken_back firm n lots)
 quiet-taken_back history firm n lots = record { opens = refl; reports = unreported (taken_back firm n lots) (λ d. refl) (open_day history); gives_up = λ f i. refl; sets = λ g k. refl }
 
--- no more is moved than an offer has, where lots are taken that are left
+-- no more is moved than an offer has, if only lots that are left are taken
 pub within-taken : (history : List Entry) (n lots : ℕ) (row : Row) → row_at (standing_of history) n ≡ Some row → row.moved + lots ≤ row.offer.lots → AreWithin (standing_of history)
     → AreWithin (changed (standing_of history) n (taken lots))
 within-taken history n lots row at less within = all-changed (λ r. r.moved ≤ r.offer.lots) (standing_of history) n row (taken lots) at less within

@@ -1,4 +1,4 @@
--- What is kept beside a history and the takes of a sweep is kept beside the history and the sweep.
+-- The totals of a history followed by a sweep's takes are those of the history followed by the sweep.
 use Rattle.std.proofs.Common.{ℕ, ◌*◌, ◌≤◌, List, length, Option, is_some, unwrap_or, ap, ◌∙◌, ◌≡◌, [], ◌∷◌, ◌++◌, arith, length-append}
 use Rattle.gu_terms.specs.Takes.{IsAscending}
 use Rattle.gu_terms.specs.declared.entry.Entry.{Entry}
@@ -23,7 +23,7 @@ use Rattle.gu_book.specs.Beside.{IsBeside, IsKept}
 use Rattle.gu_book.specs.declared.totals.Totals.{Totals}
 
 module _ (one two : List Entry) (same : ComeToSame one two) where
-  -- what is kept beside the one is kept beside the other
+  -- the totals of one are those of the other
   beside-same : (reference : Tables) (totals : Totals) → IsBeside reference one totals → ((side : Side) (symbol : Symbol) → lots_on totals.positions side symbol ≤ 2000000 * length two)
       → IsBeside reference two totals
   beside-same reference totals b sums = record {
@@ -41,7 +41,7 @@ module _ (one two : List Entry) (same : ComeToSame one two) where
     sums = sums;
   }
 
--- what is kept beside a history and the takes of a sweep is kept beside the history and the sweep
+-- the totals of a history followed by a sweep's takes are those of the history followed by the sweep
 pub kept-whole : (reference : Tables) (history : List Entry) (sweep : SweepEntry) (totals : Totals) → IsAscending sweep.takes → length (offers_of history) ≤ 16 * length history
     → ((side : Side) (symbol : Symbol) → lots_on totals.positions side symbol ≤ 2000000 * length history)
     → IsKept reference (history ++ parts sweep sweep.takes) totals → IsKept reference (history ++ Swept sweep ∷ []) totals

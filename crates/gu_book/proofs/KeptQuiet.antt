@@ -1,4 +1,4 @@
--- What is kept beside a history after an entry that opens no day, reports nothing, gives nothing up and sets no limit.
+-- The totals after an entry that opens no day, reports nothing, gives nothing up and sets no limit.
 use Rattle.std.proofs.Common.{ℕ, ◌*◌, ◌≤◌, List, [], ◌∷◌, ◌++◌, length, arith, length-append, ◌≡◌, Option, is_some, unwrap_or, sym, ap, ◌∙◌, refl}
 use Rattle.gu_terms.specs.declared.account.AccountId.{AccountId}
 use Rattle.gu_terms.specs.declared.command.Command.{Command}
@@ -29,11 +29,11 @@ use Rattle.gu_book.specs.Effects.{SameEntries}
 use Rattle.gu_book.specs.declared.totals.GiveUpKey.{GiveUpKey}
 use Rattle.gu_book.specs.declared.totals.Totals.{Totals}
 
--- the lots on a side stay within what so many entries can bring
+-- the lots on a side stay within what this many entries can bring
 pub bound-kept : (history : List Entry) (entry : Entry) (lots : ℕ) → lots ≤ 2000000 * length history → lots ≤ 2000000 * length (history ++ entry ∷ [])
 bound-kept history entry lots less = omega (arith, length-append history (entry ∷ []), less)
 
--- after it stands what was kept, but for offers, uses and positions
+-- afterwards the totals are unchanged, except for offers, uses and positions
 pub beside-quiet : (reference : Tables) (history : List Entry) (entry : Entry) (rows : List Row) (old new : Totals) → IsQuiet history entry → IsBeside reference history old
     → SameEntries old new → SameLimits old.limits new.limits → standing_of (history ++ entry ∷ []) ≡ rows → new.offers ≡ rows
     → ((group : Group) (key : LimitKey) → used_in new.limits group key ≡ use_in reference rows group key)
@@ -56,7 +56,7 @@ beside-quiet reference history entry rows old new quiet beside same limits are o
   sums = λ side symbol. bound-kept history entry (lots_on new.positions side symbol) (omega (arith, sums side symbol, beside.sums side symbol));
 }
 
--- and leaves what is kept
+-- a refusal leaves the totals unchanged
 pub kept-denied : (reference : Tables) (history : List Entry) (totals : Totals) (command : Command) (why : Refusal) → IsKept reference history totals → IsKept reference (history ++ Asked command (Denied why) ∷ []) totals
 kept-denied reference history totals command why kept =
     let entry = Asked command (Denied why) in

@@ -1,4 +1,4 @@
--- What is kept beside a history after a report.
+-- The totals after a report.
 use Rattle.std.proofs.Common.{◌≡◌, ℕ, ◌+◌, ◌≤◌, ◌++◌, false, List, [], ◌∷◌, Option, Some, None, is_some, unwrap_or, refl, sym, ap, ◌∙◌, arith, length-append}
 use Rattle.std.specs.Option.{option_to_list}
 use Rattle.std.proofs.lemmas.List.Sums.{sum_by-cons}
@@ -35,7 +35,7 @@ use Rattle.gu_book.specs.Effects.{HoldsMore, lots_of_reports, made_a_trade}
 use Rattle.gu_book.specs.declared.totals.GiveUpKey.{GiveUpKey}
 use Rattle.gu_book.specs.declared.totals.Totals.{Totals}
 
--- what is held more once it is taken in: its own lots and those of the one that waited for it, or nothing
+-- what is added with it: its own lots and those of the one that waited for it, or nothing
 held-more : (reports : List Report) (rows : List Row) (r : Report) (side : Side) (account : AccountId) (symbol : Symbol) → conflicts (with_match r.match_id reports) r ≡ false
     → AreFound reports rows → moved_out reports rows side account symbol ≤ traded reports side account symbol
     → held_in (reports ++ r ∷ []) rows side account symbol ≡ held_in reports rows side account symbol + lots_of_reports (made_a_trade (with_match r.match_id reports) r) side account symbol

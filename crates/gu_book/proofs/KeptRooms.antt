@@ -1,4 +1,4 @@
--- The rooms of keys, by the limits that are kept.
+-- The rooms of keys, from the stored limits.
 use Rattle.std.proofs.Common.{◌≡◌, ◌≤◌, List, [], ◌∷◌, map, refl, ap}
 use Rattle.std.specs.Prelude.{All}
 use Rattle.std.proofs.lemmas.List.Elements.{All-from_recursion}
@@ -14,7 +14,7 @@ module _ (limits : List GroupLimit) (group : Group) where
   abbrev pub room : LimitKey → Room
   room key = record { key = key; lots = room_in limits group key }
 
-  -- the rooms of keys are within what a limit may be
+  -- the rooms of keys are at most the highest limit
   within : ((key : LimitKey) → room_in limits group key ≤ 1000000000) → (keys : List LimitKey) → AllByRecursion (λ (r : Room). r.lots ≤ 1000000000) (map room keys)
   within most [] = tt
   within most (k ∷ keys) = (most k, within most keys)

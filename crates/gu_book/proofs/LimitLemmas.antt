@@ -1,4 +1,4 @@
--- Limits as they stand.
+-- Limits as they are now.
 use Rattle.std.proofs.Common.{◌≡◌, ℕ, ◌+◌, ◌-◌, ◌<◌, true, List, [], ◌∷◌, ◌++◌, Option, Some, None, is_some, length, take, get_or, unwrap_or, refl, sym, ap, append_assoc, ◌∙◌}
 use Rattle.std.specs.List.{filter_map}
 use Rattle.std.specs.Option.{option_to_list}
@@ -16,7 +16,7 @@ use Rattle.gu_rules.specs.Limits.{keys_in_order, limit_of, limit_row, limit_rows
 use Rattle.gu_book.specs.Beside.{IsBeside}
 use Rattle.gu_book.specs.declared.totals.Totals.{Totals}
 
--- what is kept of a limit is the limit as it stands
+-- a stored limit is the limit as it is now
 pub row_in-is : (reference : Tables) (history : List Entry) (limits : List GroupLimit) (group : Group) (key : LimitKey)
     → has_limit limits group key ≡ is_some (limit_set history group key) → limit_in limits group key ≡ limit_of history group key → used_in limits group key ≡ use_of reference history group key
     → row_in limits group key ≡ limit_row reference history group key
@@ -30,7 +30,7 @@ row_in-is reference history limits group key has limit used = by (limit_set hist
         let row : ℕ → ℕ → Option LimitRow = λ l u. Some (record { key = key; limit = l; used = u; room = l - u }) in
         rw (some, e) ((λ i. row (most i) (used i)))
 
--- so that what is kept of a group's limits is what they are
+-- so the stored limits of a group are its limits
 pub rows-are : (book : BookState) (totals : Totals) (group : Group) → IsBeside book.reference book.history totals
     → filter_map (row_in totals.limits group) (keys_in_order book.reference) ≡ limit_rows book group
 rows-are book totals group beside =

@@ -39,7 +39,7 @@ use Rattle.gu_book.specs.declared.totals.Totals.{Totals}
 use Rattle.gu_book.specs.Deeds.{AreFound}
 use Rattle.gu_book.proofs.Accepting.{key_at, lots-taken, seen-is, taken-there}
 
--- an offer that is seen stands in a row
+-- an offer that is seen is in a row
 pub seen-row : (totals : Totals) (n : ℕ) (offer : Offer) (report : Terms) → AreFound totals n offer report → (row : Row) × (row_at totals.offers n ≡ Some row) × (row.offer ≡ offer)
 seen-row totals n offer report seen = by (row_at totals.offers n) refl seen.shown
   where
@@ -47,7 +47,7 @@ seen-row totals n offer report seen = by (row_at totals.offers n) refl seen.show
     by None e h = cc
     by (Some row) e h = let same : row.offer ≡ offer = cc in (row, e, same)
 
--- ---- what is found
+-- ---- look-ups
 
 -- the offer and the report that are found are seen
 pub given-seen : (totals : Totals) (n : ℕ) (offer : Offer) (report : Terms) → Some (offer, report) ≡ given_by totals n → AreFound totals n offer report
@@ -71,7 +71,7 @@ given-seen totals n offer report is = by (row_at totals.offers n) refl is
               found = ap (λ (q : Terms). Some q) reports ∙ ap (option_map terms_of) (sym f ∙ (λ i. report_by totals.trades (sym offers i).firm (sym offers i).report));
             }
 
--- and found by what is kept
+-- and found in the totals
 pub found-there : (reference : Tables) (history : List Entry) (totals : Totals) (n : ℕ) → IsKept reference history totals → 0 < left_in totals.offers n
     → (row : Row) × (report : Report) × IsThere history n row report × (row.is_shut ≡ false) × (row.moved + left_in totals.offers n ≤ row.offer.lots)
 found-there reference history totals n kept open_ =
@@ -79,9 +79,9 @@ found-there reference history totals n kept open_ =
     let it = open-there history n (in_order history kept.orderly) (omega (arith, open_, same)) in
     (it.0, it.1, it.2, it.3, omega (arith, it.4, same))
 
--- ---- rows that are made
+-- ---- making rows
 
--- rows that were made for an offer stay, where no answer changes
+-- rows made for an offer stay, if no answer changes
 has_rows-on : (old new : Totals) (n : ℕ) → given_by new n ≡ given_by old n → KeepsMade old.positions new.positions → HasRows old n → HasRows new n
 has_rows-on old new n same stay has =
     subst (λ (g : Option (Offer × Terms)). IfSome g (λ g. (has_row new.positions g.1.account g.1.symbol ≡ true) × (has_row new.positions g.0.account g.1.symbol ≡ true))) (sym same) (by (given_by old n) has)
@@ -100,14 +100,14 @@ all-rows-kept : (old new : Totals) (takes : List Take) → SameAnswers old new �
     → AllByRecursion (λ (t : Take). HasRows new t.offer) takes
 all-rows-kept old new takes same stay has = along (λ (t : Take). HasRows old t.offer) (λ (t : Take). HasRows new t.offer) takes (λ t h. has_rows-kept old new t.offer same stay h) has
 
--- and one more
+-- and for one more
 pub all-rows-next : (old new : Totals) (takes : List Take) (i : ℕ) {take_ : Take} → i < length takes → take_ ≡ get_or takes i take_ → SameAnswers old new → KeepsMade old.positions new.positions
     → AllByRecursion (λ (t : Take). HasRows old t.offer) (take i takes) → HasRows new take_.offer → AllByRecursion (λ (t : Take). HasRows new t.offer) (take (i + 1) takes)
 all-rows-next old new takes i {take_} within is same stay has more =
     subst (AllByRecursion (λ (t : Take). HasRows new t.offer)) (sym (take_more takes i take_ within ∙ ap (λ (t : Take). take i takes ++ t ∷ []) (sym is)))
     (all-push (λ (t : Take). HasRows new t.offer) (take i takes) take_ (all-rows-kept old new (take i takes) same stay has) more)
 
--- those that are made for an offer
+-- the rows made for an offer
 pub has_rows-made : (old new : Totals) (n : ℕ) (offer : Offer) (report : Terms) → SameAnswers old new → Some (offer, report) ≡ given_by old n
     → has_row new.positions report.account report.symbol ≡ true → has_row new.positions offer.account report.symbol ≡ true → HasRows new n
 has_rows-made old new n offer report same is from to =
@@ -115,12 +115,12 @@ has_rows-made old new n offer report same is from to =
     is ∙ sym (λ i. option_and_then (λ (row : Row). option_map (λ (r : Report). (row.offer, terms_of r)) (report_after (same.entries.trades i) row)) (row_at (same.offers i) n)) in
     subst (λ (g : Option (Offer × Terms)). IfSome g (λ g. (has_row new.positions g.1.account g.1.symbol ≡ true) × (has_row new.positions g.0.account g.1.symbol ≡ true))) there (from, to)
 
--- none are wanted where there is no offer
+-- none are needed if there is no offer
 pub has_rows-none : (totals : Totals) (n : ℕ) → given_by totals n ≡ None → HasRows totals n
 has_rows-none totals n none =
     subst (λ (g : Option (Offer × Terms)). IfSome g (λ g. (has_row totals.positions g.1.account g.1.symbol ≡ true) × (has_row totals.positions g.0.account g.1.symbol ≡ true))) (sym none) tt
 
--- no answer changes twice
+-- no answer changes in two steps
 pub same-on : (one two three : Totals) → SameAnswers one two → SameAnswers two three → SameAnswers one three
 same-on one two three a b = record {
   entries = record { today = b.entries.today ∙ a.entries.today; trades = b.entries.trades ∙ a.entries.trades; give_ups = b.entries.give_ups ∙ a.entries.give_ups };
@@ -162,7 +162,7 @@ take-room reference totals one_take offer report is room k d within =
       mine,
     )
 
--- its lots are there
+-- its lots are held
 pub take-there : (reference : Tables) (totals : Totals) (offers : List ShownOffer) (one_take : Take) (offer : Offer) (report : Terms) → Some (offer, report) ≡ given_by totals one_take.offer → MayMove reference totals offers (one_take ∷ [])
     → one_take.lots ≤ lots_in totals.positions report.side report.account report.symbol
 take-there reference totals offers one_take offer report is may =
@@ -177,7 +177,7 @@ pub take-rows : (reference : Tables) (totals : Totals) (offers : List ShownOffer
 take-rows reference totals offers one_take offer report is may =
     subst (λ (g : Option (Offer × Terms)). IfSome g (λ g. (has_row totals.positions g.1.account g.1.symbol ≡ true) × (has_row totals.positions g.0.account g.1.symbol ≡ true))) (sym is) may.rows.0
 
--- the view shows its offer with the path that it comes under
+-- the view shows its offer with the path that applies to it
 pub take-path : (reference : Tables) (totals : Totals) (offers : List ShownOffer) (one_take : Take) (offer : Offer) (report : Terms) (shown : ShownOffer)
     → Some (offer, report) ≡ given_by totals one_take.offer → Some shown ≡ offer_of offers one_take.offer → MayMove reference totals offers (one_take ∷ []) → shown.path ≡ path_after reference offer
 take-path reference totals offers one_take offer report shown is found may =
@@ -209,7 +209,7 @@ moves-one reference old new shown one_take offer report is may same offers uses 
 -- ---- one take after another
 
 module _ (reference : Tables) (old new : Totals) (one_take : Take) (moves : MovesOne reference old new one_take) where
-  -- so it does with those that come later
+  -- so do the later ones
   later-row : (m : ℕ) → one_take.offer < m → row_at new.offers m ≡ row_at old.offers m
   later-row m later = ap (λ (rs : List Row). row_at rs m) moves.offers ∙ row_at-other old.offers one_take.offer m (taken one_take.lots) (λ same. absurd (omega (arith, later, same)))
 
@@ -228,7 +228,7 @@ module _ (reference : Tables) (old new : Totals) (one_take : Take) (moves : Move
       let mine : uses new.offers t ≡ uses old.offers t = ap (λ (o : Option Row). option_map_or (λ (r : Row). lots_under r.offer.group (path_after reference r.offer) t.lots group key) o 0) (later-row t.offer later.0) in
       omega (arith, sum_by-cons (uses new.offers) t takes, sum_by-cons (uses old.offers) t takes, mine, later-used takes later.1 group key)
 
-  -- the rooms that are left
+  -- the room left
   room-left : (takes : List Take) (row : Row) → row_at old.offers one_take.offer ≡ Some row → AllByRecursion (λ (t : Take). one_take.offer < t.offer) takes
       → ((group : Group) (key : LimitKey) → lots_used reference old.offers (one_take ∷ takes) group key ≤ room_in old.limits group key)
       → (group : Group) (key : LimitKey) → lots_used reference new.offers takes group key ≤ room_in new.limits group key
@@ -238,7 +238,7 @@ module _ (reference : Tables) (old new : Totals) (one_take : Take) (moves : Move
       let limits = moves.limits row at in
       omega (arith, room group key, sum_by-cons uses one_take takes, mine, later-used takes later group key, limits.limits.lots group key, limits.uses group key)
 
-  -- the takes that come later may be moved then
+  -- the later takes may then be moved
   pub may-rest : (offers : List ShownOffer) (takes : List Take) → MayMove reference old offers (one_take ∷ takes) → MayMove reference new offers takes
   may-rest offers takes may =
       let later = may.ascending.0 in
@@ -261,7 +261,7 @@ module _ (reference : Tables) (old new : Totals) (one_take : Take) (moves : Move
             later may.paths.1;
       }
 
-  -- what was moved before, and this one
+  -- the earlier moves, and this one
   pub moves-on : (first : Totals) (takes : List Take) → MovesAll reference first old takes → MovesAll reference first new (takes ++ one_take ∷ [])
   moves-on first takes before = record {
     sums = λ side symbol. moves.sums side symbol ∙ before.sums side symbol;
@@ -270,7 +270,7 @@ module _ (reference : Tables) (old new : Totals) (one_take : Take) (moves : Move
         (moves.kept (history ++ parts sweep takes) sweep (before.kept history sweep kept));
   }
 
--- the first of takes that may be moved may be
+-- the first of takes that may be moved may be moved
 pub may-first : (reference : Tables) (totals : Totals) (offers : List ShownOffer) (one_take : Take) (takes : List Take) → MayMove reference totals offers (one_take ∷ takes)
     → MayMove reference totals offers (one_take ∷ [])
 may-first reference totals offers one_take takes may = record {

@@ -1,4 +1,4 @@
--- There is room for what a sweep of a group's view takes, so that its takes may be moved.
+-- There is room for what a sweep of a group's view takes, so its takes may be moved.
 use Rattle.std.proofs.Common.{◌≡◌, ◌<◌, List, sym, arith, inl, inr, ◌≤◌, Some, ap, ◌∙◌, subst, ◌-◌, Option, IfSome}
 use Rattle.std.proofs.lemmas.Bool.{cases_Bool}
 use Rattle.std.specs.List.{AllByRecursion}

@@ -1,5 +1,5 @@
--- What is kept beside a history takes openings, limits, reports and give-ups in.
-use Rattle.std.proofs.Common.{◌≡◌, ℕ, ◌+◌, ◌-◌, ◌≤◌, ◌++◌, List, [], ◌∷◌, length, map, Option, Some, None, unwrap_or, refl, sym, ap, ◌∙◌, arith, subst}
+-- Applying openings, limits, reports and give-ups to the totals.
+use Rattle.std.proofs.Common.{◌≡◌, ◌+◌, ◌-◌, ◌≤◌, ◌++◌, List, [], ◌∷◌, length, map, Option, Some, None, unwrap_or, refl, sym, ap, ◌∙◌, arith, subst}
 use Rattle.std.specs.Option.{option_and_then, option_map}
 use Rattle.gu_terms.specs.declared.command.Command.{Command}
 use Rattle.gu_terms.specs.declared.command.Command.TheVariants.{OpenDay, SetLimit, ReportSide, GiveUp}
@@ -51,14 +51,14 @@ limit-taken reference old new it today trades give_ups offers positions sets his
 
 -- ---- reports
 
--- a report that is made fits those before it
+-- a report fits those before it
 pub made-fits : (reference : Tables) (totals : Totals) (command : Command) (it : ReportSideOf) (day : Day) (waiting : Option Terms) → MayTakeIn reference totals command → MakesReport totals command it day waiting
     → Fits totals.trades (made_on day it)
 made-fits reference totals command it day waiting may is =
     let own = subst (MayTakeIn reference totals) is.is may in
     subst (λ (rs : List Report). Fits rs (made_on day it)) (sym own.kept.beside.reports) (fits-in reference it day own.history (sym own.kept.beside.today ∙ is.opened) own.accepted)
 
--- and is taken in
+-- and is applied
 pub made-taken : (reference : Tables) (old new : Totals) (command : Command) (it : ReportSideOf) (day : Day) (waiting : Option Terms) → MakesReport old command it day waiting
     → new.today ≡ old.today → new.give_ups.keys ≡ old.give_ups.keys → new.offers ≡ old.offers → new.limits ≡ old.limits
     → new.trades ≡ old.trades ++ made_on day it ∷ [] → HoldsMore old.positions new.positions (made_a_trade (with_match it.match_id old.trades) (made_on day it)) → TakesIn reference old new command
@@ -72,7 +72,7 @@ made-taken reference old new command it day waiting is today give_ups offers lim
 
 -- ---- give-ups
 
--- the report of a known group
+-- the report with a known group
 pub group-given : (reference : Tables) (totals : Totals) (firm : FirmId) (own : Id) (group : Group) → option_map (λ (g : Report × Group). g.1) (given_up reference (state_in totals) firm own) ≡ Some group
     → (report : Report) × (given_up reference (state_in totals) firm own ≡ Some (report, group))
 group-given reference totals firm own group is = by (given_up reference (state_in totals) firm own) is
@@ -81,7 +81,7 @@ group-given reference totals firm own group is = by (given_up reference (state_i
     by None e = cc
     by (Some g) e = (g.0, ap (λ (at : Option Group). Some (g.0, unwrap_or at group)) e)
 
--- what is found, and what is named by how it stands
+-- what is found, and what is derived from its status
 module _ {X S G : Type 0} (stand : X → S) (named : S → Option G) where
   paired : (found : Option X) (s : S) (g : G) → ◌≡◌ {A = Option (S × G)} (Some (s, g)) (option_and_then {U = S × G} (λ s. option_map {U = S × G} (λ g. (s, g)) (named s)) (option_map stand found))
       → (x : X) × (found ≡ Some x) × (stand x ≡ s) × (named s ≡ Some g)
@@ -104,7 +104,7 @@ module _ {X S G : Type 0} (stand : X → S) (named : S → Option G) where
       by None h = refl
       by (Some g) h = cc
 
--- what stands so is a report of the firm with that id
+-- a report with this status is the firm's with that id
 pub standing-given : (reference : Tables) (totals : Totals) (firm : FirmId) (own : Id) (standing : Standing) (group : Group) → Some (standing, group) ≡ standing_given_up reference totals firm own
     → (report : Report) × (given_up reference (state_in totals) firm own ≡ Some (report, group)) × (standing_in totals.trades report ≡ standing) × (report.firm ≡ firm) × (report.id ≡ own)
 standing-given reference totals firm own standing group is =
@@ -118,16 +118,16 @@ standing-given reference totals firm own standing group is =
       names.1,
     )
 
--- and where none stands, none is given up
+-- if there is none, none is given up
 pub standing-none : (reference : Tables) (totals : Totals) (firm : FirmId) (own : Id) → None ≡ standing_given_up reference totals firm own → given_up reference (state_in totals) firm own ≡ None
 standing-none reference totals firm own is = unpaired (standing_in totals.trades) (λ (s : Standing). group_named_by reference s.terms) (report_by totals.trades firm own) is
 
--- there are numbers for the it.lines
+-- there are enough numbers for the lines
 pub give_up-numbers : (reference : Tables) (totals : Totals) (it : GiveUpOf) → length it.lines ≤ 16 → MayTakeIn reference totals (GiveUp it)
     → length totals.offers + length it.lines ≤ 16000000
 give_up-numbers reference totals it few may = omega (arith, few_offers reference may.history totals may.kept, may.accepted.room, few)
 
--- a give-up is taken in
+-- a give-up is applied
 pub give_up-taken : (reference : Tables) (old new : Totals) (it : GiveUpOf) (report : Report) (group : Group) → length it.lines ≤ 16
     → given_up reference (state_in old) it.firm it.report ≡ Some (report, group) → new.today ≡ old.today → new.trades ≡ old.trades → new.limits ≡ old.limits → new.positions ≡ old.positions
     → new.give_ups.keys ≡ old.give_ups.keys ++ record { firm = it.firm; id = it.id } ∷ [] → new.offers ≡ with_lines old.offers it.firm it.report group it.lines

@@ -1,4 +1,4 @@
--- What notices are written by, and whom entries tell, as a book keeps it.
+-- The data that notices are made from, and the recipients of entries, as a book stores them.
 use Rattle.std.proofs.Common.{◌≡◌, ◌≤◌, ℕ, zero, suc, ◌+◌, ◌++◌, List, [], ◌∷◌, length, Some, refl, ap, ◌∙◌, subst}
 use Rattle.std.specs.Option.{option_map, option_to_list}
 use Rattle.std.specs.Prelude.{slice_get}
@@ -23,7 +23,7 @@ use Rattle.gu_book.specs.Counted.{AreVersions}
 use Rattle.gu_book.specs.declared.totals.Totals.{Totals}
 use Rattle.gu_book.specs.declared.versions.Versions.{Versions}
 
--- the offer of a number stands in its row
+-- the offer with a number is in its row
 offer_at-is : (history : List Entry) (n : ℕ) → option_map (λ (r : Row). r.offer) (row_at (standing_of history) n) ≡ offer_at history n
 offer_at-is history zero = refl
 offer_at-is history (suc place) = go 1 (offers_of history) place
@@ -33,7 +33,7 @@ offer_at-is history (suc place) = go 1 (offers_of history) place
     go m (offer ∷ offers) zero = refl
     go m (offer ∷ offers) (suc at) = go (m + 1) offers at
 
--- notices are written by what is kept as by the history
+-- notices made from the totals are those made from the history
 pub register-is : (reference : Tables) (history : List Entry) (totals : Totals) → IsBeside reference history totals → register_kept reference totals ≡ register_of (record { reference = reference; history = history })
 register-is reference history totals beside =
     λ i. record {
@@ -42,18 +42,18 @@ register-is reference history totals beside =
       offer = λ n. (ap (λ (rows : List Row). option_map (λ (r : Row). r.offer) (row_at rows n)) beside.offers ∙ offer_at-is history n) i;
     }
 
--- what is at a place stays there
+-- an element at an index stays there
 stays : {X : Type 0} (xs ys : List X) (place : ℕ) (x : X) → slice_get xs place ≡ Some x → slice_get (xs ++ ys) place ≡ Some x
 stays [] ys place x is = cc
 stays (first ∷ xs) ys zero x is = is
 stays (first ∷ xs) ys (suc place) x is = stays xs ys place x is
 
--- an offer stays what it was
+-- an offer is unchanged
 offer-stays : (history : List Entry) (entry : Entry) (n : ℕ) (o : Offer) → offer_at history n ≡ Some o → offer_at (history ++ entry ∷ []) n ≡ Some o
 offer-stays history entry zero o is = cc
 offer-stays history entry (suc place) o is = ap (λ (os : List Offer). slice_get os place) (offers_of-push history entry) ∙ stays (offers_of history) (lines_by entry) place o is
 
--- one entry more leaves what notices are written by, and adds to it
+-- one more entry keeps the data that notices are made from, and only adds to it
 grows-by : (reference : Tables) (history : List Entry) (entry : Entry) → ((id : Id) → length (with_match id (reports_of (history ++ entry ∷ []))) ≤ 2)
     → Grows (register_of (record { reference = reference; history = history })) (register_of (record { reference = reference; history = history ++ entry ∷ [] }))
 grows-by reference history entry few = record {
@@ -63,7 +63,7 @@ grows-by reference history entry few = record {
   offers = offer-stays history entry;
 }
 
--- what is kept, with one entry more
+-- the stored state after one more entry
 pub whole-more : (reference : Tables) (history : List Entry) (entry : Entry) (totals : Totals) (versions : Versions) (recipients : List FirmFilter)
     → AreRecipients (register_of (record { reference = reference; history = history })) history recipients → IsKeptLegal reference (history ++ entry ∷ []) totals versions
     → ((id : Id) → length (with_match id totals.trades) ≤ 2) → IsKeptWhole reference (history ++ entry ∷ []) totals versions recipients
@@ -73,7 +73,7 @@ whole-more reference history entry totals versions recipients are kept few =
     let sides = subst (λ (rs : List Report). (id : Id) → length (with_match id rs) ≤ 2) kept.kept.beside.reports few in
     record { entries = kept; told = recipients-longer after history (entry ∷ []) recipients (recipients-later before after (grows-by reference history entry sides) history recipients are) }
 
--- the same, with versions that are counted anew
+-- the same, with recomputed versions
 pub legal-counted : (reference : Tables) (history : List Entry) (totals : Totals) (before after : Versions) → IsKeptLegal reference history totals before → AreVersions history after
     → IsKeptLegal reference history totals after
 legal-counted reference history totals before after kept counted = record { legal = kept.legal; kept = kept.kept; counted = counted }

@@ -1,4 +1,4 @@
--- Machinery: an accepted command, as what is kept beside a history takes it in.
+-- Machinery: applying an accepted command to the totals kept beside a history.
 use Rattle.std.specs.Prelude.{◌++◌, List, [], ◌∷◌}
 use Rattle.gu_terms.specs.declared.command.Command.{Command}
 use Rattle.gu_terms.specs.declared.entry.Entry.{Entry}
@@ -8,23 +8,23 @@ use Rattle.gu_book.specs.Beside.{IsKept}
 use Rattle.gu_book.specs.Deeds.{Deed, IsDeedOf}
 use Rattle.gu_book.specs.declared.totals.Totals.{Totals}
 
--- a command is accepted after a history beside which this is kept
+-- a command is accepted after some history with these totals
 pub record MayTakeIn (reference : Tables) (totals : Totals) (command : Command) : Type 0 where
   pub history : List Entry
   pub kept : IsKept reference history totals
   pub accepted : IsAccepted reference history command
 
--- so is some command that does this
+-- some command with this effect is accepted
 pub record MayDo (reference : Tables) (totals : Totals) (deed : Deed) : Type 0 where
   pub command : Command
   pub may : MayTakeIn reference totals command
   pub is : IsDeedOf reference totals command deed
 
--- what was kept beside a history is kept beside it and the command's entry
+-- old totals of a history after which the command is accepted become those of the history with the command's entry
 abbrev pub TakesIn : Tables → Totals → Totals → Command → Type 0
 TakesIn reference old new command =
     (history : List Entry) → IsKept reference history old → IsAccepted reference history command → IsKept reference (history ++ accepted_entry reference history command ∷ []) new
 
--- so it is for each command that does this
+-- this holds for each command with this effect
 abbrev pub TakesDeed : Totals → Totals → Deed → Type 0
 TakesDeed old new deed = (reference : Tables) (command : Command) → IsDeedOf reference old command deed → TakesIn reference old new command

@@ -1,4 +1,4 @@
--- Machinery: what a book keeps beside its history, so that an answer reads none of it.
+-- Machinery: the totals that a book keeps, so that no answer reads its history.
 use Rattle.std.specs.Prelude.{◌≡◌, ℕ, ◌*◌, ◌≤◌, ◌&&◌, Bool, true, false, zero, suc, nat_lt, List, length, Option, Some, None, is_some}
 use Rattle.std.specs.List.{find, list_any}
 use Rattle.std.specs.Option.{option_and_then, option_map, option_map_or}
@@ -42,11 +42,11 @@ use Rattle.gu_book.specs.declared.totals.GiveUpKey.{GiveUpKey}
 use Rattle.gu_book.specs.declared.totals.Totals.{Totals}
 use Rattle.gu_book.specs.declared.versions.Versions.{Versions}
 
--- a give-up of this firm with this id is among those that are kept
+-- the stored give-ups include one of this firm with this id
 abbrev pub is_kept_give_up : List GiveUpKey → FirmId → Id → Bool
 is_kept_give_up keys firm id = list_any (λ (k : GiveUpKey). same_firm k.firm firm && same_id k.id id) keys
 
--- what is kept, as answers depend on it
+-- the totals, as the state that answers depend on
 abbrev pub state_in : Totals → State
 state_in totals =
     record {
@@ -57,13 +57,13 @@ state_in totals =
       room = room_in totals.limits;
     }
 
--- the answer to a report that passes all tests but the last, by what it meets
+-- the answer to a report that passes all tests but the last, given its counterpart
 abbrev pub answer_to_match : Counterpart → Reply
 answer_to_match Nobody = Accepted (Reported false)
 answer_to_match (Waiting terms) = Accepted (Reported true)
 answer_to_match Conflicting = Denied MatchConflict
 
--- what a counterpart is to a report that makes a trade with it
+-- the terms of the waiting report, if the counterpart is one
 abbrev pub waiting_of : Counterpart → Option Terms
 waiting_of Nobody = None
 waiting_of (Waiting terms) = Some terms
@@ -79,17 +79,17 @@ standing_given_up reference totals firm id =
     option_and_then (λ (s : Standing). option_map (λ group. (s, group)) (group_named_by reference s.terms))
     (option_map (standing_in totals.trades) (report_by totals.trades firm id))
 
--- some lots, or none
+-- these lots, or none if they are 0
 abbrev pub some_lots : ℕ → Option ℕ
 some_lots zero = None
 some_lots (suc n) = Some (suc n)
 
--- the first key under which an offer comes that has less room than these lots
+-- the first key on the path of an offer that has less room than these lots
 abbrev pub short_key : Tables → State → ℕ → ℕ → Option LimitKey
 short_key reference state n lots =
     option_map_or (λ (row : Row). find (λ key. nat_lt (state.room row.offer.group key) lots) (path_after reference row.offer)) (row_at state.offers n) None
 
--- what is kept beside a history
+-- these are the totals of a history
 pub record IsBeside (reference : Tables) (history : List Entry) (totals : Totals) : Type 0 where
   pub today : totals.today ≡ open_day history
   pub reports : totals.trades ≡ reports_of history
@@ -101,23 +101,23 @@ pub record IsBeside (reference : Tables) (history : List Entry) (totals : Totals
   pub positions : (side : Side) (account : AccountId) (symbol : Symbol) → lots_in totals.positions side account symbol ≡ held_of history side account symbol
   pub sums : (side : Side) (symbol : Symbol) → lots_on totals.positions side symbol ≤ 2000000 * length history
 
--- an orderly history, with what is kept beside it
+-- the history is orderly, and these are its totals
 pub record IsKept (reference : Tables) (history : List Entry) (totals : Totals) : Type 0 where
   pub orderly : IsOrderly history
   pub beside : IsBeside reference history totals
 
--- a legal history, with what is kept beside it
+-- the history is legal, and these are its totals and versions
 pub record IsKeptLegal (reference : Tables) (history : List Entry) (totals : Totals) (versions : Versions) : Type 0 where
   pub legal : IsLegal reference history
   pub kept : IsKept reference history totals
   pub counted : AreVersions history versions
 
--- what is kept, as notices are written by it
+-- the totals, as notices are made from them
 abbrev pub register_kept : Tables → Totals → Register
 register_kept reference totals =
     record { reference = reference; reports = totals.trades; offer = λ n. option_map (λ (r : Row). r.offer) (row_at totals.offers n) }
 
--- and with it, of each of the first entries, a set of firms that may hold whom it informs
+-- the same, with a set for each of the first entries that may hold every firm that it notifies
 pub record IsKeptWhole (reference : Tables) (history : List Entry) (totals : Totals) (versions : Versions) (recipients : List FirmFilter) : Type 0 where
   pub entries : IsKeptLegal reference history totals versions
   pub told : AreRecipients (register_of (record { reference = reference; history = history })) history recipients

@@ -1,4 +1,4 @@
--- Machinery: what an accepted command does, with all that was found as it was decided.
+-- Machinery: an accepted command's effect, with everything that was looked up to decide it.
 use Rattle.std.specs.Prelude.{◌≡◌, ℕ, true, length, Option, Some, Result, Ok, Err, is_some}
 use Rattle.std.specs.List.{AllByRecursion}
 use Rattle.std.specs.Option.{option_map}
@@ -34,7 +34,7 @@ use Rattle.gu_book.specs.declared.totals.Totals.{Totals}
 use Rattle.gu_book.specs.declared.versions.Touched.{Touched}
 use Rattle.gu_book.specs.declared.versions.Touched.TheVariants.{Nothing, Only, Every}
 
--- what an accepted command does, with all that was found as it was decided
+-- an accepted command's effect, with everything that was looked up to decide it
 pub data Deed : Type 0 where
   Opens : (opening : OpenDay) → Deed
   SetsLimit : (limit : SetLimit) → Deed
@@ -44,7 +44,7 @@ pub data Deed : Type 0 where
   Refuses : (number : ℕ) (group : Group) (lots : ℕ) → Deed
   Reverses : (reversed : Moved) → Deed
 
--- what the reply to a command says of which this was decided
+-- what the reply to a command with this effect says
 abbrev pub done_by : Deed → Done
 done_by (Opens opening) = Opened
 done_by (SetsLimit limit) = LimitSet
@@ -54,7 +54,7 @@ done_by (Claims claimed) = Claimed claimed.lots
 done_by (Refuses number group lots) = Refused lots
 done_by (Reverses reversed) = Reversed reversed.lots
 
--- the groups that it touches (a refused command touches none)
+-- the groups that its entry touches (a refused command touches none)
 abbrev pub touched_by : Deed → Touched
 touched_by (Opens opening) = Every
 touched_by (SetsLimit limit) = Only limit.group
@@ -64,21 +64,21 @@ touched_by (Claims claimed) = Only claimed.group
 touched_by (Refuses number group lots) = Only group
 touched_by (Reverses reversed) = Only reversed.group
 
--- that reply, where a command was decided so, or the refusal
+-- that reply if the command is accepted, or else the refusal
 abbrev pub reply_by : {D : Type 0} → (D → Deed) → Result D Refusal → Reply
 reply_by does (Ok deed) = Accepted (done_by (does deed))
 reply_by does (Err why) = Denied why
 
--- each offer gives up a report that was taken in
+-- each offer gives up a report that was accepted
 abbrev pub HaveReports : Totals → Type 0
 HaveReports totals = AllByRecursion (λ (row : Row). is_some (report_after totals.trades row) ≡ true) totals.offers
 
--- an offer and the terms of its report, as they are found
+-- the offer with this number is this one, and its report has these terms
 pub record AreFound (totals : Totals) (n : ℕ) (offer : Offer) (report : Terms) : Type 0 where
   pub shown : Some offer ≡ option_map (λ (r : Row). r.offer) (row_at totals.offers n)
   pub found : Some report ≡ option_map terms_of (report_by totals.trades offer.firm offer.report)
 
--- a command, asked so of some firm, moves these lots of an offer: by its own report, and under the limits of its own path
+-- a command that some firm enters with `ask` moves these lots of an offer, with the terms of its report and under the limits of its path
 pub record MovesLots (reference : Tables) (totals : Totals) (command : Command) (ask : FirmId → ℕ → Command) (moved : Moved) (lots : ℕ) : Type 0 where
   pub firm : FirmId
   pub is : command ≡ ask firm moved.number
@@ -89,32 +89,32 @@ pub record MovesLots (reference : Tables) (totals : Totals) (command : Command) 
   pub under : AreLimitsOf totals.limits moved.group (path_after reference offer) moved.limits
   pub all : moved.lots ≡ lots
 
--- a command reports this on the open day, and meets who waits for it
+-- a command makes this report on the open day, given the terms of the report that waits for it, if one does
 pub record MakesReport (totals : Totals) (command : Command) (report : ReportSide) (today : Day) (waiting : Option Terms) : Type 0 where
   pub is : command ≡ asked.ReportSide report
   pub opened : totals.today ≡ Some today
   pub met : waiting ≡ waiting_of (counterpart_of (with_match report.match_id totals.trades) (terms_of (made_on today report)))
 
--- a command gives these lines up, of a report of this group
+-- a command gives these lines up, for a report in this group
 pub record GivesLines (reference : Tables) (totals : Totals) (command : Command) (give_up : GiveUp) (group : Group) : Type 0 where
   pub is : command ≡ asked.GiveUp give_up
   pub group_is : option_map (λ g. g.1) (given_up reference (state_in totals) give_up.firm give_up.report) ≡ Some group
 
--- a command refuses an offer of this group
+-- a command refuses an offer in this group
 pub record RefusesOffer (totals : Totals) (command : Command) (number : ℕ) (group : Group) : Type 0 where
   pub firm : FirmId
   pub why : AllocReject
   pub is : command ≡ asked.Refuse (record { firm = firm; offer = number; why = why })
   pub group_is : Some group ≡ option_map (λ (r : Row). r.offer.group) (row_at totals.offers number)
 
--- a firm's claim of an offer, and its reversal
+-- a firm's claim of an offer, and its reversal of one
 abbrev pub claim_of : FirmId → ℕ → Command
 claim_of firm offer = asked.Claim (record { firm = firm; offer = offer })
 
 abbrev pub reversal_of : FirmId → ℕ → Command
 reversal_of firm offer = asked.Reverse (record { firm = firm; offer = offer })
 
--- what an accepted command does, where this is kept: a claim moves all that is left, a reversal all that was moved today
+-- an accepted command's effect, given these totals: a claim moves all that is left, a reversal all that was moved today
 abbrev pub IsDeedOf : Tables → Totals → Command → Deed → Type 0
 IsDeedOf reference totals command (Opens opening) = command ≡ asked.OpenDay opening
 IsDeedOf reference totals command (SetsLimit limit) = command ≡ asked.SetLimit limit

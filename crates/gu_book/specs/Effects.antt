@@ -1,4 +1,4 @@
--- Machinery: what one entry makes of what a book keeps beside its history.
+-- Machinery: how one entry changes the totals.
 use Rattle.std.specs.Prelude.{◌≡◌, ℕ, ◌+◌, ◌-◌, ◌≤◌, true, List, [], ◌∷◌, sum_by}
 use Rattle.gu_terms.specs.declared.account.AccountId.{AccountId}
 use Rattle.gu_terms.specs.declared.group.Group.{Group}
@@ -16,45 +16,45 @@ use Rattle.gu_trades.specs.declared.terms.Terms.{Terms}
 use Rattle.gu_rules.specs.Limits.{path_after}
 use Rattle.gu_book.specs.declared.totals.Totals.{Totals}
 
--- the lots of reports on a side of an instrument, for an account
+-- the total lots of reports on this side of this instrument for this account
 abbrev pub lots_of_reports : List Report → Side → AccountId → Symbol → ℕ
 lots_of_reports reports side account symbol = sum_by (λ (r : Report). lots_at r.side r.account r.symbol r.lots side account symbol) reports
 
--- the reports that one more report makes a trade: itself and the one that waits for it, or none
+-- the reports that one more report makes a trade: the waiting one and itself, or none
 abbrev pub made_a_trade : List Report → Report → List Report
 made_a_trade [] report = []
 made_a_trade (waiting ∷ more) report = waiting ∷ report ∷ []
 
--- the rows that there were are there
+-- every row that was made is still there
 abbrev pub KeepsMade : List Row → List Row → Type 0
 KeepsMade old new = (account : AccountId) (symbol : Symbol) → has_row old account symbol ≡ true → has_row new account symbol ≡ true
 
--- lots of reports are held more
+-- the lots of these reports are added to their accounts
 pub record HoldsMore (old new : List Row) (reports : List Report) : Type 0 where
   pub lots : (side : Side) (account : AccountId) (symbol : Symbol) → lots_in new side account symbol ≡ lots_in old side account symbol + lots_of_reports reports side account symbol
   pub sums : (side : Side) (symbol : Symbol) → lots_on new side symbol ≤ lots_on old side symbol + 2000000
 
--- lots of a report of these terms leave one account for another
+-- lots of a report with these terms move from one account to another
 pub record HoldsMoved (old new : List Row) (report : Terms) (from to : AccountId) (moved : ℕ) : Type 0 where
   pub lots : (side : Side) (account : AccountId) (symbol : Symbol)
       → lots_in new side account symbol
       ≡ lots_in old side account symbol - lots_at report.side from report.symbol moved side account symbol + lots_at report.side to report.symbol moved side account symbol
   pub sums : (side : Side) (symbol : Symbol) → lots_on new side symbol ≡ lots_on old side symbol
 
--- lots are used more under the keys of an offer
+-- lots are charged under the keys that apply to an offer
 abbrev pub UsesMore : Tables → List GroupLimit → List GroupLimit → Offer → ℕ → Type 0
 UsesMore reference old new offer lots = Charges old new offer.group (path_after reference offer) lots
 
--- and less
+-- lots are given back under the keys that apply to an offer
 abbrev pub UsesLess : Tables → List GroupLimit → List GroupLimit → Offer → ℕ → Type 0
 UsesLess reference old new offer lots = Returns old new offer.group (path_after reference offer) lots
 
--- nothing is used of any limit
+-- nothing is used of any limit, and no limit changes
 pub record UsesNothing (old new : List GroupLimit) : Type 0 where
   pub limits : SameLimits old new
   pub uses : (at : Group) (on : LimitKey) → used_in new at on ≡ 0
 
--- the day, the reports and the give-ups are what they were
+-- the day, the reports and the give-ups are unchanged
 pub record SameEntries (old new : Totals) : Type 0 where
   pub today : new.today ≡ old.today
   pub trades : new.trades ≡ old.trades

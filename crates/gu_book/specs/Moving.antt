@@ -1,4 +1,4 @@
--- Machinery: the takes of a sweep, as what is kept beside a history takes them in, one after another.
+-- Machinery: applying the takes of a sweep to the totals, one after another.
 use Rattle.std.specs.Prelude.{◌≡◌, ℕ, ◌<◌, ◌≤◌, ◌++◌, true, List, [], ◌∷◌, sum_by, Option, Some, IfSome}
 use Rattle.std.specs.List.{AllByRecursion}
 use Rattle.std.specs.Option.{option_and_then, option_map, option_map_or}
@@ -30,26 +30,26 @@ use Rattle.gu_book.specs.Beside.{IsKept}
 use Rattle.gu_book.specs.Effects.{SameEntries, UsesMore}
 use Rattle.gu_book.specs.declared.totals.Totals.{Totals}
 
--- the offer of a number, and the terms of the report that it gives up
+-- the offer with this number, and the terms of the report that it gives up
 abbrev pub given_by : Totals → ℕ → Option (Offer × Terms)
 given_by totals n = option_and_then (λ (row : Row). option_map (λ (r : Report). (row.offer, terms_of r)) (report_after totals.trades row)) (row_at totals.offers n)
 
--- the accounts between which lots of an offer move have rows of its instrument
+-- the accounts between which lots of an offer move have rows for its instrument
 abbrev pub HasRows : Totals → ℕ → Type 0
 HasRows totals n = IfSome (given_by totals n) (λ g. (has_row totals.positions g.1.account g.1.symbol ≡ true) × (has_row totals.positions g.0.account g.1.symbol ≡ true))
 
--- of these offers of a view the one with a number has the path that it comes under
+-- among these offers of a view, the one with this number has the path that applies to it
 abbrev pub ShowsPath : Tables → List Row → List ShownOffer → ℕ → Type 0
 ShowsPath reference rows offers n =
     IfSome (row_at rows n) (λ row. option_map (λ (o : ShownOffer). o.path) (offer_of offers n) ≡ Some (path_after reference row.offer))
 
--- the lots that takes use under a key in a group
+-- the lots that takes charge to a key in a group
 abbrev pub lots_used : Tables → List Row → List Take → Group → LimitKey → ℕ
 lots_used reference rows takes group key =
     sum_by (λ (t : Take). option_map_or (λ (r : Row). lots_under r.offer.group (path_after reference r.offer) t.lots group key) (row_at rows t.offer) 0) takes
 
--- takes of a view's offers may be moved: offers ascend, each is open and has the lots left, every room suffices for all, rows are
--- made, and the view shows the paths
+-- takes from a view's offers may be moved: offers ascend, each is open and has the lots left, every room suffices for all, rows are made,
+-- and the view shows the paths
 pub record MayMove (reference : Tables) (totals : Totals) (offers : List ShownOffer) (takes : List Take) : Type 0 where
   pub history : List Entry
   pub kept : IsKept reference history totals

@@ -1,4 +1,4 @@
--- Answers to questions: what a book answers to a query, each kind by its own definition.
+-- Answers to queries, each kind by its own definition.
 use Rattle.std.specs.Prelude.{◌≡◌, ◌+◌, false, is_some, length, IfSome}
 use Rattle.gu_terms.specs.declared.query.Query.{Query}
 use Rattle.gu_terms.specs.declared.query.Query.TheVariants as asked
@@ -13,10 +13,9 @@ use Rattle.gu_rules.specs.Views.{group_view}
 use Rattle.gu_book.specs.declared.asking.Answer.{Answer}
 use Rattle.gu_book.specs.declared.asking.Answer.TheVariants as answered
 
--- what a book answers to a query: the lots that the account holds long and short; the open
--- interest; all that the account holds, where it is the firm's; the group's view, which is nested;
--- the notices from a number on, and the number after the last entry. An answer of another kind
--- answers nothing
+-- the book's answer to a query: the lots that the account holds long and short; the open interest; the account's positions, if it is the
+-- firm's; the group's view, which is nested; or the notices from a number on, and the number after the last entry. An answer of another
+-- kind is never right
 abbrev pub IsAnswer : BookState → Query → Answer → Type 0
 IsAnswer book (asked.Position account symbol) (answered.Position long short) =
     (long ≡ long_of book.history account symbol) × (short ≡ short_of book.history account symbol)
@@ -29,7 +28,7 @@ IsAnswer book (asked.Notices firm from) (answered.Notices notices) =
     (notices.next ≡ length book.history + 1) × (notices.list.items ≡ notices_of book firm from)
 IsAnswer book query answer = ⊥
 
--- the query is for the view of a group that the reference doesn't have
+-- the query is for the view of a group that the reference lacks
 abbrev pub IsUnknown : Tables → Query → Type 0
 IsUnknown reference (asked.Look group) = is_group reference group ≡ false
 IsUnknown reference query = ⊥

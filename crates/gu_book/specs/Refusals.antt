@@ -1,4 +1,4 @@
--- Machinery: the refusals of a sweep of a view that was seen, among all refusals of a commit.
+-- Machinery: refusals of a sweep of a seen view, among all refusals of a commit.
 use Rattle.gu_book.specs.declared.error.CommitError.{CommitError}
 use Rattle.gu_book.specs.declared.error.CommitError.TheVariants as commit
 use Rattle.gu_book.specs.declared.error.SeenError.{SeenError}

@@ -1,4 +1,4 @@
--- Machinery: views, as they are made of what a book keeps.
+-- Machinery: views, made from the totals.
 use Rattle.std.specs.Prelude.{◌≡◌, List, Some, map}
 use Rattle.gu_terms.specs.declared.group.Group.{Group}
 use Rattle.gu_terms.specs.declared.limit_key.LimitKey.{LimitKey}
@@ -14,16 +14,16 @@ use Rattle.gu_book.specs.declared.showing.Way.{Way}
 use Rattle.gu_book.specs.declared.totals.Totals.{Totals}
 use Rattle.gu_book.specs.declared.versions.Versions.{Versions}
 
--- an agreement is between its firm and its account, and the path is its own
+-- an agreement is between its firm and its account, and has this path
 pub record IsWay (reference : Tables) (way : Way) : Type 0 where
   pub between : agreement_between reference way.firm way.account ≡ Some way.agreement
   pub path : path_of reference way.agreement ≡ Some way.path
 
--- rooms of these keys in a group
+-- the rooms of these keys in a group
 abbrev pub rooms_in : List GroupLimit → Group → List LimitKey → List Room
 rooms_in limits group keys = map (λ key. record { key = key; lots = room_in limits group key }) keys
 
--- the view of a group
+-- the view of a group, made from the totals and versions
 abbrev pub view_in : Tables → Totals → Versions → Group → GroupView
 view_in reference totals versions group =
     record {

@@ -1,4 +1,4 @@
-//! What is decided of commands.
+//! Decisions on commands.
 
 ghost use Rattle.std.specs.Prelude.{◌≡◌, ◌<◌, [], nat_lt, is_some, length, unwrap_or, true, IfErr, IfOk, IfSome, OnOk, None, Some};
 ghost use Rattle.std.specs.List.{find, IsDistinct};
@@ -33,7 +33,7 @@ use gu_terms::{
 };
 use gu_trades::{Counterpart, Standing, Terms};
 
-/// Whether a day comes after the open one.
+/// Returns whether a day is after the open one.
 fn is_later(today: Option<Day>, day: Day) -> bool
     ensures { result ≡ is_later today day }
 {
@@ -43,7 +43,7 @@ fn is_later(today: Option<Day>, day: Day) -> bool
     }
 }
 
-/// Whether a report names a day that isn't the open one.
+/// Returns whether a report names a day that isn't the open one.
 fn is_other_day(today: Day, day: Option<Day>) -> bool
     ensures { result ≡ is_other_day today day }
 {
@@ -53,7 +53,7 @@ fn is_other_day(today: Day, day: Option<Day>) -> bool
     }
 }
 
-/// Whether the reference has what a key names.
+/// Returns whether the reference has what a key names.
 fn is_known_key(reference: &Reference, key: LimitKey) -> bool
     ensures { result ≡ is_known_key reference.now key }
 {
@@ -65,7 +65,7 @@ fn is_known_key(reference: &Reference, key: LimitKey) -> bool
     }
 }
 
-/// The terms of the report that waits for one that meets this, where one does; or why that one may not be made.
+/// Returns the terms of the waiting report that a new one matches, if there is one, or why the new one is refused.
 fn waiting_of(counterpart: &Counterpart) -> Result<Option<Terms>, Refusal>
     ensures waiting { IfOk result (λ waiting. waiting ≡ waiting_of counterpart.now) }
     ensures made { IfOk result (λ waiting. answer_to_match counterpart.now ≡ Accepted (Reported (is_some waiting))) }
@@ -143,7 +143,7 @@ impl<'a> Decide<'a> for OpenDay {
     }
 }
 
-/// The product group of an instrument, as terms name it.
+/// Returns the product group of the instrument that terms name.
 pub fn group_of(reference: &Reference, terms: &Terms) -> Option<Group>
     ensures { result ≡ group_named_by reference.now terms.now }
 {
@@ -151,7 +151,7 @@ pub fn group_of(reference: &Reference, terms: &Terms) -> Option<Group>
     Some(instrument.group)
 }
 
-/// The firm's report with this id, as it is now, and the product group of its instrument.
+/// Returns the firm's report with this id, as it is now, and the product group of its instrument.
 fn given_up(
     reference: &Reference,
     totals: &Totals,
@@ -165,7 +165,7 @@ fn given_up(
     Some((standing, group))
 }
 
-/// Whether the account of one of the lines isn't in the reference.
+/// Returns whether the account in one of the lines isn't in the reference.
 fn has_unknown_account(reference: &Reference, lines: &[Line]) -> bool
     ensures { result ≡ has_unknown_account reference.now lines.now }
 {
@@ -177,17 +177,17 @@ fn has_unknown_account(reference: &Reference, lines: &[Line]) -> bool
     false
 }
 
-/// The same, where it is told whether a firm lacks an agreement for one of the lines. If it has all, no account is looked up.
+/// Returns the same, given whether the firm lacks an agreement for one of the lines. If it lacks none, no account is looked up.
 fn has_unknown_account_without(reference: &Reference, lines: &[Line], lacks: bool) -> bool
     requires { (firm : FirmIdOf) × (lacks ≡ lacks_agreement reference.now firm lines.now) }
     ensures { result ≡ has_unknown_account reference.now lines.now }
 {
-    // Shows the prover: what the type of the reference keeps.
+    // Shows the prover: the rules of the reference.
     reference.rules();
     lacks && has_unknown_account(reference, lines)
 }
 
-/// Whether the firm has no agreement for the account of one of the lines.
+/// Returns whether the firm has no agreement for the account in one of the lines.
 fn lacks_agreement(reference: &Reference, firm: &FirmId, lines: &[Line]) -> bool
     ensures { result ≡ lacks_agreement reference.now firm.now lines.now }
 {
@@ -199,7 +199,7 @@ fn lacks_agreement(reference: &Reference, firm: &FirmId, lines: &[Line]) -> bool
     false
 }
 
-/// Why lines of a firm's report can't be given up in its group, if they can't.
+/// Returns the reason that lines of a firm's report can't be given up in its group, if there is one.
 fn refusal_of_lines(
     totals: &Totals,
     asked: &GiveUp,
@@ -256,7 +256,7 @@ impl<'a> Decide<'a> for GiveUp {
     }
 }
 
-/// Whether a firm isn't the one that carries an offer's account, where the agreement by which it was made is known, or that there is none.
+/// Returns whether an offer is to another firm's account, given the agreement by which it was made, if there is one.
 fn is_anothers(
     reference: &Reference,
     offer: &Offer,
@@ -275,13 +275,13 @@ fn is_anothers(
     }
 }
 
-/// The path of the agreement by which an offer was made, where it is known, or that there is none.
+/// Returns the path of the agreement by which an offer was made, given that agreement, if there is one.
 fn path_with(reference: &Reference, offer: &Offer, partner: &Option<Partner>) -> Option<Path>
     requires { partner.now ≡ partner_between reference.now offer.now.firm offer.now.account }
     ensures keys { unwrap_or result [] ≡ path_after reference.now offer.now }
     ensures once { IfSome result (IsDistinct key_eq) }
 {
-    // Shows the prover: what the type of the reference keeps.
+    // Shows the prover: the rules of the reference.
     reference.rules();
     match partner {
         Some(partner) => Some(path_by(reference, &offer.firm, &offer.account, partner)),
@@ -289,7 +289,7 @@ fn path_with(reference: &Reference, offer: &Offer, partner: &Option<Partner>) ->
     }
 }
 
-/// The limits of a path. One that isn't there has none.
+/// Returns the limits of a path, or those of no key if there is no path.
 fn limits_of(limits: &LimitTable, group: &Group, path: &Option<Path>) -> PathLimits
     ensures { AreLimitsOf limits.now group.now (unwrap_or path.now []) result }
 {
@@ -299,7 +299,7 @@ fn limits_of(limits: &LimitTable, group: &Group, path: &Option<Path>) -> PathLim
     }
 }
 
-/// The same, where each has room for these lots; else the first key under which there is less.
+/// Returns the same if each limit has room for these lots, or else the first key that has less.
 fn limits_with_room(
     limits: &LimitTable,
     group: &Group,
@@ -315,27 +315,25 @@ fn limits_with_room(
     }
 }
 
-/// The lots that are left of an offer, where there are any.
+/// Returns the lots left of an offer, if there are any.
 fn lots_left(totals: &Totals, number: OfferNo) -> Option<Lots>
     ensures { result ≡ some_lots (left_in totals.now.offers number) }
 {
-    // No offer has more lots than there may be.
-    // Shows the prover: what the type of the offers keeps.
+    // No offer has more lots than the maximum. Shows the prover: the rules of the offers.
     totals.offers.rules();
     Lots::new(totals.offers.left(number))
 }
 
-/// The lots that were moved of an offer today, where there are any.
+/// Returns the lots of an offer that were moved today, if there are any.
 fn lots_moved_today(totals: &Totals, number: OfferNo) -> Option<Lots>
     ensures { result ≡ some_lots (today_in totals.now.offers number) }
 {
-    // No offer has more lots than there may be.
-    // Shows the prover: what the type of the offers keeps.
+    // No offer has more lots than the maximum. Shows the prover: the rules of the offers.
     totals.offers.rules();
     Lots::new(totals.offers.moved_today(number))
 }
 
-/// The offer to which a firm answers, and the agreement by which it was made, where there is one; or why the firm may say nothing to it.
+/// Returns the offer that a firm responds to and the agreement by which it was made, if there is one; or why the response is refused.
 fn offer_to(
     reference: &Reference,
     totals: &Totals,
@@ -360,7 +358,7 @@ fn offer_to(
     Ok((offer, partner))
 }
 
-/// The terms of the report that an offer gives up.
+/// Returns the terms of the report that an offer gives up.
 fn terms_given_up(totals: &Totals, offer: &Offer) -> Terms
     requires { is_some (report_by totals.now.trades offer.now.firm offer.now.report) ≡ true }
     ensures { Some result ≡ option_map terms_of (report_by totals.now.trades offer.now.firm offer.now.report) }

@@ -8,22 +8,22 @@ use crate::error::AskError;
 use gu_terms::{AccountId, FirmId, Group, Notices, PositionRows, Query};
 use gu_view::View;
 
-/// What the book answers to a query: of each kind, what the call of its name gives.
+/// The book's answer to a query: for each kind, the result of the call of that name.
 #[derive(Drop)]
 pub enum Answer {
-    /// What the account holds of the instrument, in lots.
+    /// The lots that the account holds in the instrument.
     Position { long: u64, short: u64 },
     /// The open interest of the instrument.
     Interest { lots: u64 },
-    /// All that the account holds. None where it is unknown or another firm's.
+    /// The account's positions. None if the account is unknown or another firm's.
     Positions(Option<PositionRows>),
     /// The group's open offers and rooms.
     Look(View),
-    /// What the firm is told.
+    /// The firm's notices.
     Notices(Notices),
 }
 
-/// All that a firm's account holds.
+/// Returns the positions of a firm's account.
 fn positions(book: &Book, firm: FirmId, account: AccountId) -> Result<Answer, AskError>
     ensures answer { IfOk result (IsAnswer book.now (Query.Positions firm account)) }
     ensures known { IsErrOf result AskError.UnknownGroup ↔ IsUnknown book.now.reference (Query.Positions firm account) }
@@ -31,7 +31,7 @@ fn positions(book: &Book, firm: FirmId, account: AccountId) -> Result<Answer, As
     Ok(Answer::Positions(book.positions(firm, account)?))
 }
 
-/// A group's open offers and rooms.
+/// Returns a group's open offers and rooms.
 fn look(book: &Book, group: &Group) -> Result<Answer, AskError>
     ensures answer { IfOk result (IsAnswer book.now (Query.Look group.now)) }
     ensures unknown { IsErrOf result AskError.UnknownGroup ↔ IsUnknown book.now.reference (Query.Look group.now) }
@@ -39,7 +39,7 @@ fn look(book: &Book, group: &Group) -> Result<Answer, AskError>
     Ok(Answer::Look(book.view(group)?))
 }
 
-/// What a firm is told.
+/// Returns a firm's notices.
 fn notices(book: &Book, firm: FirmId, from: u64) -> Result<Answer, AskError>
     ensures answer { IfOk result (IsAnswer book.now (Query.Notices firm from)) }
     ensures known { IsErrOf result AskError.UnknownGroup ↔ IsUnknown book.now.reference (Query.Notices firm from) }
@@ -48,7 +48,7 @@ fn notices(book: &Book, firm: FirmId, from: u64) -> Result<Answer, AskError>
 }
 
 impl Book {
-    /// Answers a query, of whatever kind.
+    /// Answers a query of any kind.
     pub fn answer(&self, query: Query) -> Result<Answer, AskError>
         ensures answer { IfOk result (IsAnswer self.now query) }
         ensures unknown { IsErrOf result AskError.UnknownGroup ↔ IsUnknown self.now.reference query }

@@ -48,15 +48,15 @@ use gu_view::View;
 use std::alloc::{AllocError, Global};
 use std::marker::Model;
 
-/// A reference, and a legal history of what was entered.
+/// A reference and a legal history of entries.
 pub struct Book {
     reference: Reference,
     history: History,
-    /// What the history comes to.
+    /// The totals that the history leads to.
     totals: Totals,
-    /// How many entries touched each group.
+    /// The number of entries that touched each group.
     versions: Versions,
-    /// Of the first entries the firms that each may tell something.
+    /// For the first entries, the firms that each may notify.
     recipients: Vec<FirmFilter>,
     alloc: Global,
 }
@@ -92,14 +92,14 @@ impl Model for Book {
 }
 
 impl Book {
-    /// A book without entries, for runs that serve no peers: its tables have a fixed seed.
+    /// Returns an empty book for runs that serve no peers: its tables have a fixed seed.
     pub fn new(alloc: Global, reference: Reference) -> Self
         ensures { result ≡ record { reference = reference; history = [] } }
     {
         Book::seeded(alloc, reference, Seed::new(0))
     }
 
-    /// A book without entries, whose tables of ids that firms choose have this seed. What it answers doesn't depend on it.
+    /// Returns an empty book whose tables of firm-chosen ids use `seed`. The seed affects no answer.
     pub fn seeded(alloc: Global, reference: Reference, seed: Seed) -> Self
         ensures { result ≡ record { reference = reference; history = [] } }
     {
@@ -130,7 +130,7 @@ impl Book {
         Ok(Reply::Denied(*why))
     }
 
-    /// Adds a command of one kind with its answer, and tells the answer.
+    /// Adds a command of one kind with its answer, and returns the answer.
     fn append_asked<'a, C: Decide<'a>>(
         &mut self,
         command: &Command,
@@ -144,7 +144,7 @@ impl Book {
         ensures reference { self.new.reference ≡ self.old.reference }
         ensures refused { OnErr result (self.new.history ≡ self.old.history) }
     {
-        // Shows the prover: what the type of a give-up's lines keeps.
+        // Shows the prover: the invariant of a give-up's lines.
         command.rules();
         let deed = match asked.decide(&self.reference, &self.totals) {
             Ok(deed) => deed,
@@ -164,7 +164,7 @@ impl Book {
         Ok(deed.reply())
     }
 
-    /// Adds a command with its answer, and tells the answer.
+    /// Adds a command with its answer, and returns the answer.
     fn append(&mut self, command: &Command) -> Result<Reply, AllocError>
         requires room { length self.old.history < 1000000 }
         ensures entered { IfOk result (λ reply. self.new.history ≡ self.old.history ++ Entry.Asked command.now reply ∷ []) }
@@ -184,13 +184,13 @@ impl Book {
         }
     }
 
-    /// Enters a command with its answer, a refusal too, and tells the answer alone.
+    /// Enters a command with its answer, even a refusal, and returns only the answer.
     pub fn reply_to(&mut self, command: &Command) -> Result<Reply, EnterError>
         ensures entered { IfOk result (λ reply. self.new.history ≡ self.old.history ++ Entry.Asked command.now reply ∷ []) }
         ensures reply { IfOk result (λ reply. reply ≡ answer self.old.reference self.old.history command.now) }
         ensures stands { IfOk result (λ reply. StandsLast self.old.reference (length self.old.history + 1) (Entry.Asked command.now reply)) }
 
-        // Nothing is entered in a full book, or where an allocation fails.
+        // Nothing is entered if the book is full or an allocation fails.
         ensures full { IsErrOf result EnterError.Full ↔ (1000000 ≤ length self.old.history) }
         ensures reference { self.new.reference ≡ self.old.reference }
         ensures refused { OnErr result (self.new.history ≡ self.old.history) }
@@ -201,14 +201,14 @@ impl Book {
         Ok(self.append(command)?)
     }
 
-    /// Enters a command with its answer, a refusal too.
+    /// Enters a command with its answer, even a refusal, and returns the receipt.
     pub fn enter(&mut self, command: Command) -> Result<Receipt, EnterError>
         ensures entered { IfOk result (λ r. self.new.history ≡ self.old.history ++ r.entry ∷ []) }
         ensures number { IfOk result (λ r. r.number ≡ length self.old.history + 1) }
         ensures entry { IfOk result (λ r. r.entry ≡ Entry.Asked command (answer self.old.reference self.old.history command)) }
         ensures stands { IfOk result (λ r. StandsLast self.old.reference r.number r.entry) }
 
-        // Nothing is entered in a full book, or where an allocation fails.
+        // Nothing is entered if the book is full or an allocation fails.
         ensures full { IsErrOf result EnterError.Full ↔ (1000000 ≤ length self.old.history) }
         ensures reference { self.new.reference ≡ self.old.reference }
         ensures refused { OnErr result (self.new.history ≡ self.old.history) }
@@ -220,7 +220,7 @@ impl Book {
         })
     }
 
-    /// What an account holds of an instrument: the lots long, and the lots short.
+    /// Returns the lots that an account holds in an instrument, long and short.
     pub fn position(&self, account: AccountId, symbol: Symbol) -> (u64, u64)
         ensures long { result.0 ≡ long_of self.now.history account symbol }
         ensures short { result.1 ≡ short_of self.now.history account symbol }
@@ -228,18 +228,18 @@ impl Book {
         self.totals.positions.of(account, symbol)
     }
 
-    /// The open interest of an instrument: over the accounts, what each holds long above what it holds short.
+    /// Returns the open interest of an instrument: the sum, over all accounts, of the excess of long lots over short ones.
     pub fn open_interest(&self, symbol: Symbol) -> u64
         ensures { result ≡ open_interest_of self.now symbol }
     {
-        // Shows the prover: what the types of the reference and the positions keep.
+        // Shows the prover: the rules of the reference and the positions.
         self.reference.rules();
         self.totals.positions.rules();
         self.totals.positions.open_interest(symbol)
     }
 
-    /// All that a firm's account holds: a row for each instrument of which it has lots, long or short, in the order of the reference, with
-    /// the open day. None where the account is unknown or another firm's.
+    /// Returns the positions of a firm's account: a row for each instrument in which it has lots, in the reference's order, with the open
+    /// day. None if the account is unknown or another firm's.
     pub fn positions(
         &self,
         firm: FirmId,
@@ -264,8 +264,8 @@ impl Book {
         }))
     }
 
-    /// The limits that were set in a group, as they are now: executing firms, agreements, accounts, carrying firms, guarantors,
-    /// each in the order of the reference, guarantors in that of the firms.
+    /// Returns the limits set in a group, as they are now: executing firms, agreements, accounts, carrying firms and guarantors, each in
+    /// the order of the reference, with guarantors in the order of the firms.
     pub fn limits(&self, group: &Group) -> Result<Vec<LimitRow>, AllocError>
         ensures rows { IfOk result (λ rows. rows.items ≡ limit_rows self.now group.now) }
         ensures unknown { is_group self.now.reference group.now ≡ false → IfOk result (λ rows. rows.items ≡ []) }
@@ -273,7 +273,7 @@ impl Book {
         rows_in_order(self.alloc, &self.reference, &self.totals.limits, group)
     }
 
-    /// What a firm is told of the entries from a number on, and the number after the last entry, from which to ask next.
+    /// Returns a firm's notices of the entries from a number on, and the number after the last entry, from which to ask next.
     pub fn notices(&self, firm: FirmId, from: u64) -> Result<Notices, AllocError>
         ensures next { IfOk result (λ notices. notices.next ≡ length self.now.history + 1) }
         ensures list { IfOk result (λ notices. notices.list.items ≡ notices_of self.now firm from) }
@@ -288,8 +288,8 @@ impl Book {
         Ok(Notices { next, list })
     }
 
-    /// Notes of each entry the firms that it may tell something, so that a stretch looks into no others. No answer changes; where an
-    /// allocation fails, the later entries are looked into as before.
+    /// Records, for each entry, the firms that it may notify, so that a batch skips the others. No answer changes; if an allocation fails,
+    /// the later entries are read as before.
     pub fn note_recipients(&mut self) -> Result<(), AllocError>
         ensures { self.new ≡ self.old }
     {
@@ -297,8 +297,8 @@ impl Book {
         note_recipients(&register, &self.history, &mut self.recipients)
     }
 
-    /// A stretch of what a firm is told of the entries from a number on. It looks at 1,024 entries at most, and at no further entry
-    /// once it has 1,024 notices.
+    /// Returns a batch of a firm's notices, starting at an entry's number. It covers at most 1,024 entries, and no further entry once it
+    /// has 1,024 notices.
     pub fn stretch(&self, firm: FirmId, from: u64) -> Result<Stretch, AllocError>
         ensures { IfOk result (IsStretch self.now firm from) }
     {
@@ -310,7 +310,7 @@ impl Book {
         stretch_of(self.alloc, &register, &log, &firm, from)
     }
 
-    /// Returns a set of firms that may hold each firm that the entry at a place informs, of which no set is noted.
+    /// Returns a set that may hold each firm notified of the entry at an index, for which no set is recorded.
     fn recipients_at(&self, place: usize) -> FirmFilter
         requires { place < length self.now.history }
         ensures { HoldsInformed self.now (place + 1) result }
@@ -321,8 +321,8 @@ impl Book {
         recipients_of(&register, &self.history.show(place))
     }
 
-    /// Returns a set of firms that may hold each firm that the entry of a number has a notice for, and no firm if no entry has the number.
-    /// It needs no memory. A set that was noted is read, and any other is worked out from this entry alone.
+    /// Returns a set that may hold each firm notified of the entry with a number; no firm, if no entry has the number. It allocates
+    /// nothing. A recorded set is read; any other is computed from this entry alone.
     pub fn informs(&self, number: u64) -> FirmFilter
         ensures { HoldsInformed self.now number result }
     {
@@ -340,7 +340,7 @@ impl Book {
         }
     }
 
-    /// The view of a group as the book is now: its open offers, and the room of each key that they come under.
+    /// Returns the view of a group as the book is now: its open offers, and the room of each key that applies to them.
     pub fn view(&self, group: &Group) -> Result<View, AskError>
         ensures view { IfOk result (λ view. view ≡ group_view self.now.reference self.now.history group.now) }
         ensures nested { IfOk result (λ view. IsNested view) }
@@ -359,7 +359,7 @@ impl Book {
         )?)
     }
 
-    /// Why no sweep of a view may be entered, where the book is full or the view is stale.
+    /// Returns the reason that no sweep of a view may be entered, if the book is full or the view is stale.
     fn outdated(&self, view: &View) -> Option<SeenError>
         ensures { MatchOption result
             ((length self.now.history < 1000000) × (view.now.version ≡ version_of self.now.history view.now.group))
@@ -376,7 +376,7 @@ impl Book {
         None
     }
 
-    /// Why a proposal for a view may not be committed, where it may not. It needs no memory.
+    /// Returns the reason that a proposal for a view may not be committed, if there is one. It allocates nothing.
     fn refusal(&self, view: &View) -> Option<CommitError>
         ensures { MatchOption result (IsCurrent self.now view.now) (λ why. Refuses self.now view.now why) }
     {
@@ -392,7 +392,7 @@ impl Book {
         None
     }
 
-    /// Adds the sweep that a proposal asks for, as it is kept, and moves its lots.
+    /// Adds the sweep of a proposal, in its stored form, and moves its lots.
     fn append_sweep(&mut self, proposal: &Proposal, kept: KeptSweep) -> Result<(), AllocError>
         requires current { IsCurrent self.old proposal.now.view }
         requires kept { kept ≡ sweep_of proposal.now }
@@ -401,7 +401,7 @@ impl Book {
         ensures reference { self.new.reference ≡ self.old.reference }
         ensures refused { OnErr result (self.new.history ≡ self.old.history) }
     {
-        // Shows the prover: a proposal asks for a sweep of its view.
+        // Shows the prover: a proposal's sweep is a sweep of its view.
         asks_for_a_sweep(proposal);
         let group = proposal.view().group();
         let touched = Touched::Only(group);
@@ -419,9 +419,9 @@ impl Book {
         Ok(())
     }
 
-    /// Enters the sweep of a borrowed proposal, as the history keeps it, and claims its takes, if the group is still as the proposal's
-    /// view shows it. Returns the number of the entry. The view is known to be its group's as long as their versions are equal, as that
-    /// of a look is, so it isn't compared with the book. No sweep is copied, and nothing of the proposal is dropped.
+    /// Enters the sweep of a borrowed proposal in its stored form and claims its takes, if the group is still as the proposal's view shows
+    /// it. Returns the number of the entry. The view, like that of a look, is known to be its group's as long as their versions are equal,
+    /// so it isn't compared with the book. It copies no sweep and drops no part of the proposal.
     pub fn enter_seen(&mut self, proposal: &Proposal, kept: KeptSweep) -> Result<u64, SeenError>
         requires kept { kept ≡ sweep_of proposal.now }
         requires known { is_group self.old.reference proposal.now.view.group ≡ true }
@@ -432,7 +432,7 @@ impl Book {
         ensures stands { IfOk result (λ number. StandsLast self.old.reference number (Entry.Swept (sweep_of proposal.now))) }
         ensures current { OnOk result (IsCurrent self.old proposal.now.view) }
 
-        // What each refusal says. The book is as it was.
+        // What each refusal means. The book is unchanged.
         ensures why { IfErr result (λ why. Refuses self.old proposal.now.view (commit_error_of why)) }
         ensures reference { self.new.reference ≡ self.old.reference }
         ensures refused { OnErr result (self.new.history ≡ self.old.history) }
@@ -444,7 +444,7 @@ impl Book {
         Ok(self.history.len() as u64)
     }
 
-    /// Enters the sweep that a proposal asks for, whose view is current, and hands the view back.
+    /// Enters the sweep of a proposal whose view is current, and returns the view.
     fn enter_current(
         &mut self,
         proposal: Proposal,
@@ -468,7 +468,7 @@ impl Book {
         Ok(receipt_and_view(self.history.len() as u64, proposal))
     }
 
-    /// Commits a proposal: its sweep is entered, and its takes are claimed, where the group is still as the proposal's view shows it.
+    /// Commits a proposal: enters its sweep and claims its takes, if the group is still as its view shows it. Returns the receipt.
     pub fn commit(&mut self, proposal: Proposal) -> Result<Receipt, (CommitError, Proposal)>
         ensures entered { IfOk result (λ r. self.new.history ≡ self.old.history ++ r.entry ∷ []) }
         ensures number { IfOk result (λ r. r.number ≡ length self.old.history + 1) }
@@ -476,7 +476,7 @@ impl Book {
         ensures stands { IfOk result (λ r. StandsLast self.old.reference r.number r.entry) }
         ensures current { OnOk result (IsCurrent self.old proposal.view) }
 
-        // What each refusal says. The proposal is handed back, and the book is as it was.
+        // What each refusal means. The proposal is returned, and the book is unchanged.
         ensures why { IfErr result (λ e. Refuses self.old proposal.view e.0) }
         ensures handed_back { IfErr result (λ e. e.1 ≡ proposal) }
         ensures reference { self.new.reference ≡ self.old.reference }
@@ -494,8 +494,8 @@ impl Book {
         }
     }
 
-    /// Commits a proposal whose view is known to be its group's as long as their versions are equal, as that of a look is: the view
-    /// isn't compared with the book, and is handed back beside the receipt.
+    /// Commits a proposal whose view, like that of a look, is known to be its group's as long as their versions are equal: the view isn't
+    /// compared with the book. Returns it beside the receipt.
     pub fn commit_seen(
         &mut self,
         proposal: Proposal,
@@ -510,7 +510,7 @@ impl Book {
         ensures view { IfOk result (λ r. r.1 ≡ proposal.view) }
         ensures current { OnOk result (IsCurrent self.old proposal.view) }
 
-        // What each refusal says. The proposal is handed back, and the book is as it was.
+        // What each refusal means. The proposal is returned, and the book is unchanged.
         ensures why { IfErr result (λ e. Refuses self.old proposal.view e.0) }
         ensures handed_back { IfErr result (λ e. e.1 ≡ proposal) }
         ensures reference { self.new.reference ≡ self.old.reference }
@@ -522,8 +522,7 @@ impl Book {
         self.enter_current(proposal)
     }
 
-    /// The lots that all sweeps took, over the whole history. It takes no memory, and reads each
-    /// entry.
+    /// Returns the total lots of all sweeps in the history. It allocates nothing, and reads every entry.
     pub fn lots_swept(&self) -> u64
         ensures { result ≡ lots_swept self.now.history }
     {
@@ -532,7 +531,7 @@ impl Book {
         sum_swept(&self.history)
     }
 
-    /// Returns the product group in which lots of a firm's report of this id are given up, that of its instrument, if there is such a report.
+    /// Returns the product group in which lots of a firm's report are given up, that of its instrument, if there is such a report.
     pub fn group_of_report(&self, firm: &FirmId, report: &Id) -> Option<Group>
         ensures { result ≡ option_and_then (group_of self.now.reference) (report_by (reports_of self.now.history) firm.now report.now) }
     {
@@ -540,35 +539,35 @@ impl Book {
         group_of(&self.reference, &terms)
     }
 
-    /// Returns the lots that are left of an offer, and 0 where none has the number.
+    /// Returns the lots left of an offer; 0 if there is none with this number.
     pub fn left(&self, number: OfferNo) -> u64
         ensures { result ≡ left_in (standing_of self.now.history) number }
     {
         self.totals.offers.left(number)
     }
 
-    /// The open day.
+    /// Returns the open day.
     pub fn day(&self) -> Option<Day>
         ensures { result ≡ open_day self.now.history }
     {
         self.totals.today
     }
 
-    /// All that was entered.
+    /// Returns the history.
     pub fn history(&self) -> &History
         ensures history { result.now ≡ self.now.history }
         ensures legal { IsLegal self.now.reference self.now.history }
         ensures orderly { IsOrderly self.now.history }
 
-        // Over the accounts, as many lots of each instrument are held long as short.
+        // Over all accounts, as many lots of each instrument are held long as short.
         ensures even { LongIsShort self.now }
     {
-        // Shows the prover: what the type of the reference keeps.
+        // Shows the prover: the rules of the reference.
         self.reference.rules();
         &self.history
     }
 
-    /// The reference that it was made with.
+    /// Returns the reference that it was made with.
     pub fn reference(&self) -> &Reference
         ensures { result.now ≡ self.now.reference }
     {

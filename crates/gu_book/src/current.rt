@@ -1,4 +1,4 @@
-//! Whether a view is that of its group, for which no memory is needed.
+//! Whether a view is still its group's, decided without allocating.
 
 ghost use Rattle.std.specs.Prelude.{◌≡◌, ◌↔◌, ◌++◌, ◌∷◌, IsTrue, IfSome, IsSome, List};
 ghost use Rattle.std.specs.List.{filter_map};
@@ -15,7 +15,7 @@ use gu_ref::Reference;
 use gu_terms::Group;
 use gu_view::{Room, View, ViewOffer};
 
-/// What comes after an offer, where offers begin with it.
+/// Returns the offers after the first, if they begin with this one.
 fn behind<'a>(offers: &'a [ViewOffer], first: &ViewOffer) -> Option<&'a [ViewOffer]>
     ensures begins { IfSome result (λ rest. offers.now ≡ first.now ∷ rest.now) }
     ensures exactly { (rest : List OfferOf) → offers.now ≡ first.now ∷ rest → IsSome result }
@@ -27,7 +27,7 @@ fn behind<'a>(offers: &'a [ViewOffer], first: &ViewOffer) -> Option<&'a [ViewOff
     Some(rest)
 }
 
-/// What comes after the offer of a number, where offers begin with it as a view shows it; all of them, where a view shows none.
+/// Returns the offers after the first, if that is the one that a view shows for this number; all, if a view shows none for it.
 fn behind_number<'a>(
     showing: &mut Showing<'_>,
     number: u64,
@@ -43,7 +43,7 @@ fn behind_number<'a>(
     }
 }
 
-/// Whether these offers are those of the numbers, as a view shows them.
+/// Returns whether these offers are those with these numbers, as a view shows them.
 fn shows_offers(showing: &mut Showing<'_>, numbers: &[u64], offers: &[ViewOffer]) -> bool
     ensures { IsTrue result ↔ (offers.now ≡ filter_map (shown_at showing.old.0 showing.old.1) numbers.now) }
 {
@@ -57,7 +57,7 @@ fn shows_offers(showing: &mut Showing<'_>, numbers: &[u64], offers: &[ViewOffer]
     rest.is_empty()
 }
 
-/// Whether each room is that of its key in a group.
+/// Returns whether each room is the room of its key in a group.
 fn shows_rooms(limits: &LimitTable, group: &Group, rooms: &[Room]) -> bool
     ensures { IsTrue result ↔ HasRooms limits.now group.now rooms.now }
 {
@@ -69,7 +69,7 @@ fn shows_rooms(limits: &LimitTable, group: &Group, rooms: &[Room]) -> bool
     true
 }
 
-/// Whether a view shows the open offers of its group, and each room as it is. It needs no memory.
+/// Returns whether a view shows the open offers of its group, and each room as it is now. It allocates nothing.
 pub fn shows_all(reference: &Reference, totals: &Totals, view: &View) -> bool
     ensures shown { IsTrue result ↔ ShowsAll reference.now totals.now view.now }
     ensures sound { IsView view.now }

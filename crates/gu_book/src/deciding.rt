@@ -1,4 +1,4 @@
-//! A command of each kind decides what it does.
+//! Decisions on each kind of command.
 
 ghost use Rattle.std.specs.Prelude.{◌≡◌, ◌<◌, length, IfOk};
 ghost use Rattle.gu_terms.specs.declared.command.Command.{Command as CommandOf};
@@ -13,13 +13,13 @@ use gu_terms::Refusal;
 
 /// A command of one kind.
 pub trait Decide<'a> {
-    /// What it does, where it is accepted.
+    /// Its effect, if it is accepted.
     type Does: Deed;
 
-    /// Which command it is.
+    /// The command.
     ghost command: { Self → CommandOf };
 
-    /// Decides it, where a history comes to this: what it does, or why it is refused.
+    /// Returns its effect, given the state that a history leads to, or why it is refused.
     fn decide(&'a self, reference: &Reference, totals: &Totals) -> Result<Self::Does, Refusal>
         requires numbers { length totals.now.offers < 16000000 }
         requires reports { HaveReports totals.now }

@@ -1,4 +1,4 @@
-//! What accepted commands do.
+//! Effects of accepted commands.
 
 ghost use Rattle.std.specs.Prelude.{◌≡◌, OnErr, OnOk};
 ghost use Rattle.gu_ref.specs.Tables.{Tables};
@@ -15,30 +15,30 @@ use gu_terms::{
 use gu_trades::Terms;
 use std::alloc::AllocError;
 
-/// Lots of an offer that are claimed or taken back.
+/// Lots of an offer that are claimed or moved back.
 #[derive(Clone, Copy, Debug)]
 pub struct Moved {
     pub number: OfferNo,
     pub group: Group,
-    /// The account to which it is made.
+    /// The account to which the lots are offered.
     pub account: AccountId,
-    /// The terms of the report that it gives up.
+    /// The terms of the report that the offer gives up.
     pub report: Terms,
-    /// The limits of the path of the agreement by which it was made.
+    /// The limits of the path of the agreement by which the offer was made.
     pub limits: PathLimits,
     pub lots: Lots,
 }
 
-/// A report is made on the open day.
+/// A report made on the open day.
 #[derive(Drop)]
 pub struct NewReport<'a> {
     pub report: &'a ReportSide,
     pub today: Day,
-    /// The terms of the report that waits for it, where one does.
+    /// The terms of the report that waits for it, if one does.
     pub waiting: Option<Terms>,
 }
 
-/// Lines of a report are given up.
+/// Offers made by giving up lines of a report.
 #[derive(Drop)]
 pub struct NewOffers<'a> {
     pub give_up: &'a GiveUp,
@@ -46,13 +46,13 @@ pub struct NewOffers<'a> {
     pub first: OfferNo,
 }
 
-/// An offer is claimed.
+/// A claim of an offer.
 #[derive(Drop)]
 pub struct NewClaim {
     pub claimed: Moved,
 }
 
-/// An offer is refused.
+/// A refusal of an offer.
 #[derive(Drop)]
 pub struct Closing {
     pub number: OfferNo,
@@ -60,27 +60,27 @@ pub struct Closing {
     pub lots: Lots,
 }
 
-/// What was moved of an offer today is moved back.
+/// A reversal of what was moved for an offer today.
 #[derive(Drop)]
 pub struct Reversal {
     pub reversed: Moved,
 }
 
-/// What an accepted command does, with all that was found as it was decided. Each kind has a type, so that what one kind needs is
+/// An accepted command's effect, with everything that was looked up to decide it. Each kind has its own type, so what one kind needs is
 /// never moved for another.
 pub trait Deed: Drop {
-    /// Which deed it is.
+    /// The effect, as specified.
     ghost does: { Self → DeedOf };
 
-    /// The reply to its command.
+    /// Returns the reply to its command.
     fn reply(&self) -> Reply
         ensures { result ≡ Reply.Accepted (done_by (does self.now)) };
 
-    /// The groups that it touches.
+    /// Returns the groups that the entry touches.
     fn touched(&self) -> Touched
         ensures { result ≡ touched_by (does self.now) };
 
-    /// It is done to the totals.
+    /// Applies it to the totals.
     fn take_in(&self, totals: &mut Totals) -> Result<(), AllocError>
         requires { (reference : Tables) × MayDo reference totals.old (does self.now) }
         ensures taken { OnOk result (TakesDeed totals.old totals.new (does self.now)) }
@@ -155,7 +155,7 @@ impl<'a> Deed for NewOffers<'a> {
     }
 
     fn take_in(&self, totals: &mut Totals) -> Result<(), AllocError> {
-        // Shows the prover: how many lines there may be.
+        // Shows the prover: the number of lines.
         let _ = self.give_up.lines.as_slice();
         totals.give_up(self.give_up, &self.group)
     }

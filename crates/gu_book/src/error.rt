@@ -5,7 +5,7 @@ ghost use Rattle.std.specs.Prelude.{◌≡◌};
 use std::alloc::AllocError;
 use thiserror::Error;
 
-/// Why a command was not entered. The book is as it was.
+/// The reason that a command was not entered. The book is unchanged.
 #[derive(Debug, Drop, Clone, Copy, PartialEq, Eq, Error)]
 pub enum EnterError {
     /// An allocation failed.
@@ -26,7 +26,7 @@ impl From<AllocError> for EnterError {
     }
 }
 
-/// Why a question has no answer.
+/// The reason that a query has no answer.
 #[derive(Debug, Drop, Clone, Copy, PartialEq, Eq, Error)]
 pub enum AskError {
     /// An allocation failed.
@@ -47,7 +47,7 @@ impl From<AllocError> for AskError {
     }
 }
 
-/// Why the sweep of a view that was seen was not entered. The book is as it was.
+/// The reason that the sweep of a seen view was not entered. The book is unchanged.
 #[derive(Debug, Drop, Clone, Copy, PartialEq, Eq, Error)]
 pub enum SeenError {
     /// An allocation failed.
@@ -71,7 +71,7 @@ impl From<AllocError> for SeenError {
     }
 }
 
-/// Why a sweep was not committed. The book is as it was.
+/// The reason that a sweep was not committed. The book is unchanged.
 #[derive(Debug, Drop, Clone, Copy, PartialEq, Eq, Error)]
 pub enum CommitError {
     /// An allocation failed.
@@ -83,7 +83,7 @@ pub enum CommitError {
     /// Entries have touched the group since it was seen: its version then, and its version now.
     #[error("Stale {seen} {now}")]
     Stale { seen: u64, now: u64 },
-    /// The versions are equal, and yet the view isn't the book's.
+    /// The versions are equal, but the view isn't the book's.
     #[error("Foreign")]
     Foreign,
 }

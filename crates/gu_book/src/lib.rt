@@ -1,4 +1,4 @@
-//! The book: a reference, and the history of all that was entered.
+//! The book: a reference and the history of all entries.
 #![tactic(auto)]
 
 mod answering;

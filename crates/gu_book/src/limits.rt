@@ -15,7 +15,7 @@ use std::alloc::{AllocError, Global};
 fn append_row(rows: &mut Vec<LimitRow>, row: Option<LimitRow>) -> Result<(), AllocError>
     ensures { OnOk result (rows.new.items ≡ rows.old.items ++ option_to_list row) }
 {
-    // Taken apart and made again, so that the check is told of the types within.
+    // Taken apart and rebuilt, so that the checker sees the types inside.
     if let Some(
         LimitRow {
             key,
@@ -35,7 +35,7 @@ fn append_row(rows: &mut Vec<LimitRow>, row: Option<LimitRow>) -> Result<(), All
     Ok(())
 }
 
-/// Appends the limits that were set on these keys in a group.
+/// Appends the limits set on these keys in a group.
 #[tactic(auto, using(crate::proofs::LimitLemmas::filter_map_next))]
 fn append_rows(
     rows: &mut Vec<LimitRow>,
@@ -96,7 +96,7 @@ fn guarantor_keys(alloc: Global, firms: &[FirmId]) -> Result<Vec<LimitKey>, Allo
         .collect(alloc)
 }
 
-/// Appends the limits that were set on these keys in a group, and lets the keys go.
+/// Appends the limits set on these keys in a group, and drops the keys.
 fn append_limits(
     rows: &mut Vec<LimitRow>,
     limits: &LimitTable,
@@ -110,7 +110,7 @@ fn append_limits(
     appended
 }
 
-/// Appends all limits that were set in a group.
+/// Appends all limits set in a group.
 fn append_in_order(
     rows: &mut Vec<LimitRow>,
     alloc: Global,
@@ -132,8 +132,8 @@ fn append_in_order(
     append_limits(rows, limits, group, guarantors)
 }
 
-/// The limits that were set in a group: executing firms, agreements, accounts, carrying firms, guarantors, each in the order of
-/// the reference.
+/// Returns the limits set in a group: executing firms, agreements, accounts, carrying firms and guarantors, each in the order of the
+/// reference.
 pub fn rows_in_order(
     alloc: Global,
     reference: &Reference,

@@ -1,4 +1,4 @@
-//! What an account holds, in the order of the reference.
+//! An account's positions, in the order of the reference.
 
 ghost use Rattle.std.specs.Prelude.{◌≡◌, ◌++◌, IfOk, OnOk};
 ghost use Rattle.std.specs.List.{filter_map};
@@ -13,7 +13,7 @@ use gu_ref::{Instrument, Reference};
 use gu_terms::{AccountId, FirmId, PositionRow, Symbol};
 use std::alloc::{AllocError, Global};
 
-/// Whether an account is there, and is this firm's.
+/// Returns whether an account is in the reference and is this firm's.
 pub fn is_of_firm(reference: &Reference, firm: FirmId, account: AccountId) -> bool
     ensures { result ≡ is_of_firm reference.now firm account }
 {
@@ -23,7 +23,7 @@ pub fn is_of_firm(reference: &Reference, firm: FirmId, account: AccountId) -> bo
     }
 }
 
-/// The row of an instrument, where there are any lots.
+/// Returns the row of an instrument, if there are any lots.
 fn row_of_lots(symbol: Symbol, long: u64, short: u64) -> Option<PositionRow>
     ensures { result ≡ row_of_lots symbol long short }
 {
@@ -41,7 +41,7 @@ fn row_of_lots(symbol: Symbol, long: u64, short: u64) -> Option<PositionRow>
 fn append_row(rows: &mut Vec<PositionRow>, row: Option<PositionRow>) -> Result<(), AllocError>
     ensures { OnOk result (rows.new.items ≡ rows.old.items ++ option_to_list row) }
 {
-    // Taken apart and made again, so that the check is told of the types within.
+    // Taken apart and rebuilt, so that the checker sees the types inside.
     if let Some(
         PositionRow {
             symbol,
@@ -59,7 +59,7 @@ fn append_row(rows: &mut Vec<PositionRow>, row: Option<PositionRow>) -> Result<(
     Ok(())
 }
 
-/// Appends what an account holds of these instruments.
+/// Appends an account's positions in these instruments.
 fn append_rows(
     rows: &mut Vec<PositionRow>,
     positions: &Positions,
@@ -76,7 +76,7 @@ fn append_rows(
     Ok(())
 }
 
-/// All that an account holds, in the order of the reference's instruments.
+/// Returns an account's positions, in the order of the reference's instruments.
 pub fn rows_of_account(
     alloc: Global,
     reference: &Reference,

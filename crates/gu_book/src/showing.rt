@@ -13,7 +13,7 @@ use gu_terms::{AccountId, AgreementId, FirmId, OfferNo, Path};
 use gu_view::ViewOffer;
 use std::marker::Model;
 
-/// The agreement between an executing firm and an account, and its path.
+/// An agreement between an executing firm and an account, and its path.
 #[derive(Clone, Copy)]
 pub struct Way {
     firm: FirmId,
@@ -22,8 +22,8 @@ pub struct Way {
     path: Path,
 }
 
-/// Shows open offers as a view does. The last agreement is kept with its path, since the next offer is mostly of the same one.
-/// To a contract it is the reference and the offers that it shows.
+/// Shows open offers as a view does. It keeps the last agreement with its path, since the next offer is usually under the same one. To a
+/// contract it is the reference and the offers that it shows.
 #[derive(Drop)]
 pub struct Showing<'a> {
     reference: &'a Reference,
@@ -44,7 +44,7 @@ impl<'a> Model for Showing<'a> {
     ghost invariant = { λ s. IfSome s.last (IsWay s.reference.now) };
 }
 
-/// Sees to it that the last way is the one between an executing firm and an account, or none, where they have no agreement.
+/// Makes the last way the one between this executing firm and this account, or None if they have no agreement.
 fn turn_to(reference: &Reference, last: &mut Option<Way>, firm: FirmId, account: AccountId)
     requires { IfSome last.old (IsWay reference.now) }
     ensures agreement { option_map (λ w. w.agreement) last.new ≡ agreement_between reference.now firm account }
@@ -67,7 +67,7 @@ fn turn_to(reference: &Reference, last: &mut Option<Way>, firm: FirmId, account:
 }
 
 impl<'a> Showing<'a> {
-    /// Shows the offers of these totals.
+    /// Returns a `Showing` for the offers of these totals.
     pub fn new(reference: &'a Reference, totals: &'a Totals) -> Self
         ensures { result ≡ (reference.now, totals.now.offers) }
     {
@@ -78,13 +78,12 @@ impl<'a> Showing<'a> {
         }
     }
 
-    /// The offer of a number, as a view shows it: what is left of it, its agreement and its path. It takes no memory.
+    /// Returns the offer with this number, as a view shows it: the lots left of it, its agreement and its path. It allocates nothing.
     pub fn offer(&mut self, number: u64) -> Option<ViewOffer>
         ensures shown { result ≡ shown_at self.old.0 self.old.1 number }
         ensures same { self.new ≡ self.old }
     {
-        // There are numbers for all offers, and each agreement has a path.
-        // Shows the prover: what the types of the offers and the reference keep.
+        // All offers have numbers, and each agreement has a path. Shows the prover: the rules of the offers and the reference.
         self.totals.offers.rules();
         self.reference.rules();
         let number = OfferNo::new(number)?;

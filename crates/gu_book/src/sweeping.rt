@@ -1,4 +1,4 @@
-//! Sweeps, as they are taken in.
+//! Entering sweeps.
 
 ghost use Rattle.std.specs.Prelude.{◌≡◌, ◌<◌, ◌^◌, ◌∷◌, [], IfOk, OnOk};
 ghost use Rattle.std.specs.List.{AllByRecursion};
@@ -15,8 +15,7 @@ use gu_terms::{Entry, History, KeptSweep, OfferNo, Receipt, SweepEntry, Take};
 use gu_view::{View, ViewOffer};
 use std::alloc::{AllocError, Global};
 
-/// The sweep that a proposal asks for, as a history keeps it: made before `Book::enter_seen`, which
-/// then copies none of it.
+/// Returns the stored form of a proposal's sweep. Made before `Book::enter_seen`, it saves that call from copying anything.
 pub fn kept_sweep(alloc: Global, proposal: &Proposal) -> Result<KeptSweep, AllocError>
     ensures { IfOk result (λ kept. kept ≡ sweep_of proposal.now) }
 {
@@ -30,7 +29,7 @@ pub fn kept_sweep(alloc: Global, proposal: &Proposal) -> Result<KeptSweep, Alloc
     )
 }
 
-/// The receipt for a proposal whose sweep was entered as the entry of this number, and the proposal's view. It takes no memory.
+/// Returns the receipt for a proposal whose sweep was entered with this number, and the proposal's view. It allocates nothing.
 pub fn receipt_and_view(number: u64, proposal: Proposal) -> (Receipt, View)
     ensures number { result.0.number ≡ number }
     ensures entry { result.0.entry ≡ Entry.Swept (sweep_of proposal) }
@@ -50,7 +49,7 @@ pub fn receipt_and_view(number: u64, proposal: Proposal) -> (Receipt, View)
     (receipt, view)
 }
 
-/// The receipt alone. The proposal's view is dropped here, and not where a book is held.
+/// Returns only the receipt. The proposal's view is dropped here rather than while a book is held.
 pub fn swept_receipt(number: u64, proposal: Proposal) -> Receipt
     ensures number { result.number ≡ number }
     ensures entry { result.entry ≡ Entry.Swept (sweep_of proposal) }
@@ -60,7 +59,7 @@ pub fn swept_receipt(number: u64, proposal: Proposal) -> Receipt
     receipt
 }
 
-/// The lots that all sweeps of a history took.
+/// Returns the total lots of all sweeps in a history.
 pub fn sum_swept(history: &History) -> u64
     requires { lots_swept history.now < 2 ^ 64 }
     ensures { result ≡ lots_swept history.now }
@@ -72,14 +71,14 @@ pub fn sum_swept(history: &History) -> u64
     lots
 }
 
-/// A proposal asks for a sweep of its view.
+/// Shows the prover: a proposal's sweep is a sweep of its view.
 pub fn asks_for_a_sweep(proposal: &Proposal)
     ensures { IsSweepOf proposal.now.view (sweep_of proposal.now) }
 {
     let takes = proposal.takes();
     let cut = proposal.cut();
     let _ = proposal.lots();
-    // Lists that are read are known to be in order.
+    // Reading the lists shows the prover that they are in order.
     let _ = takes.as_slice();
     let _ = cut.keys();
     let _ = cut.offers();
@@ -100,7 +99,7 @@ fn make_way(totals: &mut Totals, number: OfferNo) -> Result<(), AllocError>
     }
 }
 
-/// Makes those for each of the takes.
+/// Makes those rows for each of the takes.
 pub fn make_ways(totals: &mut Totals, takes: &[Take]) -> Result<(), AllocError>
     ensures rows { OnOk result (AllByRecursion (λ t. HasRows totals.new t.offer) takes.now) }
     ensures same { SameAnswers totals.old totals.new }
@@ -111,7 +110,7 @@ pub fn make_ways(totals: &mut Totals, takes: &[Take]) -> Result<(), AllocError>
     Ok(())
 }
 
-/// Moves the lots of one take, and charges them under the path that a view shows. It takes no memory.
+/// Moves the lots of one take, and charges them under the path that the view shows. It allocates nothing.
 fn move_take(totals: &mut Totals, view: &View, take: &Take)
     requires { (reference : Tables) × MayMove reference totals.old view.now.offers (take.now ∷ []) }
     ensures { (reference : Tables)
@@ -128,7 +127,7 @@ fn move_take(totals: &mut Totals, view: &View, take: &Take)
     totals.move_lots(take, &offer, &report);
 }
 
-/// Moves the lots of takes of a view's offers, one after another. It takes no memory.
+/// Moves the lots of takes from a view's offers, one after another. It allocates nothing.
 pub fn move_takes(totals: &mut Totals, view: &View, takes: &[Take])
     requires { (reference : Tables) × MayMove reference totals.old view.now.offers takes.now }
     ensures { (reference : Tables)

@@ -1,4 +1,4 @@
-//! What notices are written by.
+//! The data that notices are made from.
 
 ghost use Rattle.std.specs.Prelude.{◌≡◌};
 ghost use Rattle.gu_notices.specs.Registers.{register_in};
@@ -8,7 +8,7 @@ use crate::totals::Totals;
 use gu_notices::Register;
 use gu_ref::Reference;
 
-/// What notices are written by.
+/// Returns the data that notices are made from.
 pub fn register_of<'a>(reference: &'a Reference, totals: &'a Totals) -> Register<'a>
     ensures { register_in result ≡ register_kept reference.now totals.now }
 {

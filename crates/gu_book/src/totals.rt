@@ -1,4 +1,4 @@
-//! What a book keeps beside its history, so that no answer reads it.
+//! Totals that a book keeps, so that no answer reads its history.
 
 ghost use Rattle.std.specs.Prelude.{◌≡◌, ◌<◌, ◌≤◌, ◌+◌, ◌^◌, ◌++◌, ◌∷◌, [], true, false, List, Some, None, IfOk, OnOk, OnErr, length, map};
 ghost use Rattle.indexmap.specs.IndexSet.{hasher_of};
@@ -32,26 +32,26 @@ use gu_trades::{Terms, Trades};
 use indexmap::IndexSet;
 use std::alloc::{AllocError, Global};
 
-/// What a firm knows its give-up by. No two give-ups have the same.
+/// The firm and id that identify a give-up. No two give-ups have the same.
 #[derive(Clone, Copy, Debug, PartialEq, Eq, Hash)]
 pub struct GiveUpKey {
     pub firm: FirmId,
     pub id: Id,
 }
 
-/// What a history comes to.
+/// The totals that a history leads to.
 pub struct Totals {
     /// The open day.
     pub today: Option<Day>,
-    /// The reports that were taken in.
+    /// The reports that were accepted.
     pub trades: Trades,
-    /// The offers that were made, as they are now.
+    /// The offers, as they are now.
     pub offers: Offers,
     /// The give-ups that were accepted.
     pub give_ups: IndexSet<GiveUpKey, Seed>,
-    /// The limits that were set, with what is used of them today.
+    /// The limits that were set, and their use today.
     pub limits: LimitTable,
-    /// What each account holds.
+    /// Each account's positions.
     pub positions: Positions,
 }
 
@@ -74,7 +74,7 @@ impl Drop for Totals {
 }
 
 impl Totals {
-    /// The totals of an empty history; the seed is for the hash tables of ids that firms choose. What is answered doesn't depend on it.
+    /// Returns the totals of an empty history, whose tables of firm-chosen ids use `seed`. The seed affects no answer.
     pub fn seeded(alloc: Global, seed: Seed) -> Self
         ensures today { result.today ≡ None }
         ensures trades { result.trades ≡ [] }
@@ -94,7 +94,7 @@ impl Totals {
         }
     }
 
-    /// Whether the firm has given up with this id.
+    /// Returns whether the firm has given up with this id.
     pub fn has_give_up(&self, firm: &FirmId, id: &Id) -> bool
         ensures { result ≡ is_kept_give_up self.now.give_ups.keys firm.now id.now }
     {
@@ -104,7 +104,7 @@ impl Totals {
         })
     }
 
-    /// A day is opened.
+    /// Opens a day.
     pub fn open(&mut self, day: Day)
         ensures today { self.new.today ≡ Some day }
         ensures trades { self.new.trades ≡ self.old.trades }
@@ -118,7 +118,7 @@ impl Totals {
         self.limits.new_day();
     }
 
-    /// A limit is set.
+    /// Sets a limit.
     pub fn set_limit(&mut self, group: &Group, key: &LimitKey, lots: u64) -> Result<(), AllocError>
         requires { lots ≤ 1000000000 }
         ensures entries { SameEntries self.old self.new }
@@ -131,7 +131,7 @@ impl Totals {
         Ok(())
     }
 
-    /// A report is taken in on this day. Once it makes a trade with one that waits, which is of these terms, the lots of both are held.
+    /// Adds a report on this day. If it makes a trade with a waiting one, with these terms, adds the lots of both to their accounts.
     pub fn report(
         &mut self,
         report: &ReportSide,
@@ -166,7 +166,7 @@ impl Totals {
         Ok(())
     }
 
-    /// Lines of a report are given up.
+    /// Adds an offer for each line of a give-up.
     pub fn give_up(&mut self, asked: &GiveUp, group: &Group) -> Result<(), AllocError>
         requires new_id { is_kept_give_up self.old.give_ups.keys asked.now.firm asked.now.id ≡ false }
         requires numbers { length self.old.offers + length asked.now.lines ≤ 16000000 }
@@ -188,7 +188,7 @@ impl Totals {
         Ok(())
     }
 
-    /// The offer of a number, and the terms of the report that it gives up.
+    /// Returns the offer with this number, and the terms of the report that it gives up.
     pub fn given(&self, number: OfferNo) -> Option<(Offer, Terms)>
         ensures { result ≡ given_by self.now number }
     {
@@ -217,7 +217,7 @@ impl Totals {
         )
     }
 
-    /// Lots of an offer are taken: they leave the account of its report for its own. The rows are made. It takes no memory.
+    /// Moves lots of an offer from the account of its report to its own. The rows are already made. It allocates nothing.
     pub fn move_lots(&mut self, take: &Take, offer: &Offer, report: &Terms)
         requires left { take.now.lots ≤ left_in self.old.offers take.now.offer }
         requires there { take.now.lots ≤ lots_in self.old.positions report.now.side report.now.account report.now.symbol }
@@ -239,7 +239,7 @@ impl Totals {
         );
     }
 
-    /// Lots of an offer are claimed: the rows are made, and they are charged to its limits and moved.
+    /// Claims lots of an offer: makes the rows, charges the lots to its limits and moves them.
     pub fn claim(&mut self, claimed: &Moved) -> Result<(), AllocError>
         requires room { (keys : List LimitKeyOf) × MayCharge self.old.limits claimed.now.group keys claimed.now.lots claimed.now.limits }
         requires left { claimed.now.lots ≤ left_in self.old.offers claimed.now.number }
@@ -260,7 +260,7 @@ impl Totals {
         Ok(())
     }
 
-    /// Lots that were moved of an offer today are moved back.
+    /// Moves back the lots of an offer that were moved today.
     pub fn reverse(&mut self, returned: &Moved) -> Result<(), AllocError>
         requires used { (keys : List LimitKeyOf) × MayReturn self.old.limits returned.now.group keys returned.now.lots returned.now.limits }
         requires closed { left_in self.old.offers returned.now.number ≡ 0 }
@@ -312,7 +312,7 @@ fn move_over(positions: &mut Positions, claimed: &Moved, rows: &(RowNo, RowNo))
     positions.shift_between(&rows.0, &rows.1, claimed.report.side, claimed.lots.get());
 }
 
-/// Moves them back.
+/// Moves those lots back.
 fn move_back(positions: &mut Positions, returned: &Moved, rows: &(RowNo, RowNo))
     requires from { IsRowOf positions.old returned.now.report.account returned.now.report.symbol rows.now.0 }
     requires to { IsRowOf positions.old returned.now.account returned.now.report.symbol rows.now.1 }
@@ -323,7 +323,7 @@ fn move_back(positions: &mut Positions, returned: &Moved, rows: &(RowNo, RowNo))
     positions.shift_between(&rows.1, &rows.0, returned.report.side, returned.lots.get());
 }
 
-/// Holds the lots of a report at its row.
+/// Adds the lots of a report to its row.
 fn hold(positions: &mut Positions, row: &RowNo, report: &Terms)
     requires row { IsRowOf positions.old report.now.account report.now.symbol row.now }
     requires fits { lots_on positions.old report.now.side report.now.symbol + 1000000 < 2 ^ 64 }

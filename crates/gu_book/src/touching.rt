@@ -7,7 +7,7 @@ ghost use Rattle.gu_book.specs.Counted.{HasCounts, is_touched, version_in};
 use crate::versions::{Touched, Versions};
 use std::alloc::AllocError;
 
-/// Sees to it that a group that is touched alone has its count, and answers its place. No version changes.
+/// Makes sure that a group that alone is touched has a count, and returns the count's index. No version changes.
 pub fn know(versions: &mut Versions, touched: &Touched) -> Result<usize, AllocError>
     ensures known { IfOk result (λ place. HasCounts versions.new place touched.now) }
     ensures days { versions.new.days ≡ versions.old.days }
@@ -19,7 +19,7 @@ pub fn know(versions: &mut Versions, touched: &Touched) -> Result<usize, AllocEr
     }
 }
 
-/// An entry touches these groups; the count of one that is touched alone is at this place.
+/// Records that an entry touches these groups; the count of a group that alone is touched is at this index.
 pub fn touch(versions: &mut Versions, touched: &Touched, place: usize)
     requires known { HasCounts versions.old place touched.now }
     requires fits { (group : GroupOf) → version_in versions.old group + 1 < 2 ^ 64 }

@@ -14,17 +14,17 @@ use std::alloc::{AllocError, Global};
 pub enum Touched {
     /// No group.
     Nothing,
-    /// This group alone.
+    /// Only this group.
     Only(Group),
-    /// Every group, also one that the reference lacks.
+    /// Every group, even one that the reference lacks.
     Every,
 }
 
-/// How many entries touched each group. The openings of days touch all, and are counted once.
+/// The number of entries that touched each group. Openings of days touch all groups, and are counted once.
 pub struct Versions {
-    /// The days that were opened.
+    /// The number of days opened.
     pub days: u64,
-    /// The other entries that touched a group.
+    /// The number of other entries that touched each group.
     pub own: IndexMap<Group, u64>,
 }
 
@@ -38,7 +38,7 @@ impl Drop for Versions {
 impl Versions {
     ghost use Rattle.gu_book.specs.Counted.{IsCountAt, version_in};
 
-    /// No entry touched a group.
+    /// Returns counts of no entries.
     pub fn new(alloc: Global) -> Self
         ensures days { result.days ≡ 0 }
         ensures none { (group : GroupOf) → version_in result group ≡ 0 }
@@ -49,7 +49,7 @@ impl Versions {
         }
     }
 
-    /// The version of a group: how many entries touched it.
+    /// Returns the version of a group: the number of entries that touched it.
     pub fn of(&self, group: &Group) -> u64
         requires { version_in self.now group.now < 2 ^ 64 }
         ensures { result ≡ version_in self.now group.now }
@@ -57,7 +57,7 @@ impl Versions {
         self.days + self.own.get(group).copied().unwrap_or(0)
     }
 
-    /// The place of a group's count, where it has one.
+    /// Returns the index of a group's count, if it has one.
     fn place_of(&self, group: &Group) -> Option<usize>
         ensures at { IfSome result (λ place. IsCountAt self.now place group.now) }
         ensures there { is_some result ≡ is_some (get ⟦<Group as PartialEq>⟧.eq self.now.own group.now) }
@@ -66,7 +66,7 @@ impl Versions {
         Some(place)
     }
 
-    /// Sees to it that a group has its count, and answers its place. No version changes.
+    /// Makes sure that a group has a count, and returns the count's index. No version changes.
     pub fn know(&mut self, group: &Group) -> Result<usize, AllocError>
         ensures known { IfOk result (λ place. IsCountAt self.new place group.now) }
         ensures days { self.new.days ≡ self.old.days }
@@ -82,7 +82,7 @@ impl Versions {
         Ok(place)
     }
 
-    /// An entry touches a group, whose count is at this place.
+    /// Records that an entry touches a group, whose count is at this index.
     pub fn touch(&mut self, group: &Group, place: usize)
         requires known { IsCountAt self.old place group.now }
         requires fits { version_in self.old group.now + 1 < 2 ^ 64 }
@@ -96,7 +96,7 @@ impl Versions {
         *count += 1;
     }
 
-    /// An entry touches every group.
+    /// Records that an entry touches every group.
     pub fn touch_all(&mut self)
         requires { self.old.days + 1 < 2 ^ 64 }
         ensures days { self.new.days ≡ self.old.days + 1 }

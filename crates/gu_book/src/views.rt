@@ -22,7 +22,7 @@ use std::alloc::{AllocError, Global};
 fn append_offer(offers: &mut Vec<ViewOffer>, offer: Option<ViewOffer>) -> Result<(), AllocError>
     ensures { OnOk result (offers.new.items ≡ offers.old.items ++ option_to_list offer) }
 {
-    // Taken apart and made again, so that the check is told of the types within.
+    // Taken apart and rebuilt, so that the checker sees the types inside.
     if let Some(
         ViewOffer {
             number,
@@ -42,7 +42,7 @@ fn append_offer(offers: &mut Vec<ViewOffer>, offer: Option<ViewOffer>) -> Result
     Ok(())
 }
 
-/// The offers of these numbers, as a view shows them.
+/// Returns the offers with these numbers, as a view shows them.
 #[tactic(auto, using(crate::proofs::LimitLemmas::filter_map_next))]
 fn offers_of(
     alloc: Global,
@@ -60,7 +60,7 @@ fn offers_of(
     Ok(offers)
 }
 
-/// The rooms of keys in a group.
+/// Returns the rooms of these keys in a group.
 fn rooms_of(
     alloc: Global,
     limits: &LimitTable,
@@ -79,7 +79,7 @@ fn rooms_of(
     Ok(rooms)
 }
 
-/// The view of a group. It walks the group's open offers alone.
+/// Returns the view of a group. It reads only the group's open offers.
 pub fn view_of(
     alloc: Global,
     reference: &Reference,
@@ -92,7 +92,7 @@ pub fn view_of(
     ensures view { IfOk result (λ view. view ≡ view_in reference.now totals.now versions.now group.now) }
     ensures nested { IfOk result (λ view. IsNested view) }
 {
-    // Shows the prover: what the types of the reference, the offers and the limits keep.
+    // Shows the prover: the rules of the reference, the offers and the limits.
     reference.rules();
     totals.offers.rules();
     totals.limits.rules();

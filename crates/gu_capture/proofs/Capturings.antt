@@ -57,7 +57,7 @@ passes_unsent old frame fields fault read unsent = record {
   new_is = refl;
 }
 
--- a firm's report is answered, where its acknowledgement is appended
+-- a firm's report is answered, if its acknowledgement is appended
 pub acknowledged : {E : Type 0} (result : Result (Unit {0}) E) (old new : Capture) (frame : List ℕ) (fields : List TagValue) (fault : Option FieldFault) (firm : FirmId) (report : TradeCaptureReport) (before behind : List ℕ)
     → HasFields frame fields fault → is_some fault ≡ false → Says fields (inbound.TradeCaptureReport report) → IsSentBy fields firm
     → OnOk result ((text : List ℕ) × IsTextOf (acknowledgement old firm report) text × (behind ≡ before ++ text)) → OnOk result (new ≡ capture_after old (ReportSide (side_of firm report)))
@@ -98,7 +98,7 @@ is_report (inbound.AllocationReportAck m) report e = cc
 is_report (inbound.RequestForPositions m) report e = cc
 is_report (inbound.Unread code) report e = cc
 
--- the report that a message is, if it is one, is what the fields say
+-- if a message is a report, its fields say that report
 pub found_report : (fields : List TagValue) (message : Inbound) (found : Option TradeCaptureReport) → Says fields message → found ≡ report_in message
     → MatchOption found ((report : TradeCaptureReport) → Says fields (inbound.TradeCaptureReport report) → ⊥) (λ report. Says fields (inbound.TradeCaptureReport report))
 found_report fields message None says is = says_no_report fields message says (sym is)
@@ -110,7 +110,7 @@ pub said : (fields : List TagValue) (found : Option TradeCaptureReport) (report 
     → found ≡ Some report → Says fields (inbound.TradeCaptureReport report)
 said fields found report all is = rw is at all
 
--- and where none was found, none is
+-- and if none was found, none is
 pub unsaid : (fields : List TagValue) (found : Option TradeCaptureReport)
     → MatchOption found ((report : TradeCaptureReport) → Says fields (inbound.TradeCaptureReport report) → ⊥) (λ report. Says fields (inbound.TradeCaptureReport report))
     → found ≡ None → (report : TradeCaptureReport) → Says fields (inbound.TradeCaptureReport report) → ⊥

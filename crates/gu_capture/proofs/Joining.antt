@@ -98,7 +98,7 @@ turn_joined now old new brought text all =
     sym (append-nil (frames_in all.some.events)) ∙ ap (λ (es : List Event). frames_in all.some.events ++ frames_in es) (sym none) ∙ sym (frames_split now old new brought text all.some) in
     subst (λ (fs : List (List ℕ)). AnswersEach AnswersFrame old fs text new) whole (answers_frames now old new all.some.events text all.some.answered)
 
--- what a turn's bytes give: their frames, where there are bytes
+-- what a turn's bytes give: their frames, if there are bytes
 pub record Given (kept bytes : List ℕ) (frames : List (List ℕ)) (next : List ℕ) : Type 0 where
   pub turns : List (List ℕ)
   pub same : concat turns ≡ bytes
@@ -190,7 +190,7 @@ answered_all old new streams served =
       at_end = elim served.ends [ inl end ↦ end | inr done ↦ absurd (let e : false ≡ true = done in cc) ];
     }
 
--- where reading stopped, all that was read is answered
+-- if reading stopped, all that was read is answered
 pub answered_so_far : (old new : Capture) (streams : Streams) → ServedSoFar capturing old new streams → Answered old new streams
 answered_so_far old new streams served =
     let stream = streamed old served.pieces served.text served.last served.answered in

@@ -33,7 +33,7 @@ use Rattle.gu_engine.specs.declared.event.Event.TheVariants as event
 use Rattle.gu_streams.specs.Streams.{Streams}
 use Rattle.gu_streams.specs.Written.{WrotePart}
 
--- what the engine has: its book, the moment at which its messages are sent, and the number of the next one
+-- the state of the engine: its book, the moment at which its messages are sent, and the number of the next message
 pub record Capture : Type 0 where
   pub book : BookState
   pub sending_time : ℕ
@@ -54,7 +54,7 @@ pub record Reports (frame : List ℕ) (firm : FirmId) (report : TradeCaptureRepo
 abbrev pub ReportsNothing : List ℕ → Type 0
 ReportsNothing frame = (firm : FirmId) (report : TradeCaptureReport) → ¬ Reports frame firm report
 
--- the book after a command: with the command and its answer as a further entry, or as it was where it is full
+-- the book after a command: with the command and its answer as one more entry, or unchanged if it is full
 abbrev pub book_after : BookState → Command → BookState
 book_after book command =
     if nat_lt (length book.history) 1000000
@@ -118,7 +118,7 @@ pub record PassesOver (old : Capture) (frame text : List ℕ) (new : Capture) : 
 abbrev pub AnswersFrame : Capture → List ℕ → List ℕ → Capture → Type 0
 AnswersFrame old frame text new = Acknowledges old frame text new ⊎ PassesOver old frame text new
 
--- the answer to an event: to a frame; and nothing where the reader has nothing, or a turn is over
+-- the answer to an event: a frame is answered; nothing is if the reader has nothing, or a turn is over
 abbrev pub AnswersEvent : Capture → Event → List ℕ → Capture → Type 0
 AnswersEvent old (event.Frame frame) text new = AnswersFrame old frame text new
 AnswersEvent old event.Silence text new = (text ≡ []) × (new ≡ old)
@@ -167,7 +167,7 @@ pub record CapturedSoFar (reference : Tables) (day : Day) (streams : Streams) : 
   pub answered : AnswersEach AnswersFrame (capture_at_start reference day) frames text last
   pub appended : Appends streams.output_old streams.output_new text
 
--- the lines of the positions, where these are all the frames of what the reader had, and none of them before its end
+-- the lines of the positions, if these are all the frames of what the reader had, and none of them before its end
 abbrev pub MayClose : List (List ℕ) → Option (List ℕ) → List ℕ → List ℕ → Type 0
 MayClose others input lines closing = (closing ≡ []) ⊎ ((others ≡ []) × IsAtEnd input × (closing ≡ lines))
 

@@ -7,7 +7,7 @@ use Rattle.gu_rules.specs.BookState.{BookState}
 use Rattle.gu_rules.specs.Positions.{long_of, short_of}
 use Rattle.gu_text.specs.Rows.{position_text}
 
--- a position's line, or nothing where the account holds nothing of the instrument
+-- a position's line, or nothing if the account holds nothing of the instrument
 abbrev pub position_line : BookState → AccountId → Symbol → List ℕ
 position_line book account symbol =
     let long = long_of book.history account symbol in

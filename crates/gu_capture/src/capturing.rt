@@ -32,7 +32,7 @@ use std::marker::Model;
 /// The last number that a message can have.
 const LAST_NUMBER: u64 = 1_000_000_000;
 
-/// The report that a message is.
+/// Returns the report that a message is.
 fn report_in(content: Result<Inbound, Fault>) -> Option<Boxed<TradeCaptureReport>>
     ensures { (fields : List TagValue) → MatchResult content (Says fields) (IsFaultOf fields) → MatchOption result
         ((report : ReportOf) → Says fields (inbound.TradeCaptureReport report) → ⊥)
@@ -44,14 +44,14 @@ fn report_in(content: Result<Inbound, Fault>) -> Option<Boxed<TradeCaptureReport
     }
 }
 
-/// What the engine has.
+/// The state of the engine.
 #[derive(Drop)]
 pub struct Capturing {
     alloc: Global,
     book: Book,
-    /// Those of the last message, in whose room those of the next are listed.
+    /// The fields of the last message; the next message's fields reuse their memory.
     fields: Fields,
-    /// In which its messages are written, one over the other.
+    /// The buffer in which its messages are written, one after another.
     draft: Draft,
     /// When its messages are sent.
     sending_time: Stamp,
@@ -71,12 +71,12 @@ impl Model for Capturing {
 }
 
 impl Capturing {
-    /// Enters a command, and says why it isn't in the book, if it isn't.
+    /// Enters a command, and returns why it isn't in the book, if it isn't.
     fn enter(&mut self, command: &Command) -> Result<Option<Rejection>, AllocError>
         ensures rejection { IfOk result (λ rejection. rejection ≡ rejection_in self.old.book command.now) }
         ensures after { OnOk result (self.new ≡ record self.old { book = book_after self.old.book command.now }) }
 
-        // That the book is full is said to the firm, and ends nothing.
+        // A full book is reported to the firm, and ends nothing.
         ensures full { 1000000 ≤ length self.old.book.history → IsOk result }
     {
         match self.book.reply_to(command) {
@@ -86,7 +86,7 @@ impl Capturing {
         }
     }
 
-    /// Appends the message that says to a firm what became of its report.
+    /// Appends the answer to a firm's report.
     fn answer_report(
         &mut self,
         firm: &FirmId,
@@ -184,7 +184,7 @@ impl Answerer for Capturing {
     }
 }
 
-/// The engine at its start: a book in which the day is open.
+/// Returns the engine at its start: a book in which the day is open.
 fn opened(
     alloc: Global,
     reference: Reference,
@@ -219,11 +219,11 @@ pub fn capture<R: Read, W: Write>(
 ) -> Result<(), StreamError>
     ensures done { OnOk result (Captured reference day (streams_of R.remaining W.contents reads.old reads.new writer.old writer.new)) }
 
-    // Where the reader failed, or no read was left, all that was read is answered, and exactly that was written.
+    // If the reader failed, or no read was left, all that was read is answered, and exactly that was written.
     ensures stopped { IsErrOf result StreamError.Read → HasStopped reads.new }
     ensures answered { IsErrOf result StreamError.Read → CapturedSoFar reference day (streams_of R.remaining W.contents reads.old reads.new writer.old writer.new) }
 
-    // In any case, and so after each error.
+    // In any case, including after an error.
     ensures part { CapturedInPart reference day (streams_of R.remaining W.contents reads.old reads.new writer.old writer.new) }
 {
     let mut capturing = opened(alloc, reference, day, seed)?;

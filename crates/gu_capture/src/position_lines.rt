@@ -34,7 +34,7 @@ fn append_account(output: &mut Vec<u8>, book: &Book, account: &AccountId) -> Res
     Ok(())
 }
 
-/// The lines of all accounts.
+/// Returns the lines of all accounts.
 pub fn positions_text(alloc: Global, book: &Book) -> Result<Vec<u8>, AllocError>
     ensures { IfOk result (λ text. text.items ≡ positions_text book.now) }
 {

@@ -1,4 +1,4 @@
--- Each step of a desk's history keeps what is known of it.
+-- Each step of a desk's history preserves what is known of it.
 use Rattle.std.proofs.Common.{◌≡◌, ◌≢◌, ℕ, zero, suc, List, [], ◌∷◌, ◌++◌, set, true, false, true≢false, refl, sym, ap, ◌∙◌, subst, ⊎_elim, append_assoc, append-nil}
 use mathlib.Core.Option.{some, some-ne-none, some-injective}
 use mathlib.Core.List.{IsPrefix}
@@ -9,14 +9,14 @@ use Rattle.gu_terms.specs.declared.entry.Entry.{Entry}
 use Rattle.gu_desk.specs.declared.annals.Known.{Known}
 use Rattle.gu_desk.specs.Annals.{keeper, beginning, beside, Fits, Kept, Added, Compared}
 
--- a beginning of a history is one of the longer history
+-- a prefix of a history is one of a longer history
 prefix_longer : (xs ys more : List Entry) → IsPrefix xs ys → IsPrefix xs (ys ++ more)
 prefix_longer xs ys more p = (p.0 ++ more, sym (append_assoc xs p.0 more) ∙ ap (λ (w : List Entry). w ++ more) p.1)
 
 off : false ≡ true → ⊥
 off e = true≢false (sym e)
 
--- one knows something else, and the others fit as well
+-- one party's knowledge changes, and the others' still fits
 fits_set : (seat : ℕ) (log : List Entry) (views : List Known) (by : ℕ) (w : Known)
     → ((j : ℕ) (u : Known) → j ≢ by → get_elem? views j ≡ some u → Fits seat log j u)
     → Fits seat log by w
@@ -28,7 +28,7 @@ fits_set seat log views by w others mine j u e =
     (at_set views by j w u e)
 
 module _ {S : Type 0} where
-  -- the keeper alone knows something at first
+  -- at first only the keeper knows something
   pub begins : (xs : List S) (words : List ℕ) (log : List Entry) → Kept (opening words xs (keeper log))
   begins xs words log = (0, log, one)
     where
@@ -56,7 +56,7 @@ module _ {S : Type 0} where
         refl,
       )
 
-  -- the keeper compares what it has taken in
+  -- the keeper compares the front that it has taken in
   pub compares : (slots by : ℕ) (me : Me S Known)
       → Allows Kept slots by me 0 (λ n. n) (Compared me)
   compares slots by me t h size at small =
@@ -68,7 +68,7 @@ module _ {S : Type 0} where
         (refl, λ is. subst (IsPrefix me.0.front) (sym (mine.0 is).1) mine.1),
       )
 
-  -- one that knows something makes a front, which is a beginning of whatever history fits what it knows
+  -- a party makes a front, which is a prefix of any history that its knowledge fits
   makes_front : (by : ℕ) (v : Known) (front : List Entry) → ((seat : ℕ) (log : List Entry) → Fits seat log by v → IsPrefix front log)
       → Splits {S = S} Kept by v v (beginning front)
   makes_front by v front is t h at = (
@@ -80,11 +80,11 @@ module _ {S : Type 0} where
         (at_snoc (set t.views by v) (beginning front) u j e),
   )
 
-  -- the keeper makes one of the first entries
+  -- the keeper makes a front of the first entries
   pub cuts : (by : ℕ) (v : Known) (front : List Entry) → v.keeps ≡ true → IsPrefix front v.log → Splits {S = S} Kept by v v (beginning front)
   cuts by v front is p = makes_front by v front (λ seat log mine. subst (IsPrefix front) (mine.0 is).1 p)
 
-  -- the keeper makes one of all entries
+  -- the keeper makes a front of all entries
   pub tells : (by : ℕ) (v : Known) → v.keeps ≡ true → Splits {S = S} Kept by v v (beginning v.log)
   tells by v is = makes_front by v v.log (λ seat log mine. ([], append-nil v.log ∙ (mine.0 is).1))
 

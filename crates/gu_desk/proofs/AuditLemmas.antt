@@ -1,4 +1,4 @@
--- Receipts, one after another, and the numbers that they have.
+-- Receipts, one after another, and their numbers.
 use Rattle.std.proofs.Common.{◌≡◌, ◌≢◌, ℕ, suc, zero, ◌+◌, ◌-◌, ◌<◌, ◌≤◌, ◌==◌, ◌||◌, Bool, true, false, List, [], ◌∷◌, ◌++◌, length, take, Some, None, refl, sym, ap, subst, ◌∙◌, arith, append_assoc, append-nil, drop, set, length-append, length-set, ◌⊎◌, inl, inr}
 use Rattle.std.specs.Prelude.{slice_get}
 use Rattle.std.specs.List.{flat_map, list_any}
@@ -17,19 +17,19 @@ use Rattle.gu_desk.specs.declared.error.AuditFault.TheVariants.{Memory, Missing,
 use Rattle.gu_desk.specs.Audits.{has_receipt, IsNumber, IsReceiptOf, AreReceiptsOf, AreSound, IsFaultOf, IsFirstFault}
 use Rattle.gu_desk.specs.Marks.{AreMarks}
 
--- where an entry stands at a number, there is an entry of that number
+-- if an entry is at a number, there is an entry with that number
 pub entry_number : (history : List Entry) (number : ℕ) (entry : Entry) → entry_at history number ≡ Some entry → IsNumber history number
 entry_number history zero entry at = cc
 entry_number history (suc place) entry at = let within = slice_get_within history place entry at in (omega arith, omega (arith, within))
 
--- and where none stands there is none
+-- if none is, there is none
 pub no_entry : (history : List Entry) (number : ℕ) → entry_at history number ≡ None → ¬ IsNumber history number
 no_entry history zero none (low, high) = absurd (omega arith)
 no_entry [] (suc place) none (low, high) = absurd (omega arith)
 no_entry (entry ∷ history) (suc zero) none is = cc
 no_entry (entry ∷ history) (suc (suc place)) none (low, high) = no_entry history (suc place) none (omega arith, omega arith)
 
--- the list up to an item that stands at a place
+-- the list up to the item at an index
 pub take_at : {X : Type 0} (xs : List X) (k : ℕ) (x : X) → slice_get xs k ≡ Some x → take (suc k) xs ≡ take k xs ++ x ∷ []
 take_at [] k x at = cc
 take_at (y ∷ ys) zero x at = let same : y ≡ x = cc in ap (λ z. z ∷ []) same
@@ -43,20 +43,20 @@ or_true : (b : Bool) → (b || true) ≡ true
 or_true true = refl
 or_true false = refl
 
--- whether an item of a list with one more meets a test
+-- whether an item of a list with one more passes a test
 any_last : {X : Type 0} (p : X → Bool) (xs : List X) (x : X) → list_any p (xs ++ x ∷ []) ≡ (list_any p xs || p x)
 any_last p xs x = list_any-append p xs (x ∷ []) ∙ ap (λ b. list_any p xs || b) (or_false (p x))
 
--- the number of a receipt of an entry is a number of the history
+-- the number of a receipt for an entry is a number of the history
 pub receipt_number : (h : List Entry) (r : Receipt) → IsReceiptOf h r → IsNumber h r.number
 receipt_number h r stands = entry_number h r.number r.entry stands
 
--- what a mark says of a number
+-- what a mark says about a number
 pub marked_as : (rs : List Receipt) (marks : List Bool) (n : ℕ) (b : Bool)
     → slice_get marks (n - 1) ≡ Some (has_receipt rs n) → slice_get marks (n - 1) ≡ Some b → has_receipt rs n ≡ b
 marked_as rs marks n b marked is = let e = sym marked ∙ is in cc
 
--- a fault of the receipt after those that are sound is the first fault
+-- the fault of a receipt that follows sound ones is the first fault
 pub fault_first : (h : List Entry) (rs : List Receipt) (k : ℕ) (r : Receipt) (f : AuditFault)
     → AreSound h rs k → slice_get rs k ≡ Some r → IsFaultOf h (has_receipt (take k rs) r.number) r f → IsFirstFault h rs f
 fault_first h rs k r Memory sound at is = absurd is
@@ -71,7 +71,7 @@ below_or_at zero (suc k) less = inl (omega arith)
 below_or_at (suc j) zero less = absurd (omega arith)
 below_or_at (suc j) (suc k) less = elim (below_or_at j k (omega arith)) [ inl h ↦ inl (omega arith) | inr e ↦ inr (ap suc e) ]
 
--- one receipt more is sound, where it stands and its number is new
+-- one more receipt is sound, if it is for its entry and its number is new
 pub sound_more : (h : List Entry) (rs : List Receipt) (k : ℕ) (r : Receipt)
     → AreSound h rs k → slice_get rs k ≡ Some r → IsReceiptOf h r → has_receipt (take k rs) r.number ≡ false → AreSound h rs (k + 1)
 sound_more h rs k r sound at stands new j s less here =
@@ -95,7 +95,7 @@ get_set_other (y ∷ ys) zero (suc j) x apart = refl
 get_set_other (y ∷ ys) (suc i) zero x apart = refl
 get_set_other (y ∷ ys) (suc i) (suc j) x apart = get_set_other ys i j x (λ e. apart (ap suc e))
 
--- the marks with that of one receipt more
+-- the marks with that of one more receipt
 pub marked_more : (h : List Entry) (rs : List Receipt) (marks : List Bool) (k : ℕ) (r : Receipt)
     → length marks ≡ length h → slice_get rs k ≡ Some r → IsReceiptOf h r
     → ((number : ℕ) → IsNumber h number → slice_get marks (number - 1) ≡ Some (has_receipt (take k rs) number))
@@ -116,31 +116,31 @@ marked_more h rs marks k r sized at stands marked n number =
           get_set_other marks (r.number - 1) (n - 1) true apart ∙ marked n number ∙ ap Some (sym all)
     ]
 
--- an item of a list that has more after it
+-- an item of a list followed by others
 get_before : {X : Type 0} (xs ys : List X) (k : ℕ) → k < length xs → slice_get (xs ++ ys) k ≡ slice_get xs k
 get_before [] ys k less = absurd (omega arith)
 get_before (x ∷ xs) ys zero less = refl
 get_before (x ∷ xs) ys (suc k) less = get_before xs ys k (omega arith)
 
--- the item after those of a list
+-- the first item after those of a list
 get_seam : {X : Type 0} (xs : List X) (x : X) (ys : List X) → slice_get (xs ++ x ∷ ys) (length xs) ≡ Some x
 get_seam [] x ys = refl
 get_seam (y ∷ xs) x ys = get_seam xs x ys
 
--- a list around an item that stands at a place
+-- a list around the item at an index
 pub around : {X : Type 0} (xs : List X) (k : ℕ) (x : X) → slice_get xs k ≡ Some x → xs ≡ take k xs ++ x ∷ drop (suc k) xs
 around [] k x at = cc
 around (y ∷ ys) zero x at = let same : y ≡ x = cc in ap (λ z. z ∷ ys) same
 around (y ∷ ys) (suc k) x at = ap (λ zs. y ∷ zs) (around ys k x at)
 
--- receipts are sound whatever comes after them
+-- receipts are sound whatever follows them
 sound_before : (h : List Entry) (rs more : List Receipt) → AreSound h rs (length rs) → AreSound h (rs ++ more) (length rs)
 sound_before h rs more sound j r less here =
     let there : slice_get rs j ≡ Some r = sym (get_before rs more j less) ∙ here in
     let is = sound j r less there in
     (is.0, ap (λ (us : List Receipt). has_receipt us r.number) (take-append-le j rs more (omega arith)) ∙ is.1)
 
--- a fault of the receipt after those that were looked at
+-- the fault of the receipt after those looked at
 pub fault_after : (h : List Entry) (seen rest : List Receipt) (marks : List Bool) (r : Receipt) (f : AuditFault)
     → AreMarks h seen marks
     → ((earlier : Bool) → (IsNumber h r.number → slice_get marks (r.number - 1) ≡ Some earlier) → IsFaultOf h earlier r f)
@@ -152,7 +152,7 @@ fault_after h seen rest marks r f are found =
     (get_seam seen r rest)
     (subst (λ (us : List Receipt). IsFaultOf h (has_receipt us r.number) r f) (sym (take-append_seam seen (r ∷ rest))) is)
 
--- the marks with that of a receipt more
+-- the marks with that of one more receipt
 pub mark_after : (h : List Entry) (seen : List Receipt) (marks : List Bool) (r : Receipt)
     → AreMarks h seen marks → IsReceiptOf h r → slice_get marks (r.number - 1) ≡ Some false
     → AreMarks h (seen ++ r ∷ []) (set marks (r.number - 1) true)
@@ -172,12 +172,12 @@ mark_after h seen marks r are stands free =
       marked = λ n is. marked_more h (seen ++ r ∷ []) marks (length seen) r are.sized here stands marked_there n is ∙ ap (λ (us : List Receipt). Some (has_receipt us n)) whole;
     }
 
--- before any receipt was looked at
+-- before any receipt is looked at
 pub none_marked : (h : List Entry) (marks : List Bool) → length marks ≡ length h
     → ((number : ℕ) → IsNumber h number → slice_get marks (number - 1) ≡ Some false) → AreMarks h [] marks
 none_marked h marks sized marked = record { sized = sized; sound = λ j r less. absurd (omega arith); marked = marked }
 
--- the first mark that is missing is of the least number without a receipt
+-- the first missing mark is that of the lowest number without a receipt
 pub first_unmarked : (h : List Entry) (rs : List Receipt) (marks : List Bool) (n : ℕ)
     → AreMarks h rs marks → 1 ≤ n → slice_get marks (n - 1) ≡ Some false
     → ((lesser : ℕ) → 1 ≤ lesser → lesser < n → slice_get marks (lesser - 1) ≡ Some true)
@@ -193,14 +193,14 @@ first_unmarked h rs marks n are low free others =
       least = λ m above less. marked_as rs marks m true (are.marked m (above, omega arith)) (others m above less);
     }
 
--- where no mark is missing, each entry has its receipt
+-- if no mark is missing, each entry has its receipt
 pub all_marked : (h : List Entry) (rs : List Receipt) (marks : List Bool)
     → AreMarks h rs marks → ((n : ℕ) → 1 ≤ n → n ≤ length marks → slice_get marks (n - 1) ≡ Some true) → AreReceiptsOf h rs
 all_marked h rs marks are every =
     let sized = are.sized in
     record { sound = are.sound; all = λ n is. marked_as rs marks n true (are.marked n is) (every n is.0 (omega (arith, is))) }
 
--- those that were looked at, the receipt after them, and what comes then, of kept receipts with more before and after
+-- the receipts looked at, the next one, and the rest, among kept receipts with more before and after
 pub around_kept : {X : Type 0} (seen xs rest : List X) (k : ℕ) (x : X) → slice_get xs k ≡ Some x
     → seen ++ (xs ++ rest) ≡ (seen ++ take k xs) ++ x ∷ (drop (suc k) xs ++ rest)
 around_kept seen xs rest k x at =

@@ -1,4 +1,4 @@
--- Beginnings of a history.
+-- Prefixes of a history.
 use Rattle.std.proofs.Common.{◌≡◌, ℕ, suc, ◌+◌, ◌-◌, ◌<◌, ◌≤◌, List, [], ◌∷◌, ◌++◌, Some, get_or, length, take, drop, sym, ap, ◌∙◌, arith, append_assoc, length-append, take-append-drop}
 use Rattle.std.specs.Prelude.{slice_get}
 use Rattle.std.proofs.Math.Seq.{take-append_seam}
@@ -19,15 +19,15 @@ use Rattle.gu_desk.specs.Holds.{Enters, Sees}
 use Rattle.gu_desk.specs.Seats.{SeatState}
 use Rattle.gu_desk.proofs.AuditLemmas.{take_at}
 
--- the first entries are a beginning
+-- the first entries are a prefix
 pub take_begins : (n : ℕ) (history : List Entry) → IsPrefix (take n history) history
 take_begins n history = (drop n history, take-append-drop n history)
 
--- a beginning of a beginning is one
+-- a prefix of a prefix is a prefix
 pub begins_through : (first second third : List Entry) → IsPrefix first second → IsPrefix second third → IsPrefix first third
 begins_through first second third p q = (p.0 ++ q.0, sym (append_assoc first p.0 q.0) ∙ ap (λ (w : List Entry). w ++ q.0) p.1 ∙ q.1)
 
--- a beginning is the first entries
+-- a prefix is the first entries
 pub first_entries : (front history : List Entry) → IsPrefix front history → take (length front) history ≡ front
 first_entries front history p = ap (take (length front)) (sym p.1) ∙ take-append_seam front p.0
 
@@ -36,7 +36,7 @@ pub no_longer : (front history : List Entry) → IsPrefix front history → leng
 no_longer front history p =
     let size : length history ≡ length front + length p.0 = ap {A = List Entry} length (sym p.1) ∙ length-append front p.0 in omega (arith, size)
 
--- what a commit asks of a view that was seen at a beginning
+-- the requirement of a commit for a view that was seen at a prefix
 pub honest : (reference : Tables) (front history : List Entry) (view : GroupView) → IsPrefix front history → IsLegal reference history
     → view ≡ group_view reference front view.group
     → view.version ≡ version_of history view.group → view ≡ group_view reference history view.group
@@ -44,7 +44,7 @@ honest reference front history view p legal seen same =
     let version : version_of front view.group ≡ view.version = sym (ap (λ (v : GroupView). v.version) seen) in
     seen ∙ equal_views reference front history view.group p legal (version ∙ same)
 
--- what is entered from a seat once it has seen more is entered from the seat
+-- what is entered from a seat after it has seen more is entered from the seat
 pub enters_after : (reference : Tables) (old mid new : SeatState) (receipt : Receipt) → Sees reference old mid → Enters reference mid receipt new
     → Enters reference old receipt new
 enters_after reference old mid new receipt sees enters =
@@ -58,7 +58,7 @@ enters_after reference old mid new receipt sees enters =
       swept_is = enters.swept_is ∙ ap (λ (n : ℕ). n + swept_by receipt.entry) sees.swept_is;
     }
 
--- one entry more of a history after its first ones
+-- one more entry of a history after its first ones
 pub one_more : (history : List Entry) (first place : ℕ) (entry : Entry) → first ≤ place → slice_get history place ≡ Some entry
     → take (place + 1 - first) (drop first history) ≡ take (place - first) (drop first history) ++ entry ∷ []
 one_more history first place entry low at =
@@ -71,7 +71,7 @@ one_more history first place entry low at =
     let count : place + 1 - first ≡ suc (place - first) = omega arith in
     ap (λ (n : ℕ). take n (drop first history)) count ∙ take_at (drop first history) (place - first) entry found
 
--- a book of this reference and history
+-- a book with this reference and history
 pub book_is : (reference : Tables) (history : List Entry) (book : BookState) → book.reference ≡ reference → book.history ≡ history
     → book ≡ record { reference = reference; history = history }
 book_is reference history book first second = λ i. record { reference = first i; history = second i }

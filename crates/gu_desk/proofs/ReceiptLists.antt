@@ -1,4 +1,4 @@
--- Receipts by their numbers and their entries.
+-- Receipts made from their numbers and their entries.
 use Rattle.std.proofs.Common.{◌≡◌, ℕ, suc, zero, List, [], ◌∷◌, ◌++◌, length, get_or, Some, refl, ap, arith}
 use Rattle.std.specs.Prelude.{slice_get}
 use Rattle.gu_terms.specs.declared.entry.Entry.{Entry}
@@ -11,7 +11,7 @@ as_many_receipts [] entries same = refl
 as_many_receipts (n ∷ numbers) [] same = absurd (omega arith)
 as_many_receipts (n ∷ numbers) (e ∷ entries) same = ap suc (as_many_receipts numbers entries (omega arith))
 
--- one receipt more
+-- one more receipt
 pub one_receipt_more : (numbers : List ℕ) (entries : List Entry) (n : ℕ) (e : Entry) → length numbers ≡ length entries
     → receipts_of (numbers ++ n ∷ []) (entries ++ e ∷ []) ≡ receipts_of numbers entries ++ record { number = n; entry = e } ∷ []
 one_receipt_more [] [] n e same = refl
@@ -20,7 +20,7 @@ one_receipt_more (m ∷ numbers) [] n e same = absurd (omega arith)
 one_receipt_more (m ∷ numbers) (f ∷ entries) n e same =
     ap (λ (rs : List Receipt). record { number = m; entry = f } ∷ rs) (one_receipt_more numbers entries n e (omega arith))
 
--- the receipt at a place
+-- the receipt at an index
 pub receipt_at : (numbers : List ℕ) (entries : List Entry) (k : ℕ) (e : Entry) → length numbers ≡ length entries → slice_get entries k ≡ Some e
     → slice_get (receipts_of numbers entries) k ≡ Some (record { number = get_or numbers k 0; entry = e })
 receipt_at [] [] k e same at = cc

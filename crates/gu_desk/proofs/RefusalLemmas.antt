@@ -1,4 +1,4 @@
--- Refusals, by what a seat has seen then.
+-- Refusals, as a seat then sees the book.
 use Rattle.std.proofs.Common.{◌≡◌, ◌⊎◌, ◌∙◌, ℕ, ◌+◌, ◌<◌, ◌≤◌, List, [], false, length, inl, inr, refl, sym, ap, subst, arith, append-nil}
 use mathlib.Core.List.{IsPrefix}
 use Rattle.gu_terms.specs.declared.entry.Entry.{Entry}
@@ -23,7 +23,7 @@ use Rattle.gu_desk.specs.Seats.{SeatState}
 use Rattle.gu_desk.specs.Sweeps.{IsSweepRefused}
 use Rattle.gu_desk.proofs.Fronts.{begins_through, enters_after}
 
--- a refused commit, once the seat sees the whole history
+-- a refused commit, after which the seat sees the whole history
 pub commit_refused : (reference : Tables) (old new : SeatState) (history : List Entry) (view : GroupView) (why : SeenError)
     → Refuses (record { reference = reference; history = history }) view (commit_error_of why) → view ≡ group_view reference old.front view.group
     → Sees reference old new → new.front ≡ history → IsSweepRefused reference old view.group (refusal_of_second_hold why) new
@@ -39,14 +39,14 @@ commit_refused reference old new history view (second.Stale then now) is seen se
   differs = is.touched;
 }
 
--- a look that is refused
+-- a refused look
 pub look_refused : (reference : Tables) (old new : SeatState) (group : Group) (why : AskError) → (why ≡ first.UnknownGroup → is_group reference group ≡ false) → new ≡ old
     → IsSweepRefused reference old group (refusal_of_first_hold why) new
 look_refused reference old new group first.Memory unknown same = inl same
 look_refused reference old new group first.UnknownGroup unknown same = (unknown refl, inl same)
 
 module _ (reference : Tables) (old mid new : SeatState) where
-  -- a seat sees more, and more again
+  -- a seat sees more, and then more again
   pub sees_through : Sees reference old mid → Sees reference mid new → Sees reference old new
   sees_through first then = record {
     begins = begins_through old.front mid.front new.front first.begins then.begins;
@@ -68,17 +68,17 @@ module _ (reference : Tables) (old mid new : SeatState) where
   begins_after (inl same) then = subst (λ (s : SeatState). IsPrefix s.front new.front) same then
   begins_after (inr first) then = begins_through old.front mid.front new.front first.begins then
 
-  -- what is entered once a seat has looked is entered from it
+  -- what is entered after a seat has looked is entered from it
   pub enters_after_look : (receipt : Receipt) → Looks reference old mid → Enters reference mid receipt new → Enters reference old receipt new
   enters_after_look receipt (inl same) enters = subst (λ (s : SeatState). Enters reference s receipt new) same enters
   enters_after_look receipt (inr first) enters = enters_after reference old mid new receipt first enters
 
--- no entry was made by a look
+-- a look makes no entry
 pub looks_same : (reference : Tables) (old mid : SeatState) → Looks reference old mid → mid.entries ≡ old.entries
 looks_same reference old mid (inl same) = ap (λ (s : SeatState). s.entries) same
 looks_same reference old mid (inr sees) = sees.entries_is
 
--- a sweep that is refused once the seat has looked is refused to it
+-- a sweep refused after the seat has looked is refused to it
 pub refused_after : (reference : Tables) (old mid new : SeatState) (group : Group) (why : SweepError) → Looks reference old mid
     → IsSweepRefused reference mid group why new → IsSweepRefused reference old group why new
 refused_after reference old mid new group sweep.Memory looks is = looks_after reference old mid new looks is

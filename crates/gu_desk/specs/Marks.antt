@@ -1,10 +1,10 @@
--- Marks: of an audit that is under way, which entries have a receipt among those that were looked at. It is machinery.
+-- Machinery: marks in an audit: which entries have a receipt among those looked at so far.
 use Rattle.std.specs.Prelude.{◌≡◌, ℕ, ◌-◌, Bool, List, Some, length, slice_get}
 use Rattle.gu_terms.specs.declared.entry.Entry.{Entry}
 use Rattle.gu_terms.specs.declared.receipt.Receipt.{Receipt}
 use Rattle.gu_desk.specs.Audits.{has_receipt, AreSound, IsNumber}
 
--- these receipts are sound, and the marks say of each entry whether it has one of them
+-- these receipts are sound, and the marks say for each entry whether one of them is for it
 pub record AreMarks (history : List Entry) (seen : List Receipt) (marks : List Bool) : Type 0 where
   pub sized : length marks ≡ length history
   pub sound : AreSound history seen (length seen)

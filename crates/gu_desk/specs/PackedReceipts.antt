@@ -3,7 +3,7 @@ use Rattle.std.specs.Prelude.{ℕ, List, [], ◌∷◌}
 use Rattle.gu_terms.specs.declared.entry.Entry.{Entry}
 use Rattle.gu_terms.specs.declared.receipt.Receipt.{Receipt}
 
--- receipts by their numbers and their entries
+-- receipts made from their numbers and their entries
 abbrev pub receipts_of : List ℕ → List Entry → List Receipt
 receipts_of [] entries = []
 receipts_of (number ∷ numbers) [] = []

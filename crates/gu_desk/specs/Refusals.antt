@@ -1,4 +1,4 @@
--- Machinery: how a sweep is refused, by the hold of the lock that refused it.
+-- Machinery: refusals of a sweep, by the hold of the lock that refused it.
 use Rattle.gu_book.specs.declared.error.AskError.{AskError}
 use Rattle.gu_book.specs.declared.error.AskError.TheVariants as first
 use Rattle.gu_book.specs.declared.error.SeenError.{SeenError}
@@ -6,7 +6,7 @@ use Rattle.gu_book.specs.declared.error.SeenError.TheVariants as second
 use Rattle.gu_desk.specs.declared.error.SweepError.{SweepError}
 use Rattle.gu_desk.specs.declared.error.SweepError.TheVariants as sweep
 
--- the refusal of a sweep whose view was not taken
+-- the refusal of a sweep for which no view was taken
 abbrev pub refusal_of_first_hold : AskError → SweepError
 refusal_of_first_hold first.Memory = sweep.Memory
 refusal_of_first_hold first.UnknownGroup = sweep.UnknownGroup

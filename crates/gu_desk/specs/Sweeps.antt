@@ -1,4 +1,4 @@
--- Sweeps at a desk: what a receipt says of one that was committed, and what a refusal says.
+-- Sweeps at a desk: what the receipt of a committed sweep means, and what a refusal means.
 use Rattle.std.specs.Prelude.{◌≡◌, ◌≢◌, ℕ, ◌≤◌, ◌++◌, ◌∷◌, [], List, false, length}
 use mathlib.Core.List.{IsPrefix}
 use Rattle.gu_terms.specs.declared.entry.Entry.{Entry}
@@ -21,14 +21,14 @@ pub record Sweeps (group : Group) (entry : Entry) : Type 0 where
   pub entry_is : entry ≡ Swept sweep
   pub group_is : sweep.group ≡ group
 
--- the view is that of its group by a history just before its last entry
+-- the view is its group's, by this history without its last entry
 pub record IsViewBefore (reference : Tables) (history : List Entry) (view : GroupView) : Type 0 where
   pub before : List Entry
   pub last : Entry
   pub history_is : history ≡ before ++ last ∷ []
   pub view_is : view ≡ group_view reference before view.group
 
--- entries touched the group after the seat saw it: its version then, and its version as the seat sees it at last
+-- entries touched the group after the seat saw it: its version then, and its version as the seat now sees it
 pub record IsTouched (reference : Tables) (old : SeatState) (group : Group) (seen now : ℕ) (new : SeatState) : Type 0 where
   pub sees : Sees reference old new
   pub before : List Entry
@@ -38,7 +38,7 @@ pub record IsTouched (reference : Tables) (old : SeatState) (group : Group) (see
   pub now_is : now ≡ version_of new.front group
   pub differs : seen ≢ now
 
--- why a group isn't swept, as the seat sees then: the reference lacks the group, the book is full, or the group was touched; or memory failed
+-- why a group isn't swept, as the seat then sees: the group is unknown, the book is full, the group was touched; or an allocation failed
 abbrev pub IsSweepRefused : Tables → SeatState → Group → SweepError → SeatState → Type 0
 IsSweepRefused reference old group Memory new = Looks reference old new
 IsSweepRefused reference old group UnknownGroup new = (is_group reference group ≡ false) × Looks reference old new

@@ -1,4 +1,4 @@
-//! The one history of a desk, which is in the proofs alone, and beginnings of it.
+//! The one history of a desk, which exists only in the proofs, and prefixes of it.
 
 ghost use Rattle.std.specs.Prelude.{◌≡◌, ◌≤◌, ◌+◌, ◌∷◌, ◌++◌, [], length, take, IfOk};
 ghost use mathlib.Core.List.{IsPrefix};
@@ -12,15 +12,14 @@ use gu_terms::{Command, Entry, History, Reply};
 use std::alloc::{AllocError, Global};
 use std::marker::{Brand, Model, PhantomData};
 
-/// What is known of the history by one that knows something of it. The keeper knows all of it (`log`), and a front a beginning
-/// (`front`). No value of it is made.
+/// One party's knowledge of the history: the keeper knows all of it (`log`), and a front a prefix (`front`). No value of this type is made.
 pub struct Known {
     pub keeps: bool,
     pub log: History,
     pub front: History,
 }
 
-/// The rule of the history: one keeps it, and every front is a beginning of it.
+/// The rule of the history: one party keeps it, and every front is a prefix of it.
 pub struct OneHistory;
 
 impl TableRule<(), Known, Book> for OneHistory {
@@ -31,8 +30,8 @@ impl TableRule<(), Known, Book> for OneHistory {
     ghost first = { λ book. keeper book.history };
 }
 
-/// Entries that a step speaks of. A step of the table takes no ghost argument, so they come by a type parameter, whose member
-/// each call picks in its `Invariants.antt`.
+/// The entries of a step. A step of the table takes no ghost argument, so they come as a type parameter, whose member each call picks in
+/// its `Invariants.antt`.
 pub trait Spoken {
     ghost use Rattle.std.specs.Prelude.{List};
     ghost use Rattle.gu_terms.specs.declared.entry.Entry.{Entry};
@@ -46,7 +45,7 @@ impl Spoken for Brand {
     ghost entries = { [] };
 }
 
-/// The step of the keeper that adds entries.
+/// The keeper's step that adds entries.
 pub struct Adding<N: Spoken> {
     of: PhantomData<N>,
 }
@@ -57,7 +56,7 @@ impl<N: Spoken> Play<(), Known> for Adding<N> {
     ghost then = { λ step. Added N.entries };
 }
 
-/// The step of the keeper that compares a beginning with the history.
+/// The keeper's step that compares a prefix with the history.
 pub struct Comparing;
 
 impl Play<(), Known> for Comparing {
@@ -66,7 +65,7 @@ impl Play<(), Known> for Comparing {
     ghost then = { λ step. Compared };
 }
 
-/// The keeper makes a front of all that it knows, and takes one in.
+/// The keeper's step that makes a front of all that it knows, or takes one in.
 pub struct Telling;
 
 impl Split<Known> for Telling {
@@ -86,7 +85,7 @@ impl Join<Known> for Telling {
     ghost spent = { beginning [] };
 }
 
-/// A front makes another one of what it knows.
+/// A front's step that makes another front of what it knows.
 pub struct Copying;
 
 impl Split<Known> for Copying {
@@ -97,7 +96,7 @@ impl Split<Known> for Copying {
     ghost right = { λ v. beginning v.front };
 }
 
-/// The keeper makes a front of the first entries.
+/// The keeper's step that makes a front of the first entries.
 pub struct Cutting<N: Spoken> {
     of: PhantomData<N>,
 }
@@ -110,7 +109,7 @@ impl<N: Spoken> Split<Known> for Cutting<N> {
     ghost right = { λ v. beginning N.entries };
 }
 
-/// A beginning of the one history of a desk. To a contract it is the list of its entries; at run time it is how many they are.
+/// A prefix of the one history of a desk. To a contract it is the list of its entries; at run time it is their number.
 #[derive(Drop)]
 pub struct Front<E: EntryLedger> {
     seat: Seat<(), Known>,
@@ -130,7 +129,7 @@ impl<E: EntryLedger> Model for Front<E> {
 }
 
 impl<E: EntryLedger> Front<E> {
-    /// Returns how many entries it has.
+    /// Returns the number of its entries.
     pub fn count(&self) -> usize
         ensures { result ≡ length self.now }
     {
@@ -138,8 +137,8 @@ impl<E: EntryLedger> Front<E> {
     }
 }
 
-/// The keeper of the history, which knows all of it. To a contract it is the list of its entries. At run time it is one word,
-/// which is read and never written.
+/// The keeper of the history, which knows all of it. To a contract it is the list of its entries. At run time it is one word, which is read
+/// and never written.
 pub struct Annals<E: EntryLedger> {
     table: Table<(), Known, Book, OneHistory, Global>,
     keeper: Seat<(), Known>,
@@ -170,7 +169,7 @@ impl<E: EntryLedger> Model for Annals<E> {
         × (a.keeper.me.1 ≡ []) × (a.keeper.me.0.keeps ≡ true) };
 }
 
-/// A history that no desk has yet. To a contract it is its name and its entries.
+/// A history not yet opened by a desk. To a contract it is its name and its entries.
 pub struct BlankAnnals {
     table: Table<(), Known, Book, OneHistory, Global>,
     keeper: Seat<(), Known>,
@@ -197,7 +196,7 @@ impl Model for BlankAnnals {
 }
 
 impl BlankAnnals {
-    /// Creates the history of a book, for a desk that is to be opened over it.
+    /// Returns the history of a book, for a desk that is to be opened over it.
     pub fn of(alloc: Global, book: &Book) -> Result<BlankAnnals, AllocError>
         ensures { IfOk result (λ annals. annals.entries ≡ book.now.history) }
     {
@@ -220,7 +219,7 @@ impl BlankAnnals {
 }
 
 impl<E: EntryLedger> Annals<E> {
-    /// Adds the entry of a command, which is what the step speaks of.
+    /// Adds the entry of a command, which is the entry of the step.
     fn add_asked<N: Spoken>(&mut self, command: &Command, reply: &Reply)
         requires { N.entries ≡ Entry.Asked command.now reply.now ∷ [] }
         ensures { self.new ≡ self.old ++ Entry.Asked command.now reply.now ∷ [] }
@@ -232,7 +231,7 @@ impl<E: EntryLedger> Annals<E> {
         shared.load::<Adding<N>>(&mut self.keeper, 0);
     }
 
-    /// Adds the entry of a sweep, which is what the step speaks of.
+    /// Adds the entry of a sweep, which is the entry of the step.
     fn add_sweep<N: Spoken>(&mut self, proposal: &Proposal)
         requires { N.entries ≡ Entry.Swept (sweep_of proposal.now) ∷ [] }
         ensures { self.new ≡ self.old ++ Entry.Swept (sweep_of proposal.now) ∷ [] }
@@ -243,7 +242,7 @@ impl<E: EntryLedger> Annals<E> {
         shared.load::<Adding<N>>(&mut self.keeper, 0);
     }
 
-    /// Returns the first entries as a front, which are what the cut speaks of.
+    /// Returns the first entries as a front; they are the entries of the cut.
     fn cut_as<N: Spoken>(&mut self, count: usize) -> Front<E>
         requires entries { N.entries ≡ take count self.old }
         requires within { count ≤ length self.old }
@@ -269,7 +268,7 @@ impl<E: EntryLedger> Annals<E> {
         self.cut_as::<Brand>(count)
     }
 
-    /// Returns the whole history so far, which has this number of entries, as a front.
+    /// Returns the whole history so far, with this number of entries, as a front.
     pub(crate) fn front(&mut self, count: usize) -> Front<E>
         requires { count ≡ length self.old }
         ensures front { result ≡ self.old }
@@ -285,7 +284,7 @@ impl<E: EntryLedger> Annals<E> {
         }
     }
 
-    /// Takes a front in, and shows that it is a beginning of the history.
+    /// Takes a front in, and shows that it is a prefix of the history.
     fn take_in(&mut self, front: Front<E>)
         ensures begins { IsPrefix front self.old }
         ensures same { self.new ≡ self.old }
@@ -316,7 +315,7 @@ impl<E: EntryLedger> Annals<E> {
         }
     }
 
-    /// Shows that a front is a beginning of the history.
+    /// Shows that a front is a prefix of the history.
     pub(crate) fn compare(&mut self, front: &mut Front<E>)
         ensures begins { IsPrefix front.old self.old }
         ensures front { front.new ≡ front.old }
@@ -326,7 +325,7 @@ impl<E: EntryLedger> Annals<E> {
         self.take_in(copy);
     }
 
-    /// Lengthens a front to the whole history, which has this number of entries.
+    /// Extends a front to the whole history, with this number of entries.
     pub(crate) fn complete(&mut self, front: &mut Front<E>, count: usize)
         requires { count ≡ length self.old }
         ensures begins { IsPrefix front.old self.old }
@@ -337,7 +336,7 @@ impl<E: EntryLedger> Annals<E> {
         *front = self.front(count);
     }
 
-    /// Adds the entry of a command, and lengthens a front to the whole history, which then has this number of entries.
+    /// Adds the entry of a command, and extends a front to the whole history, which then has this number of entries.
     pub(crate) fn asked(
         &mut self,
         front: &mut Front<E>,
@@ -355,8 +354,7 @@ impl<E: EntryLedger> Annals<E> {
         *front = self.front(count);
     }
 
-    /// Adds the entry of the sweep that a proposal asks for, and lengthens a front to the whole history, which then has this number of
-    /// entries.
+    /// Adds the entry of a proposal's sweep, and extends a front to the whole history, which then has this number of entries.
     pub(crate) fn swept(&mut self, front: &mut Front<E>, proposal: &Proposal, count: usize)
         requires { count ≡ length self.old + 1 }
         ensures begins { IsPrefix front.old self.old }

@@ -15,7 +15,7 @@ use gu_terms::{History, Receipt};
 use std::alloc::{AllocError, Global};
 
 #[tactic(auto, using(crate::proofs::AuditLemmas::entry_number, crate::proofs::AuditLemmas::no_entry))]
-/// What is wrong with a receipt, where it is known which entries have a receipt already.
+/// Returns the fault of a receipt, if it has one, given which entries already have a receipt.
 fn fault_of(history: &History, with_receipt: &[bool], receipt: &Receipt) -> Option<AuditFault>
     requires { length with_receipt.now ≡ length history.now }
     ensures fault { IfSome result (λ fault. (has_earlier : Bool)
@@ -33,7 +33,7 @@ fn fault_of(history: &History, with_receipt: &[bool], receipt: &Receipt) -> Opti
     }
 }
 
-/// Marks the entry of a receipt, or says what is wrong with the receipt.
+/// Marks the entry of a receipt, or returns the receipt's fault.
 fn mark(
     history: &History,
     with_receipt: &mut Vec<bool>,
@@ -53,7 +53,7 @@ fn mark(
     Ok(())
 }
 
-/// Marks the entries of receipts, one after the other, up to the first that something is wrong with.
+/// Marks the entries of receipts in order, up to the first that has a fault.
 fn mark_kept(
     history: &History,
     with_receipt: &mut Vec<bool>,
@@ -76,7 +76,7 @@ fn mark_kept(
     }
 }
 
-/// The least number of an entry without a receipt.
+/// Returns the lowest number of an entry without a receipt.
 fn first_without(with_receipt: &[bool]) -> Option<u64>
     ensures some { IfSome result (λ number.
         (1 ≤ number) × (slice_get with_receipt.now (number - 1) ≡ Some false)
@@ -92,7 +92,7 @@ fn first_without(with_receipt: &[bool]) -> Option<u64>
     None
 }
 
-/// Whether each entry is marked; else the least number of one that isn't.
+/// Checks that each entry is marked, or returns the lowest number of one that isn't.
 fn end(with_receipt: &[bool]) -> Result<(), AuditFault>
     ensures ok { (history : List EntryOf) (receipts : List ReceiptOf) → AreMarks history receipts with_receipt.now
         → OnOk result (AreReceiptsOf history receipts) }
@@ -105,14 +105,14 @@ fn end(with_receipt: &[bool]) -> Result<(), AuditFault>
     }
 }
 
-/// Marks for the entries of a history, none of which has a receipt yet.
+/// Returns marks for the entries of a history, none of which has a receipt yet.
 fn no_marks(alloc: Global, history: &History) -> Result<Vec<bool>, AllocError>
     ensures { IfOk result (λ marks. AreMarks history.now [] marks.items) }
 {
     vec![in alloc; false; history.len()]
 }
 
-/// Whether the receipts are those of a book, one for each entry; else their first fault. It takes one byte an entry, and copies
+/// Checks that the receipts are those of a book, one for each entry, or returns their first fault. It takes one byte an entry, and copies
 /// no entry.
 pub fn audit(alloc: Global, book: &Book, receipts: &[Receipt]) -> Result<(), AuditFault>
     ensures ok { OnOk result (AreReceiptsOf book.now.history receipts.now) }
@@ -126,8 +126,8 @@ pub fn audit(alloc: Global, book: &Book, receipts: &[Receipt]) -> Result<(), Aud
     end(with_receipt.as_slice())
 }
 
-/// Whether the receipts of all parts are those of a book, one for each entry; else their first fault. It takes one byte an entry, and
-/// copies one entry at a time.
+/// Checks that the receipts of all parts are those of a book, one for each entry, or returns their first fault. It takes one byte an entry,
+/// and copies one entry at a time.
 pub fn audit_kept(alloc: Global, book: &Book, parts: &[KeptReceipts]) -> Result<(), AuditFault>
     ensures ok { OnOk result (AreReceiptsOf book.now.history (flat_map receipts_in parts.now)) }
     ensures fault { IfErr result (IsFirstFault book.now.history (flat_map receipts_in parts.now)) }

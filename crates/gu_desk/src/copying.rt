@@ -1,12 +1,12 @@
-//! Copies of a history's entries.
+//! Copying a history's entries.
 
 ghost use Rattle.std.specs.Prelude.{◌≡◌, ◌-◌, ◌≤◌, ◌++◌, drop, length, take, OnOk};
 
 use gu_terms::{Entry, History};
 use std::alloc::AllocError;
 
-/// Adds copies of the entries from a place on, counted from 0, up to an end, after those of a list. The place moves on past each
-/// entry that was copied, also where an allocation fails.
+/// Appends copies of the entries from an index, counted from 0, up to an end. The index advances past each copied entry, even if a later
+/// allocation fails.
 pub(crate) fn copy_entries(
     history: &History,
     place: &mut usize,

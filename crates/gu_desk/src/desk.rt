@@ -33,11 +33,11 @@ use std::marker::Model;
 use std::sync::ledger::Blank;
 use std::sync::{Mutex, MutexGuard, Wait};
 
-/// How often the lock is tried before a thread sleeps for it. The hold of a command is mostly over within these tries, and waking
-/// a thread takes longer than such a hold.
+/// The number of times that a thread tries the lock before it sleeps. A command's hold is usually over within these tries, and waking a
+/// thread takes longer than such a hold.
 const TRIES: usize = 200;
 
-/// A sweep that was committed: its receipt, firms that hold each one that it informs, and its group's view just before it.
+/// A committed sweep: its receipt, a set that holds every firm notified of it, and its group's view just before it.
 #[derive(Drop)]
 pub struct Committed {
     pub receipt: Receipt,
@@ -45,7 +45,7 @@ pub struct Committed {
     pub view: ViewToken,
 }
 
-/// Returns the receipt of a sweep that was committed.
+/// Returns the receipt of a committed sweep.
 fn receipt_of(committed: Committed) -> Receipt
     ensures { result ≡ committed.receipt }
 {
@@ -58,9 +58,9 @@ fn receipt_of(committed: Committed) -> Receipt
     receipt
 }
 
-/// A book behind a lock, for threads that each have a seat, and beside the lock a board of the views that were looked at.
-/// To a contract it is how many seats it has, and the board. The board keeps each view as long as the desk lives: one for each
-/// `look`, and one for each try of a sweep whose group is known.
+/// A book behind a lock, for threads that each have a seat, with a board of published views beside the lock. To a contract it is the number
+/// of seats and the board. The board keeps each view as long as the desk lives: one for each `look`, and one for each try of a sweep whose
+/// group is known.
 pub struct Desk<E: EntryLedger, S: LotLedger> {
     locked: Mutex<LockedBook<E, S>>,
     board: Board,
@@ -68,7 +68,7 @@ pub struct Desk<E: EntryLedger, S: LotLedger> {
     alloc: Global,
 }
 
-// By hand, so that each exit of a caller drops a desk by one call.
+// By hand, so that each exit of a caller drops a desk with one call.
 impl<E: EntryLedger, S: LotLedger> Drop for Desk<E, S> {
     fn drop(self) {
         let Desk {
@@ -94,8 +94,8 @@ impl<E: EntryLedger, S: LotLedger> Model for Desk<E, S> {
 }
 
 impl<E: EntryLedger, S: LotLedger> Desk<E, S> {
-    /// Opens a desk over a book, with its seats. The history and the blanks are those that the desk's type names, each blank of
-    /// one part more than there are seats. Each entry is read once, to note whom it informs.
+    /// Returns a desk opened over a book, with its seats. The history and the blanks are those that the desk's type names; each blank has
+    /// one part more than there are seats. Each entry is read once, to record the firms notified of it.
     pub fn new(
         alloc: Global,
         book: Book,
@@ -142,8 +142,8 @@ impl<E: EntryLedger, S: LotLedger> Desk<E, S> {
         Ok((desk, places))
     }
 
-    /// Takes the lock, which is held until what is returned is dropped. It may wait for the lock. Whoever holds it must not wait
-    /// for another thread meanwhile, nor take it again.
+    /// Takes the lock, which is held until the returned guard is dropped. It may wait for the lock. The holder must not wait for another
+    /// thread meanwhile, nor take the lock again.
     pub fn hold<R: Wait>(&self, rt: &R) -> MutexGuard<'_, LockedBook<E, S>> {
         for _ in 0..TRIES {
             if let Some(held) = self.locked.try_lock() {
@@ -154,7 +154,7 @@ impl<E: EntryLedger, S: LotLedger> Desk<E, S> {
         self.locked.lock(rt)
     }
 
-    /// Enters a command from a seat. It may wait for the lock, which it holds once; the receipt is made after the hold.
+    /// Enters a command from a seat. It may wait for the lock, which it holds once; the receipt is made afterwards.
     pub fn submit<R: Wait>(
         &self,
         rt: &R,
@@ -205,8 +205,8 @@ impl<E: EntryLedger, S: LotLedger> Desk<E, S> {
         self.hold(rt).view(seat, group)
     }
 
-    /// Looks at a group: its view is taken in one hold of the lock, and published on the desk's board after it. It may wait for
-    /// the lock and to publish.
+    /// Looks at a group: takes its view in one hold of the lock, and then publishes it on the desk's board. It may wait for the lock and to
+    /// publish.
     pub fn look<R: Wait>(
         &self,
         rt: &R,
@@ -228,7 +228,7 @@ impl<E: EntryLedger, S: LotLedger> Desk<E, S> {
         }
     }
 
-    /// The view that was published. It takes no lock and no memory, and doesn't wait.
+    /// Returns the published view. It takes no lock, allocates nothing and doesn't wait.
     pub fn read(&self, token: &ViewToken) -> &View
         requires { Shows self.now.board token.now }
         ensures { result.now ≡ token.now.value }
@@ -236,8 +236,8 @@ impl<E: EntryLedger, S: LotLedger> Desk<E, S> {
         self.board.read(token)
     }
 
-    /// Commits a proposal in one hold of the lock, for which it may wait. Returns the number of the entry, and firms that hold each one
-    /// that it informs.
+    /// Commits a proposal in one hold of the lock, for which it may wait. Returns the number of the entry, and a set that holds every firm
+    /// notified of it.
     fn commit<R: Wait>(
         &self,
         rt: &R,
@@ -260,8 +260,8 @@ impl<E: EntryLedger, S: LotLedger> Desk<E, S> {
         Ok((number, held.informs(number)))
     }
 
-    /// Sweeps the group of a view as the seat sees it: the view is published, the gate proposes from a copy of it, and the
-    /// proposal is committed. It may wait for the lock, and to publish.
+    /// Sweeps the group of a view as the seat sees it: publishes the view, has the gate propose from a copy of it, and commits the
+    /// proposal. It may wait for the lock and to publish.
     fn sweep_view<R: Wait, G: Gate>(
         &self,
         rt: &R,
@@ -297,7 +297,7 @@ impl<E: EntryLedger, S: LotLedger> Desk<E, S> {
         })
     }
 
-    /// Sweeps a group once, as `sweep_once` does, and returns what was committed.
+    /// Sweeps a group once, as `sweep_once` does, and returns the committed sweep.
     fn try_sweep<R: Wait, G: Gate>(
         &self,
         rt: &R,
@@ -322,9 +322,9 @@ impl<E: EntryLedger, S: LotLedger> Desk<E, S> {
         }
     }
 
-    /// Sweeps a group: its view is taken in one hold of the lock and published, the gate proposes from a copy of it while no lock
-    /// is held, and the proposal is committed in a second hold. It may wait for the lock, before each hold, and to publish. A
-    /// view that was published stays on the board, though the sweep is refused.
+    /// Sweeps a group: takes its view in one hold of the lock and publishes it, has the gate propose from a copy while no lock is held, and
+    /// commits the proposal in a second hold. It may wait for the lock, before each hold, and to publish. A published view stays on the
+    /// board even if the sweep is refused.
     pub fn sweep_once<R: Wait, G: Gate>(
         &self,
         rt: &R,
@@ -341,7 +341,7 @@ impl<E: EntryLedger, S: LotLedger> Desk<E, S> {
         Ok(receipt_of(self.try_sweep(rt, seat, &group, gate)?))
     }
 
-    /// Sweeps a group, and again while the answer is Stale, at most `tries` times in all, and returns what was committed. It may
+    /// Sweeps a group, trying again as long as the answer is Stale, at most `tries` times in all, and returns the committed sweep. It may
     /// wait as `sweep_once` does.
     pub fn sweep<R: Wait, G: Gate>(
         &self,
@@ -357,7 +357,7 @@ impl<E: EntryLedger, S: LotLedger> Desk<E, S> {
         ensures later { IfOk result (λ c. length E.opening + seat.old.entries < c.receipt.number) }
         ensures informs { IfOk result (λ c. HoldsInformed (book_seen E.reference seat.new) c.receipt.number c.informs) }
 
-        // The view is on this desk's board, and is that of the group by the history before the sweep.
+        // The view is on this desk's board, and is the group's by the history before the sweep.
         ensures here { IfOk result (λ c. Shows self.now.board c.view) }
         ensures before { IfOk result (λ c. IsViewBefore E.reference seat.new.front c.view.value) }
         ensures group { IfOk result (λ c. c.view.value.group ≡ group.now) }
@@ -373,7 +373,7 @@ impl<E: EntryLedger, S: LotLedger> Desk<E, S> {
         self.try_sweep(rt, seat, group, gate)
     }
 
-    /// Sweeps a group, and again while the answer is Stale, at most `tries` times in all. It may wait as `sweep_once` does.
+    /// Sweeps a group, trying again as long as the answer is Stale, at most `tries` times in all. It may wait as `sweep_once` does.
     pub fn sweep_until<R: Wait, G: Gate>(
         &self,
         rt: &R,
@@ -401,7 +401,7 @@ impl<E: EntryLedger, S: LotLedger> Desk<E, S> {
         ensures swept { IfOk result (λ book. lots_swept book.history ≡ S.opening + sum_by (λ s. s.swept) seats.items) }
         ensures reference { IfOk result (λ book. book.reference ≡ E.reference) }
 
-        // The book's history is the one that the desk began with and that each seat has seen beginnings of.
+        // The book's history begins with the desk's opening and with what each seat has seen.
         ensures opening { IfOk result (λ book. IsPrefix E.opening book.history) }
         ensures seen { IfOk result (λ book. All (λ s. IsPrefix s.front book.history) seats.items) }
         ensures missing { IsErr result ↔ (vec_len seats < self.seats) }

@@ -1,4 +1,4 @@
-//! Why a desk refused.
+//! Refusals of a desk.
 
 ghost use Rattle.std.specs.Prelude.{◌≡◌};
 
@@ -6,7 +6,7 @@ use gu_book::{AskError, SeenError};
 use std::alloc::AllocError;
 use thiserror::Error;
 
-/// Why a sweep was not entered. What it says of the book, the seat has seen.
+/// The reason that a sweep was not entered. The seat has seen what it says about the book.
 #[derive(Debug, Drop, Clone, Copy, PartialEq, Eq, Error)]
 pub enum SweepError {
     /// An allocation failed.
@@ -60,7 +60,7 @@ impl From<SeenError> for SweepError {
     }
 }
 
-/// Why a desk was not closed. The desk and the seats are handed back.
+/// The reason that a desk was not closed. The desk and the seats are returned.
 #[derive(Debug, Drop, Clone, Copy, PartialEq, Eq, Error)]
 pub enum CloseFault {
     /// A seat of the desk isn't among those handed in.
@@ -74,16 +74,16 @@ pub enum AuditFault {
     /// An allocation failed.
     #[error("Memory")]
     Memory,
-    /// The book has no entry of this number.
+    /// The book has no entry with this number.
     #[error("Missing {0}")]
     Missing(u64),
-    /// The entry of this number is another one.
+    /// The entry with this number is a different one.
     #[error("Differs {0}")]
     Differs(u64),
     /// An earlier receipt has this number.
     #[error("Twice {0}")]
     Twice(u64),
-    /// No receipt has this number, the least of those that none has.
+    /// No receipt has this number, which is the lowest of an entry without one.
     #[error("Unclaimed {0}")]
     Unclaimed(u64),
 }

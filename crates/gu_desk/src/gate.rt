@@ -1,4 +1,4 @@
-//! Gates: what proposes a desk's sweeps.
+//! Gates, which propose a desk's sweeps.
 
 ghost use Rattle.std.specs.Prelude.{◌≡◌, IfErr, IfOk};
 ghost use Rattle.gu_flow.specs.Proposals.{IsSound};
@@ -8,9 +8,9 @@ use gu_flow::{Proposal, propose};
 use gu_view::View;
 use std::alloc::{AllocError, Global};
 
-/// Proposes sweeps of views, while no lock is held. It promises what `gu_flow::propose` does.
+/// A gate proposes sweeps of views while no lock is held. It promises what `gu_flow::propose` does.
 pub trait Gate {
-    /// Proposes a greatest sweep of a nested view.
+    /// Returns the proposal of a greatest sweep of a nested view.
     fn propose(&self, alloc: Global, view: View) -> Result<Proposal, (AllocError, View)>
         requires { IsNested view }
         ensures view { IfOk result (λ proposal. proposal.view ≡ view) }
@@ -18,7 +18,7 @@ pub trait Gate {
         ensures refused { IfErr result (λ e. e.1 ≡ view) };
 }
 
-/// The gate that proposes, and does nothing else.
+/// A gate that only proposes.
 pub struct Direct;
 
 impl Gate for Direct {

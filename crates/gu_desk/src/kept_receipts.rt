@@ -1,4 +1,4 @@
-//! Receipts that are kept until an audit.
+//! Receipts kept for an audit.
 
 ghost use Rattle.std.specs.Prelude.{◌≡◌, ◌↔◌, List, [], ◌∷◌, ◌++◌, IfOk, IfSome, IsNone, OnOk};
 ghost use Rattle.gu_terms.specs.declared.receipt.Receipt.{Receipt as ReceiptOf};
@@ -7,14 +7,14 @@ use crate::packed_receipts::PackedReceipts;
 use gu_terms::Receipt;
 use std::alloc::{AllocError, Global};
 
-/// Receipts that are kept until an audit. The last one is kept as it is, and is packed with the others when room is made for the next:
-/// so a receipt for which there is room is kept without an allocation.
+/// A list of receipts kept for an audit. The last one is kept as it is, and packed with the others when room is made for the next: so
+/// adding a receipt for which there is room allocates nothing.
 pub struct KeptReceipts {
     pub(crate) earlier: PackedReceipts,
     pub(crate) last: Option<Receipt>,
 }
 
-// By hand, so that each exit of a caller drops it by one call.
+// By hand, so that each exit of a caller drops it with one call.
 impl Drop for KeptReceipts {
     fn drop(self) {
         let KeptReceipts { earlier, last } = self;
@@ -26,7 +26,7 @@ impl Drop for KeptReceipts {
 impl KeptReceipts {
     ghost use Rattle.gu_desk.specs.KeptReceipts.{receipts_in, HasRoom};
 
-    /// No receipts.
+    /// Returns an empty list.
     pub fn new(alloc: Global) -> Self
         ensures { receipts_in result ≡ [] }
     {
@@ -36,7 +36,7 @@ impl KeptReceipts {
         }
     }
 
-    /// These receipts.
+    /// Returns a list of these receipts.
     pub fn of(alloc: Global, receipts: Vec<Receipt>) -> Result<Self, AllocError>
         ensures { IfOk result (λ kept. receipts_in kept ≡ receipts.items) }
     {
@@ -48,7 +48,7 @@ impl KeptReceipts {
         Ok(kept)
     }
 
-    /// Makes room for one receipt more. The receipts stay the same.
+    /// Makes room for one more receipt. The receipts stay the same.
     pub fn reserve(&mut self) -> Result<(), AllocError>
         ensures room { OnOk result (HasRoom self.new) }
         ensures same { receipts_in self.new ≡ receipts_in self.old }
@@ -68,7 +68,7 @@ impl KeptReceipts {
         self.last = Some(receipt);
     }
 
-    /// The last receipt, where no room was made for another since.
+    /// Returns the last receipt, unless room was made for another since.
     pub fn last(&self) -> Option<&Receipt>
         ensures last { IfSome result (λ last. (earlier : List ReceiptOf) × (receipts_in self.now ≡ earlier ++ last.now ∷ [])) }
         ensures none { IsNone result ↔ HasRoom self.now }

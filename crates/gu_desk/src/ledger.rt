@@ -1,10 +1,10 @@
-//! What a desk's type names: its one history, and the ledgers of what its seats enter and sweep.
+//! The history and ledgers that a desk's type names.
 
 use std::marker::Brand;
 use std::sync::ledger::Ledger;
 
-/// The ledger of the entries that are made from a desk's seats. It names the desk's reference too, its one history, and the
-/// entries that this history has when the desk is opened.
+/// The ledger of the entries made from a desk's seats. It also names the desk's reference, its one history, and the entries that this
+/// history has when the desk is opened.
 pub trait EntryLedger: Ledger {
     ghost use Rattle.std.specs.Prelude.{List};
     ghost use Rattle.atomic_table.specs.Seated.{TableId};
@@ -31,7 +31,7 @@ impl EntryLedger for Brand {
     ghost history = { no_history };
 }
 
-/// The ledger of the lots that are swept from a desk's seats. It names how many lots the book has swept when the desk is opened.
+/// The ledger of the lots swept from a desk's seats. It names the number of lots that the book has swept when the desk is opened.
 pub trait LotLedger: Ledger {
     ghost use Rattle.std.specs.Prelude.{ℕ};
 

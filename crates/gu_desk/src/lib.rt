@@ -1,4 +1,4 @@
-//! The desk: one book behind a lock, the seats that enter into it, and the sweeps that propose without the lock.
+//! The desk: one book behind a lock, the seats that enter into it, and sweeps that are proposed without holding the lock.
 #![tactic(auto)]
 
 mod annals;

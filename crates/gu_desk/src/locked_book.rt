@@ -1,4 +1,4 @@
-//! What a desk's lock guards: the book, the keeper of its history, and the ledgers of what its seats entered and swept.
+//! The contents of a desk's lock: the book, the keeper of its history, and the ledgers of what its seats entered and swept.
 
 ghost use Rattle.std.specs.Prelude.{◌≡◌, ◌↔◌, ◌+◌, ◌<◌, ◌≤◌, ◌++◌, ◌∷◌, [], List, length, sum_by, take, vec_len, false, true, All, IfErr, IfOk, IfSome, IsErrOf, OnErr, OnOk};
 ghost use mathlib.Core.List.{IsPrefix};
@@ -29,7 +29,7 @@ use std::alloc::AllocError;
 use std::marker::Model;
 use std::sync::ledger::{Book as LedgerBook, Share};
 
-/// The number of an entry and its reply, firms that hold each one that it informs, and a stretch of notices, if one was asked for.
+/// The number of an entry and its reply, a set that holds every firm notified of it, and a batch of notices, if one was asked for.
 #[derive(Drop)]
 pub struct Entered {
     pub number: u64,
@@ -38,14 +38,14 @@ pub struct Entered {
     pub stretch: Option<Stretch>,
 }
 
-/// What a desk's lock guards, for the holder of the lock. To a contract it is the desk's one history so far.
+/// The contents of a desk's lock, for the holder of the lock. To a contract it is the desk's one history so far.
 ///
-/// Its ledgers have as totals the entries and the swept lots that came after the desk was opened. One part of each ledger stays
-/// here, so that the seats never have all of them before the desk is closed.
+/// Its ledgers total the entries made and the lots swept since the desk was opened. One part of each ledger stays here, so that the seats
+/// never have all parts before the desk is closed.
 pub struct LockedBook<E: EntryLedger, S: LotLedger> {
     book: Book,
     annals: Annals<E>,
-    /// What the desk began with.
+    /// The history that the desk was opened with.
     opening: Front<E>,
     entries: LedgerBook<E>,
     swept: LedgerBook<S>,
@@ -53,7 +53,7 @@ pub struct LockedBook<E: EntryLedger, S: LotLedger> {
     own_swept: Share<S>,
 }
 
-// By hand, so that each exit of a caller drops it by one call.
+// By hand, so that each exit of a caller drops it with one call.
 impl<E: EntryLedger, S: LotLedger> Drop for LockedBook<E, S> {
     fn drop(self) {
         let LockedBook {
@@ -84,8 +84,8 @@ impl<E: EntryLedger, S: LotLedger> Model for LockedBook<E, S> {
 
     ghost view = { λ b. b.book.history };
 
-    // The book is of the desk's reference; its history is the one that the keeper knows; it has as many entries, and as many
-    // swept lots, as the desk began with and the ledgers count.
+    // The book is for the desk's reference; its history is the one that the keeper knows; it has as many entries, and as many swept lots,
+    // as the desk was opened with plus those that the ledgers count.
     ghost invariant = { λ b. (b.book.reference ≡ E.reference) × (b.annals ≡ b.book.history) × (b.opening ≡ E.opening)
         × (length b.book.history ≡ length E.opening + b.entries.total)
         × (lots_swept b.book.history ≡ S.opening + b.swept.total)
@@ -93,7 +93,7 @@ impl<E: EntryLedger, S: LotLedger> Model for LockedBook<E, S> {
 }
 
 impl<E: EntryLedger, S: LotLedger> LockedBook<E, S> {
-    /// Creates what the lock of a desk guards over a book, beside ledgers in which nothing was counted yet.
+    /// Returns what a desk's lock guards over a book, with ledgers in which nothing is counted yet.
     pub(crate) fn opened(
         mut book: Book,
         mut annals: Annals<E>,
@@ -108,7 +108,7 @@ impl<E: EntryLedger, S: LotLedger> LockedBook<E, S> {
         requires entries { (entries.total ≡ 0) × (own.amount ≡ 0) × (own.parts ≡ 1) }
         requires swept { (swept.total ≡ 0) × (own_swept.amount ≡ 0) × (own_swept.parts ≡ 1) }
     {
-        // The opening's entries are noted before there is a lock to hold.
+        // Records the recipients of the opening's entries before there is a lock to hold.
         let _ = book.note_recipients();
         let opening = annals.front(book.history().len());
         LockedBook {
@@ -163,17 +163,17 @@ impl<E: EntryLedger, S: LotLedger> LockedBook<E, S> {
         Ok((number as u64, reply))
     }
 
-    /// Returns a stretch of what a firm is told of the entries from a number on.
+    /// Returns a batch of a firm's notices of the entries from a number on.
     fn tell(&mut self, firm: FirmId, from: u64) -> Result<Stretch, AllocError>
         ensures told { IfOk result (IsStretch (record { reference = E.reference; history = self.old }) firm from) }
         ensures same { self.new ≡ self.old }
     {
-        // Whom the entries since the last stretch inform. Where this fails, more of them are looked into.
+        // Records the recipients of the entries since the last batch. If this fails, more of them are read.
         let _ = self.book.note_recipients();
         self.book.stretch(firm, from)
     }
 
-    /// Returns the stretch that was asked for, if any was, and none where an allocation fails for it.
+    /// Returns the batch that was asked for, if any was, or None if an allocation for it fails.
     fn tell_asked(&mut self, asked: Option<(FirmId, u64)>) -> Option<Stretch>
         ensures told { IfSome result (IsStretchAsked (record { reference = E.reference; history = self.old }) asked) }
         ensures same { self.new ≡ self.old }
@@ -182,9 +182,9 @@ impl<E: EntryLedger, S: LotLedger> LockedBook<E, S> {
         self.tell(firm, from).ok()
     }
 
-    /// Enters a command from a seat. If a firm and a number are given, a stretch of what that firm is told of the entries from
-    /// that number on comes with the reply, this entry among them. The stretch may be missing, as it is if an allocation fails
-    /// for it. It looks at 1,024 entries at most, and notes whom those inform that came since any seat's last stretch.
+    /// Enters a command from a seat. If a firm and a number are given, a batch of that firm's notices of the entries from that number on,
+    /// including this one, comes with the reply. The batch may be missing, as it is if an allocation for it fails. It covers at most 1,024
+    /// entries, and recipients are recorded of the entries since any seat's last batch.
     pub fn enter(
         &mut self,
         seat: &mut Seat<E, S>,
@@ -199,7 +199,7 @@ impl<E: EntryLedger, S: LotLedger> LockedBook<E, S> {
         ensures history { IfOk result (λ e. self.new ≡ self.old ++ Entry.Asked command.now e.reply ∷ []) }
         ensures front { OnOk result (seat.new.front ≡ self.new) }
 
-        // Nothing is entered in a full book, which the seat sees then, or where an allocation fails.
+        // Nothing is entered if the book is full, which the seat then sees, or if an allocation fails.
         ensures full { IsErrOf result EnterError.Full ↔ (1000000 ≤ length self.old) }
         ensures refused { IfErr result (λ why. IsRefused E.reference seat.old why seat.new) }
         ensures same { OnErr result (self.new ≡ self.old) }
@@ -215,7 +215,7 @@ impl<E: EntryLedger, S: LotLedger> LockedBook<E, S> {
         })
     }
 
-    /// Returns a set of firms that may hold each firm that the entry of a number has a notice for. It takes no memory.
+    /// Returns a set that may hold every firm notified of the entry with a number. It allocates nothing.
     pub fn informs(&self, number: u64) -> FirmFilter
         ensures { HoldsInformed (record { reference = E.reference; history = self.now }) number result }
     {
@@ -253,8 +253,8 @@ impl<E: EntryLedger, S: LotLedger> LockedBook<E, S> {
         Ok(answer)
     }
 
-    /// Returns a stretch of what a firm is told of the entries from a number on. It looks at 1,024 entries at most, and notes
-    /// whom those inform that came since any seat's last stretch.
+    /// Returns a batch of a firm's notices of the entries from a number on. It covers at most 1,024 entries, and records the recipients of
+    /// the entries since any seat's last batch.
     pub fn stretch(
         &mut self,
         seat: &mut Seat<E, S>,
@@ -288,8 +288,8 @@ impl<E: EntryLedger, S: LotLedger> LockedBook<E, S> {
         Ok(view)
     }
 
-    /// Commits a proposal for a view as the seat sees it, and returns the number of the entry. What the history keeps of the
-    /// sweep was made before. The view isn't compared with the book: it is stale exactly if its version isn't its group's now.
+    /// Commits a proposal for a view as the seat sees it, and returns the number of the entry. The sweep's stored form was made before. The
+    /// view isn't compared with the book: it is stale if and only if its version isn't its group's version now.
     pub fn commit(
         &mut self,
         seat: &mut Seat<E, S>,
@@ -306,7 +306,7 @@ impl<E: EntryLedger, S: LotLedger> LockedBook<E, S> {
         ensures history { OnOk result (self.new ≡ self.old ++ Entry.Swept (sweep_of proposal.now) ∷ []) }
         ensures front { OnOk result (seat.new.front ≡ self.new) }
 
-        // What each refusal says, also of what the seat sees then.
+        // What each refusal means, and what the seat sees then.
         ensures why { IfErr result (λ why.
             Refuses (record { reference = E.reference; history = self.old }) proposal.now.view (commit_error_of why)) }
         ensures refused { IfErr result (λ why.
@@ -354,8 +354,8 @@ impl<E: EntryLedger, S: LotLedger> LockedBook<E, S> {
         self.show(seat);
     }
 
-    /// Appends copies of the entries after a front to a list, at most `most`, and lengthens the front by those that were copied,
-    /// also if an allocation fails. `place` is the number of entries that the front has.
+    /// Appends copies of the entries after a front to a list, at most `most`, and extends the front by those copied, even if an allocation
+    /// fails. `place` is the number of entries in the front.
     pub fn entries_from(
         &mut self,
         front: &mut Front<E>,

@@ -1,7 +1,7 @@
-//! Who made an entry, and when.
+//! The origin of an entry: who made it, and when.
 use gu_terms::{FirmId, Moment};
 
-/// A message of a firm: of which connection, and its MsgSeqNum (34).
+/// A message of a firm: its connection, and its MsgSeqNum (34).
 #[derive(Clone, Copy, Debug, PartialEq, Eq)]
 pub struct FirmMessage {
     pub firm: FirmId,
@@ -9,7 +9,7 @@ pub struct FirmMessage {
     pub number: u64,
 }
 
-/// Who made an entry, and when: a message of a firm, or else the desk's own people or sweepers.
+/// The origin of an entry: a message of a firm, or else the desk's own people or sweepers; and when it was made.
 #[derive(Clone, Copy, Debug, PartialEq, Eq)]
 pub struct Origin {
     pub moment: Moment,

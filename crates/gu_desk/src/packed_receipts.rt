@@ -1,4 +1,4 @@
-//! Receipts whose entries are packed as a history packs its own.
+//! Receipts with their entries packed as a history packs its own.
 
 ghost use Rattle.std.specs.Prelude.{◌≡◌, ◌<◌, [], ◌∷◌, ◌++◌, length, slice_get, Some, IfOk, OnErr, OnOk};
 
@@ -6,7 +6,7 @@ use gu_terms::{Entry, History, KeptSweep, Receipt};
 use std::alloc::{AllocError, Global};
 use std::marker::Model;
 
-/// Receipts, their numbers beside a history of their entries. To a contract it is their list.
+/// A list of receipts: their numbers beside a history of their entries. To a contract it is their list.
 pub(crate) struct PackedReceipts {
     numbers: Vec<u64>,
     entries: History,
@@ -25,7 +25,7 @@ impl Model for PackedReceipts {
     ghost invariant = { λ r. length r.numbers.items ≡ length r.entries };
 }
 
-// By hand, so that each exit of a caller drops it by one call.
+// By hand, so that each exit of a caller drops it with one call.
 impl Drop for PackedReceipts {
     fn drop(self) {
         let PackedReceipts {
@@ -53,7 +53,7 @@ fn push_entry(alloc: Global, entries: &mut History, entry: &Entry) -> Result<(),
 }
 
 impl PackedReceipts {
-    /// No receipts.
+    /// Returns an empty list.
     pub(crate) fn new(alloc: Global) -> Self
         ensures { result ≡ [] }
     {
@@ -65,7 +65,7 @@ impl PackedReceipts {
     }
 
     #[tactic(auto, using(crate::proofs::ReceiptLists::as_many_receipts))]
-    /// How many receipts there are.
+    /// Returns the number of receipts.
     pub(crate) fn len(&self) -> usize
         ensures { result ≡ length self.now }
     {
@@ -73,7 +73,7 @@ impl PackedReceipts {
     }
 
     #[tactic(auto, using(crate::proofs::ReceiptLists::as_many_receipts, crate::proofs::ReceiptLists::receipt_at))]
-    /// A copy of the receipt at a place, counted from 0.
+    /// Returns a copy of the receipt at an index, counted from 0.
     pub(crate) fn at(&self, place: usize) -> Result<Receipt, AllocError>
         requires { place < length self.now }
         ensures { IfOk result (λ receipt. slice_get self.now place ≡ Some receipt) }

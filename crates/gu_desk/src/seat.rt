@@ -9,8 +9,8 @@ use crate::ledger::{EntryLedger, LotLedger};
 use std::marker::Model;
 use std::sync::ledger::Share;
 
-/// A place at a desk, for one thread at a time. To a contract it is how many entries were made from it, how many lots were swept
-/// from it, and its front: the beginning of the desk's one history that it has seen. At run time it is how many entries that has.
+/// A place at a desk, for one thread at a time. To a contract it is the number of entries made from it, the number of lots swept from it,
+/// and its front: the prefix of the desk's one history that it has seen. At run time it is the number of entries in that prefix.
 #[derive(Drop)]
 pub struct Seat<E: EntryLedger, S: LotLedger> {
     pub(crate) entries: Share<E>,
@@ -30,7 +30,7 @@ impl<E: EntryLedger, S: LotLedger> Model for Seat<E, S> {
 }
 
 impl<E: EntryLedger, S: LotLedger> Seat<E, S> {
-    /// Creates a seat from which nothing was entered yet, and which has seen what the desk begins with.
+    /// Returns a seat from which nothing was entered yet, and which has seen what the desk was opened with.
     pub(crate) fn new(entries: Share<E>, swept: Share<S>, front: Front<E>) -> Self
         requires entries { (entries.parts ≡ 1) × (entries.amount ≡ 0) }
         requires swept { (swept.parts ≡ 1) × (swept.amount ≡ 0) }
@@ -44,15 +44,15 @@ impl<E: EntryLedger, S: LotLedger> Seat<E, S> {
         }
     }
 
-    /// Does nothing. It shows what each seat keeps: it has seen as many entries as the desk began with and were made from it, at
-    /// least.
+    /// Shows the prover the invariant of a seat: it has seen at least as many entries as the desk was opened with plus those made from it.
+    /// Does nothing at run time.
     pub fn rules(&self)
         ensures { length E.opening + self.now.entries ≤ length self.now.front }
     {
         let _ = &self.front;
     }
 
-    /// Returns how many entries it has seen.
+    /// Returns the number of entries that it has seen.
     pub fn seen(&self) -> u64
         ensures { result ≡ length self.now.front }
     {
@@ -60,7 +60,7 @@ impl<E: EntryLedger, S: LotLedger> Seat<E, S> {
     }
 }
 
-/// Adds the shares of seats to two shares, and shows that what each seat has seen is a beginning of the history.
+/// Adds the shares of seats to two shares, and shows that what each seat has seen is a prefix of the history.
 pub(crate) fn gather<E: EntryLedger, S: LotLedger>(
     annals: &mut Annals<E>,
     own: &mut Share<E>,

@@ -27,7 +27,7 @@ impl Model for SweepOrder {
 }
 
 impl SweepOrder {
-    /// The order of an accepted give-up, with a copy of its receipt. None of any other receipt.
+    /// Returns the order for an accepted give-up, with a copy of its receipt, or None for any other receipt.
     pub fn of(receipt: &Receipt) -> Result<Option<SweepOrder>, AllocError>
         ensures some { IfOk result (λ order. IsSome order ↔ IsSome (offered_group receipt.now.entry)) }
         ensures kept { IfOk result (λ order. IfSome order (λ o. o ≡ receipt.now)) }
@@ -39,7 +39,7 @@ impl SweepOrder {
         Ok(Some(SweepOrder { receipt, group }))
     }
 
-    /// The group in the give-up's reply.
+    /// Returns the group in the give-up's reply.
     pub fn group(&self) -> Group
         ensures { offered_group self.now.entry ≡ Some result }
     {

@@ -14,7 +14,7 @@ use Rattle.gu_engine.specs.declared.event.Event.TheVariants.{Frame, Silence, Mor
 use Rattle.gu_engine.proofs.Holding.{gives_then, wrote_after}
 use Rattle.gu_engine.proofs.InTurn.{each_one, each_then}
 
--- what some events bring, and then others
+-- the events brought by some events followed by others
 pub brought-append : (first others : List Event) → brought_in (first ++ others) ≡ brought_in first ++ brought_in others
 brought-append [] others = refl
 brought-append (Frame frame ∷ first) others = ap (λ (es : List Event). Frame frame ∷ es) (brought-append first others)
@@ -22,14 +22,14 @@ brought-append (Silence ∷ first) others = ap (λ (es : List Event). Silence �
 brought-append (More ∷ first) others = brought-append first others
 brought-append (Over ∷ first) others = ap (λ (es : List Event). Over ∷ es) (brought-append first others)
 
--- an event that isn't for more is brought
+-- an event that isn't `More` is brought
 pub brought_one : (event : Event) → is_more event ≡ false → brought_in (event ∷ []) ≡ event ∷ []
 brought_one (Frame frame) is = refl
 brought_one Silence is = refl
 brought_one More is = absurd (let e : true ≡ false = is in cc)
 brought_one Over is = refl
 
--- of nothing both parts are nothing
+-- both parts of nothing are nothing
 both_none : {X : Type 0} (first others : List X) → [] ≡ first ++ others → (first ≡ []) × (others ≡ [])
 both_none [] others none = (refl, sym none)
 both_none (x ∷ first) others none = absurd (let e : [] ≡ x ∷ (first ++ others) = none in cc)
@@ -51,11 +51,11 @@ module _ {S : Type 0} (engine : Engine S) (now : ℕ) where
     refl,
   )
 
-  -- of nothing that was brought, nothing is left
+  -- if nothing was brought, nothing is left
   pub none_other : (old new : S) (text : List ℕ) (some : AnswersSome engine now old [] text new) → (brought_in some.events ≡ []) × (some.others ≡ [])
   none_other old new text some = both_none (brought_in some.events) some.others some.split
 
-  -- some of what was brought is answered, and the last of it is being followed by what is due
+  -- some of the events brought are answered, and what is due follows the last of them
   pub some_due : (old mid new : S) (brought : List Event) (text more : List ℕ) (first : AnswersSome engine now old brought text mid) → first.others ≡ [] → AnswersSome engine now mid [] more new
       → (some : AnswersSome engine now old brought (text ++ more) new) × (some.others ≡ [])
   some_due old mid new brought text more first none then =
@@ -73,7 +73,7 @@ module _ {S : Type 0} (engine : Engine S) (now : ℕ) where
         refl,
       )
 
-  -- one part more of what is due
+  -- one more part of what is due
   pub due_more : (old mid new : S) (text more : List ℕ) → AnswersSome engine now old [] text mid → Answers engine now mid More more new → AnswersSome engine now old [] (text ++ more) new
   due_more old mid new text more first step = (some_due old mid new [] text more first (none_other old mid text first).1 (some_one mid new More more step)).0
 
@@ -86,7 +86,7 @@ module _ {S : Type 0} (engine : Engine S) (now : ℕ) where
   part_one old new event text held mid o p step is part =
       record { text = text; new = new; answered = some_one old new event text step; wrote = subst (λ (t : List ℕ). WrotePart t o p) is part }
 
-  -- some of what was brought is some of more
+  -- some of the events brought are some of more events
   pub some_more : (old new : S) (brought more : List Event) (text : List ℕ) → AnswersSome engine now old brought text new → AnswersSome engine now old (brought ++ more) text new
   some_more old new brought more text some = record {
     events = some.events;
@@ -95,11 +95,11 @@ module _ {S : Type 0} (engine : Engine S) (now : ℕ) where
     answered = some.answered;
   }
 
-  -- and so of what was written
+  -- the same for what was written
   pub part_more : (old : S) (brought more : List Event) (held : List ℕ) (o p : Option (List ℕ)) → GivesPart engine now old brought held o p → GivesPart engine now old (brought ++ more) held o p
   part_more old brought more held o p part = record { text = part.text; new = part.new; answered = some_more old part.new brought more part.text part.answered; wrote = part.wrote }
 
-  -- an event is answered, and a prefix of what is due then was written
+  -- an event is answered, and a prefix of what is then due was written
   pub part_due : (old mid : S) (event : Event) (text held kept : List ℕ) (o p q : Option (List ℕ)) → is_more event ≡ false → Answers engine now old event text mid → Gives text held kept o p
       → GivesPart engine now mid [] kept p q → GivesPart engine now old (event ∷ []) held o q
   part_due old mid event text held kept o p q is step gives part =
@@ -125,7 +125,7 @@ module _ {S : Type 0} (engine : Engine S) (now : ℕ) where
       → GivesAnswers engine now old [] new held kept o p
   due_gives old new text held kept o p some gives ends = record { text = text; some = some; none = (none_other old new text some).1; gave = gives; ends = ends }
 
-  -- an event is answered, and what is due then was given
+  -- an event is answered, and what is then due was given
   pub event_gives : (old mid new : S) (event : Event) (text held kept next : List ℕ) (o p q : Option (List ℕ)) → is_more event ≡ false → Answers engine now old event text mid → Gives text held kept o p
       → GivesAnswers engine now mid [] new kept next p q → GivesAnswers engine now old (event ∷ []) new held next o q
   event_gives old mid new event text held kept next o p q is step gives due =
@@ -133,12 +133,12 @@ module _ {S : Type 0} (engine : Engine S) (now : ℕ) where
       let both = some_due old mid new (event ∷ []) text due.text one.0 one.1 due.some in
       record { text = text ++ due.text; some = both.0; none = both.1; gave = gives_then text due.text held kept next o p q gives due.gave; ends = due.ends }
 
-  -- what is due from before comes first
+  -- what was already due comes first
   pub some_begin : (old mid : S) (brought : List Event) (text : List ℕ) → AnswersSome engine now old [] text mid → (some : AnswersSome engine now old brought text mid) × (some.others ≡ brought)
   some_begin old mid brought text due =
       (record { events = due.events; others = brought; split = ap (λ (es : List Event). es ++ brought) (sym (none_other old mid text due).0); answered = due.answered }, refl)
 
-  -- and then some of what wasn't answered yet
+  -- then some of what wasn't answered yet
   some_next : (old mid new : S) (brought next others : List Event) (text more : List ℕ) (first : AnswersSome engine now old brought text mid) → first.others ≡ next ++ others
       → (then : AnswersSome engine now mid next more new) → (some : AnswersSome engine now old brought (text ++ more) new) × (some.others ≡ then.others ++ others)
   some_next old mid new brought next others text more first left then = (
@@ -173,7 +173,7 @@ module _ {S : Type 0} (engine : Engine S) (now : ℕ) where
     wrote = wrote_after text part.text held kept o p q gives part.wrote;
   }
 
-  -- some of what was brought is answered, and a prefix of what is held was written
+  -- some of the events brought are answered, and a prefix of what is held was written
   pub part_some : (old mid : S) (brought : List Event) (text held kept : List ℕ) (o p q : Option (List ℕ)) → AnswersSome engine now old brought text mid → Gives text held kept o p → WrotePart kept p q
       → GivesPart engine now old brought held o q
   part_some old mid brought text held kept o p q some gives part = record {
@@ -191,14 +191,14 @@ SoFar engine now old new before after o p = (kept : List ℕ) (brought : List Ev
     → (text : List ℕ) × (some : AnswersSome engine now old brought text new) × IsLeft after.left after.intake kept (Some some.others)
     × Gives text before.held.bytes.items after.held.bytes.items o p
 
--- nothing is due, where so little is held and something is left to be done
+-- nothing is due, if few enough bytes are held and something is left to do
 pub idle_now : {S : Type 0} (engine : Engine S) (state : S) (held : List ℕ) → IsReady engine state ⊎ (65536 < length held) → engine.is_done state ≡ false → length held ≤ 65536 → engine.is_due state ≡ false
 idle_now engine state held (inl (inl idle)) goes_on few = idle
 idle_now engine state held (inl (inr done)) goes_on few = absurd (let e : true ≡ false = sym done ∙ goes_on in cc)
 idle_now engine state held (inr full) goes_on few = absurd (omega arith)
 
 module _ {S O : Type 0} (engine : Engine S) (now : ℕ) (old : S) (before : Backlog O) (o : Option (List ℕ)) where
-  -- at first only what is due was given
+  -- initially only what is due was given
   pub so_far_begins : (mid : S) (after : Backlog O) (p : Option (List ℕ)) → GivesAnswers engine now old [] mid before.held.bytes.items after.held.bytes.items o p → after.left ≡ before.left
       → after.intake ≡ before.intake → SoFar engine now old mid before after o p
   so_far_begins mid after p due same_left same_intake kept brought is =
@@ -210,7 +210,7 @@ module _ {S O : Type 0} (engine : Engine S) (now : ℕ) (old : S) (before : Back
         due.gave,
       )
 
-  -- one event more
+  -- one more event
   pub so_far_more : (mid new : S) (run taken after : Backlog O) (event : Event) (p q : Option (List ℕ)) → SoFar engine now old mid before run o p → TakesEvent run event taken
       → GivesAnswers engine now mid (event ∷ []) new run.held.bytes.items after.held.bytes.items p q → after.left ≡ taken.left → after.intake ≡ taken.intake → SoFar engine now old new before after o q
   so_far_more mid new run taken after event p q so_far takes step same_left same_intake kept brought is =
@@ -224,13 +224,13 @@ module _ {S O : Type 0} (engine : Engine S) (now : ℕ) (old : S) (before : Back
         gives_then text step.text before.held.bytes.items run.held.bytes.items after.held.bytes.items o p q gives step.gave,
       )
 
-  -- an event can't be taken, and nothing more was written
+  -- no event can be taken, and nothing more was written
   pub so_far_fails : (mid : S) (run : Backlog O) (p : Option (List ℕ)) → SoFar engine now old mid before run o p → AnswersPartOfIt engine now old before o p
   so_far_fails mid run p so_far kept brought is =
       let (text, some, lies, gives) = so_far kept brought is in
       part_some engine now old mid brought text before.held.bytes.items run.held.bytes.items o p p some gives (wrote_none run.held.bytes.items p)
 
-  -- a prefix of the answers to one event more was written
+  -- a prefix of the answers to one more event was written
   pub so_far_part : (mid : S) (run taken : Backlog O) (event : Event) (p q : Option (List ℕ)) → SoFar engine now old mid before run o p → TakesEvent run event taken
       → GivesPart engine now mid (event ∷ []) run.held.bytes.items p q → AnswersPartOfIt engine now old before o q
   so_far_part mid run taken event p q so_far takes part kept brought is =
@@ -254,13 +254,13 @@ module _ {S O : Type 0} (engine : Engine S) (now : ℕ) (old : S) (before : Back
         cut = inl refl;
       }
 
-  -- the others are left, since so much is held or nothing is left to be done
+  -- the others are left, because too much is held or nothing is left to do
   pub so_far_cut : (mid : S) (run : Backlog O) (p : Option (List ℕ)) → SoFar engine now old mid before run o p → (engine.is_done mid ≡ true) ⊎ (65536 < length run.held.bytes.items)
       → AnswersWhatIsLeft engine now old before mid run o p
   so_far_cut mid run p so_far cut kept brought is =
       let (text, some, lies, gives) = so_far kept brought is in
       record { text = text; some = some; gave = gives; left = Some some.others; left_is = lies; leaves = refl; cut = inr cut }
 
-  -- a prefix of what is due from before was written
+  -- a prefix of what was already due was written
   pub so_far_none : (p : Option (List ℕ)) → GivesPart engine now old [] before.held.bytes.items o p → AnswersPartOfIt engine now old before o p
   so_far_none p part kept brought is = part_more engine now old [] brought before.held.bytes.items o p part

@@ -1,9 +1,9 @@
--- A text of which a first part is written.
+-- A text of which the first part is written.
 use Rattle.std.proofs.Common.{◌≡◌, ◌++◌, ℕ, List, Option, take, drop, sym, ap, ◌∙◌, append_assoc}
 use Rattle.std.proofs.lemmas.List.{take-append-drop}
 use Rattle.gu_streams.specs.Written.{WrotePart}
 
--- a prefix of the first of a text is one of the text
+-- a prefix of the first part of a text is a prefix of the text
 pub wrote_first : (count : ℕ) (text : List ℕ) (a b : Option (List ℕ)) → WrotePart (take count text) a b → WrotePart text a b
 wrote_first count text a b part = record {
   written = part.written;

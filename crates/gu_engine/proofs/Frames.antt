@@ -1,18 +1,18 @@
--- The frames that bytes bring, as they are taken one after another.
+-- The frames in bytes, taken one after another.
 use Rattle.std.proofs.Common.{◌≡◌, ℕ, List, [], ◌∷◌, ◌++◌, sym, subst, append_assoc}
 use Rattle.gu_fix.specs.Stream.{AreFrames, IsFirstFrame, LeadsOn, TakesPiece}
 use Rattle.gu_fix.proofs.NextFrames.{leads_on_first, takes_exist}
 use Rattle.gu_fix.proofs.StreamLaws.{frames_exist, leads_on_start, none_at_start, one_list}
 
--- a list that begins with an element, without it
+-- a list without its first element
 same_rest : (x y : List ℕ) (xs ys : List (List ℕ)) → x ∷ xs ≡ y ∷ ys → (x ≡ y) × (xs ≡ ys)
 same_rest x y xs ys same = (cc, cc)
 
--- no bytes bring no frames
+-- no bytes have no frames
 pub takes_nothing : TakesPiece [] [] [] []
 takes_nothing = record { given_are = none_at_start; leads_on = leads_on_start [] }
 
--- of bytes that bring frames, the first is taken
+-- the first of the frames in bytes is taken
 pub takes_first : (bytes rest kept frame : List ℕ) (frames : List (List ℕ)) → TakesPiece [] bytes frames kept → IsFirstFrame bytes frame rest
     → (later : List (List ℕ)) × (frames ≡ frame ∷ later) × TakesPiece [] rest later kept
 takes_first bytes rest kept frame frames takes first =
@@ -31,7 +31,7 @@ takes_first bytes rest kept frame frames takes first =
       },
     )
 
--- bytes that bring no frame, and those that lead on from them
+-- bytes without a frame, and those that lead on from them
 pub takes_none : (bytes rest kept : List ℕ) (frames : List (List ℕ)) → TakesPiece [] bytes frames kept → AreFrames bytes [] → AreFrames rest [] → LeadsOn bytes [] rest
     → (frames ≡ []) × TakesPiece [] rest [] kept
 takes_none bytes rest kept frames takes none are leads =
@@ -47,7 +47,7 @@ takes_none bytes rest kept frames takes none are leads =
       },
     )
 
--- a piece after bytes that bring no frame is a piece after what is kept of them
+-- a piece after bytes without a frame is a piece after what is kept of them
 pub takes_after : (bytes kept piece next : List ℕ) (frames : List (List ℕ)) → TakesPiece [] bytes [] kept → TakesPiece [] (bytes ++ piece) frames next → TakesPiece kept piece frames next
 takes_after bytes kept piece next frames before takes =
     let given = frames_exist (kept ++ piece) in

@@ -1,4 +1,4 @@
--- Texts of which a part is held: given one after another, and written in the end or in part.
+-- Texts of which a part is held: given one after another, and finally written in full or in part.
 use Rattle.std.proofs.Common.{◌≡◌, ◌≤◌, ℕ, List, [], ◌++◌, length, Option, sym, ap, subst, ◌∙◌, append_assoc, arith}
 use Rattle.std.proofs.KnownBytes.{Appends-trans, Appends-nil}
 use Rattle.std.proofs.lemmas.List.{append-nil, length-append}
@@ -23,7 +23,7 @@ gives_then text more held mid new o p q first second = record {
       ∙ sym (append_assoc first.sent second.sent new);
 }
 
--- a text is given, and then what is held goes out
+-- a text is given, and then held bytes are sent
 pub gives_and_goes : (text held mid new : List ℕ) (o p q : Option (List ℕ)) → Gives text held mid o p → Gives [] mid new p q → Gives text held new o q
 gives_and_goes text held mid new o p q first second = subst (λ (t : List ℕ). Gives t held new o q) (append-nil text) (gives_then text [] held mid new o p q first second)
 
@@ -35,7 +35,7 @@ some_given text held new o p gave = record { text = text; gave = gave }
 pub some_then : (text held mid new : List ℕ) (o p q : Option (List ℕ)) → GivesSome held mid o p → Gives text mid new p q → GivesSome held new o q
 some_then text held mid new o p q first second = record { text = first.text ++ text; gave = gives_then first.text text held mid new o p q first.gave second }
 
--- no more is held where nothing is given
+-- no more is held if nothing is given
 pub fewer_held : (held kept : List ℕ) (o p : Option (List ℕ)) → Gives [] held kept o p → length held ≤ 65536 → length kept ≤ 65536
 fewer_held held kept o p gives few = omega (arith, few, ap length gives.parts, length-append held [], length-append gives.sent kept)
 

@@ -1,14 +1,14 @@
--- Things that are answered in turn.
+-- Things answered in order.
 use Rattle.std.proofs.Common.{◌≡◌, ℕ, List, [], ◌∷◌, ◌++◌, length, refl, sym, ap, subst, ◌∙◌, append_assoc, arith}
 use Rattle.std.proofs.lemmas.List.{append-nil}
 use Rattle.gu_engine.specs.Running.{AnswersEach}
 
--- a list without elements is empty
+-- a list of 0 elements is empty
 none_left : {X : Type 0} (xs : List X) (count : ℕ) → count ≡ length xs → count ≡ 0 → xs ≡ []
 none_left [] count is none = refl
 none_left (x ∷ xs) count is none = absurd (omega arith)
 
--- all was taken where nothing is left
+-- everything was taken if nothing is left
 pub all_taken : {X : Type 0} (all taken left : List X) (count : ℕ) → all ≡ taken ++ left → count ≡ length left → count ≡ 0 → taken ≡ all
 all_taken {X} all taken left count parts is none = sym (append-nil taken) ∙ ap (λ (xs : List X). taken ++ xs) (sym (none_left left count is none)) ∙ sym parts
 

@@ -1,4 +1,4 @@
--- What an intake keeps is at most as long as what it kept before.
+-- An intake stores no more bytes than before.
 use Rattle.std.proofs.Common.{◌≡◌, ◌≤◌, ◌+◌, ◌-◌, ℕ, List, [], ◌∷◌, ◌++◌, length, sym, ap, ◌∙◌, arith}
 use Rattle.std.proofs.lemmas.List.{append-nil, length-append, length-drop}
 use Rattle.gu_fix.specs.Stream.{IsFirstFrame, IsOpen, LeadsOn}
@@ -10,7 +10,7 @@ length_with_frame stream frame rest first =
     let lengths : length stream - first.place ≡ length frame + length rest = sym (length-drop first.place stream) ∙ ap length first.parts ∙ length-append frame rest in
     omega arith
 
--- what leads on where there is no frame: a message that it begins would be as long in the stream
+-- what leads on without a frame: a message that it begins would be as long in the stream
 pub length_without_frame : (stream rest : List ℕ) → IsOpen rest → LeadsOn stream [] rest → length rest ≤ length stream
 length_without_frame stream rest is_open leads =
     let message = rest ++ is_open.more in

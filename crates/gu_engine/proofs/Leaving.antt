@@ -1,4 +1,4 @@
--- What turns leave: the events that lie in what is kept, as they are taken one after another.
+-- The events that turns leave in the stored bytes, taken one after another.
 use Rattle.std.proofs.Common.{◌≡◌, ◌<◌, ◌≤◌, ℕ, List, [], ◌∷◌, ◌++◌, length, take, map, Option, None, Some, refl, sym, ap, subst, ◌∙◌, arith}
 use Rattle.gu_fix.specs.Stream.{AreFrames, IsFirstFrame, IsOpen, LeadsOn, TakesPiece}
 use Rattle.gu_fix.proofs.NextFrames.{rest_is_shorter}
@@ -19,7 +19,7 @@ use Rattle.gu_engine.proofs.Frames.{brings_some, takes_after, takes_first, takes
 some_is : {X : Type 0} (x y : X) → Some x ≡ Some y → x ≡ y
 some_is x y same = cc
 
--- a frame is the first event that was left
+-- a frame is the first event left
 pub frame_left : (at : Left) (bytes rest kept frame : List ℕ) (events : List Event) → at ≡ left.Frames → IsFirstFrame bytes frame rest → IsLeft at bytes kept (Some events)
     → (others : List Event) × (events ≡ Frame frame ∷ others) × IsLeft at rest kept (Some others)
 frame_left at bytes rest kept frame events frames first is =
@@ -44,7 +44,7 @@ fewer_frames at bytes rest frame frames first =
     let fewer : length rest < length bytes = rest_is_shorter bytes frame rest first in
     subst (λ (l : Left). steps_left l rest < steps_left l bytes) (sym frames) (omega (arith, fewer))
 
--- where it left nothing, there are none
+-- if it left nothing, there are none
 pub left_none : (at : Left) (bytes kept : List ℕ) (events : Option (List Event)) → at ≡ left.Nothing → IsLeft at bytes kept events → (events ≡ None) × TakesPiece [] bytes [] kept
 left_none at bytes kept events nothing is = subst (λ (l : Left). IsLeft l bytes kept events) nothing is
 

@@ -1,4 +1,4 @@
--- A house that is lent answers as the house itself.
+-- A borrowed house answers as the house itself.
 use Rattle.std.proofs.Common.{ℕ, Option, None, Some, MutBor, ap}
 use Rattle.gu_terms.specs.declared.firm.FirmId.{FirmId}
 use Rattle.gu_terms.specs.declared.notice.Stretch.{Stretch}

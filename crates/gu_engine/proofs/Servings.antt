@@ -24,13 +24,13 @@ use Rattle.gu_engine.proofs.Frames.{takes_nothing}
 use Rattle.gu_engine.proofs.Holding.{gives_and_goes, gives_nothing, gives_then, wrote_after}
 use Rattle.gu_engine.proofs.InTurn.{each_more}
 
--- where known bytes stay, none were read
+-- if the known bytes are unchanged, none were read
 consumed_kept : (i j : Option (List ℕ)) → Keeps i j → Consumes i j []
 consumed_kept None j keeps = tt
 consumed_kept (Some xs) None keeps = keeps
 consumed_kept (Some xs) (Some ys) keeps = sym keeps
 
--- the bytes and the waits of one turn more
+-- the bytes and the waits of one more turn
 concat_more : (turns : List (List ℕ)) (bytes : List ℕ) → concat turns ++ bytes ≡ concat (turns ++ bytes ∷ [])
 concat_more turns bytes = ap (λ (t : List ℕ). concat turns ++ t) (sym (append-nil bytes)) ∙ sym (concat-append turns (bytes ∷ []))
 
@@ -38,11 +38,11 @@ waits_more : (turns : List (List ℕ)) (bytes : List ℕ) → waits_in turns + w
 waits_more [] bytes = omega arith
 waits_more (turn ∷ turns) bytes = omega (arith, waits_more turns bytes)
 
--- all that was given was written, where nothing is held
+-- everything given was written, if nothing is held
 pub sent_all : (text held : List ℕ) (o p : Option (List ℕ)) → Gives text [] held o p → held ≡ [] → Appends o p text
 sent_all text held o p gives none = subst (Appends o p) (sym (gives.parts ∙ ap (λ (t : List ℕ). gives.sent ++ t) none ∙ append-nil gives.sent)) gives.appended
 
--- a turn that leaves nothing, or after which nothing is left to be done, answers the piece that it reads
+-- a turn that leaves nothing, or after which nothing is left to do, answers the piece that it reads
 module _ {S : Type 0} (engine : Engine S) where
   left_as : (state : S) (others : List Event) (left : Option (List Event)) → Leaves engine state others left → (left ≡ None) ⊎ (engine.is_done state ≡ true)
       → ((others ≡ []) × (engine.is_due state ≡ false)) ⊎ (engine.is_done state ≡ true)
@@ -67,7 +67,7 @@ module _ {S : Type 0} (engine : Engine S) where
     },
   )
 
-  -- the law, of turns that read and leave nothing
+  -- the law for turns that read and leave nothing
   pub uncut_turn : (old new : Pause S) (bytes : List ℕ) (moment : ℕ) (text : List ℕ) → AnswersTurn engine old (record { read = Some bytes; moment = moment }) text new → new.left ≡ None
       → AnswersPiece engine (between_of old) (record { bytes = bytes; moment = moment }) text (between_of new)
   uncut_turn old new bytes moment text answers none = record {
@@ -80,7 +80,7 @@ module _ {S : Type 0} (engine : Engine S) where
     answered = record { some = answers.answered; all = left_as new.state answers.answered.others new.left answers.leaves (inl none) };
   }
 
-  -- the first of what a turn reads is answered
+  -- the first events of what a turn reads are answered
   part_read : (old : Pause S) (read : Option (List ℕ)) (text : List ℕ) → AnswersTurnPart engine old read text → old.left ≡ None → AnswersPart engine (between_of old) read text
   part_read old None text part none = absurd (let e : Some part.brought ≡ None = sym part.has.0 ∙ none in cc)
   part_read old (Some bytes) text part none = record {
@@ -125,7 +125,7 @@ module _ {S R W : Type 0} (remaining : R → Option (List ℕ)) (contents : W �
     fewer = omega (arith, took.waits, took.counted);
   }
 
-  -- So far what was read is answered, and the answers were written, but for those that are held.
+  -- So far what was read is answered, and the answers were written, except for those held.
   pub record Serving (old : S) (pause : Pause S) (held : List ℕ) (reads_old reads_new : CountedReads R) (writer_old writer_new : W) : Type 0 where
     pub pieces : List Piece
     pub text : List ℕ
@@ -142,7 +142,7 @@ module _ {S R W : Type 0} (remaining : R → Option (List ℕ)) (contents : W �
     gave = subst (λ (t : List ℕ). Gives [] [] t (contents w) (contents w)) (sym none) (gives_nothing [] (contents w));
   }
 
-  -- one turn more was read
+  -- one more turn was read
   read_more : (r s t : CountedReads R) (w x y : W) (turns : List (List ℕ)) (bytes : List ℕ) → HasRead (streams_of remaining contents r s w x) turns → Reads remaining s t (Some bytes)
       → HasRead (streams_of remaining contents r t w y) (turns ++ bytes ∷ [])
   read_more r s t w x y turns bytes read reads =
@@ -183,11 +183,11 @@ module _ {S R W : Type 0} (remaining : R → Option (List ℕ)) (contents : W �
   read_no_more r s t w x y turns read (inr (buffer, took)) = read_end r s t w x y turns buffer read took
 
   module _ {O : Type 0} (old : S) (pause : Pause S) (r s t : CountedReads R) (w x y : W) (before after : Backlog O) (run : Serving old pause before.held.bytes.items r s w x) (none_left : pause.left ≡ None) where
-    -- the work of one turn more
+    -- the work of one more turn
     abbrev pub work_here : Work R O
     work_here = record { reads_old = s; reads_new = t; kept_old = before; kept_new = after; output_old = contents x; output_new = contents y }
 
-    -- one turn more is answered
+    -- one more turn is answered
     serving_more : (state : S) (turns : Turns engine remaining pause state work_here) → (turns.new.left ≡ None) ⊎ (engine.is_done turns.new.state ≡ true)
         → Serving old turns.new after.held.bytes.items r t w y × (reads_left t + waits_left t < reads_left s + waits_left s)
     serving_more state turns ends =
@@ -235,7 +235,7 @@ module _ {S R W : Type 0} (remaining : R → Option (List ℕ)) (contents : W �
       appended = sent_all run.text after.held.bytes.items (contents w) (contents y) (gave_on ends.gave) none;
     }
 
-    -- nothing was left to be done
+    -- nothing was left to do
     served_rests : (state : S) → Rests engine remaining pause state work_here → engine.is_done state ≡ true → after.held.bytes.items ≡ [] → Served engine old state (streams_of remaining contents r t w y)
     served_rests state rests done none = record {
       pieces = run.pieces;
@@ -248,7 +248,7 @@ module _ {S R W : Type 0} (remaining : R → Option (List ℕ)) (contents : W �
       appended = sent_all run.text after.held.bytes.items (contents w) (contents y) (gave_on rests.gave) none;
     }
 
-    -- nothing is left to be done after this turn
+    -- nothing is left to do after this turn
     served_turn : (state : S) → Turns engine remaining pause state work_here → engine.is_done state ≡ true → after.held.bytes.items ≡ [] → Served engine old state (streams_of remaining contents r t w y)
     served_turn state turns done none =
         let served = (serving_more state turns (inr (ap engine.is_done turns.new_is.state_is ∙ done))).0 in
@@ -263,7 +263,7 @@ module _ {S R W : Type 0} (remaining : R → Option (List ℕ)) (contents : W �
           appended = sent_all served.text after.held.bytes.items (contents w) (contents y) served.gave none;
         }
 
-    -- nothing is left to be done, or the reader is at its end
+    -- nothing is left to do, or the input has ended
     pub served_last : (state : S) (became : Turned) → (became ≡ turned.Done) ⊎ (became ≡ turned.End) → IsTurned engine remaining pause state work_here became → after.held.bytes.items ≡ []
         → Served engine old state (streams_of remaining contents r t w y)
     served_last state became (inl is_done) is none =
@@ -343,12 +343,12 @@ part_of_so_far engine old new streams served = record {
   wrote = wrote_all (served.text ++ []) streams.output_old streams.output_new (subst (Appends streams.output_old streams.output_new) (sym (append-nil served.text)) served.appended);
 }
 
--- a turn that is no wait gave bytes
+-- a turn that isn't a wait gave bytes
 some_bytes : (bytes : List ℕ) → wait_of bytes ≡ 0 → 0 < length bytes
 some_bytes [] none = absurd (let e : 1 ≡ 0 = none in omega arith)
 some_bytes (byte ∷ bytes) none = omega arith
 
--- where no turn was a wait, each gave bytes
+-- if no turn was a wait, each gave bytes
 pub are_reads : (pieces : List Piece) → waits_in (turns_of pieces) ≡ 0 → HaveBytes pieces
 are_reads [] none = tt
 are_reads (piece ∷ pieces) none = (some_bytes piece.bytes (omega (arith, none)), are_reads pieces (omega (arith, none)))

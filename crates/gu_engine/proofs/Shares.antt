@@ -1,11 +1,11 @@
--- Turns that are cut, and those that go on: each answers its share of what a piece brings.
+-- Cut turns, and those that continue: each answers its share of what a piece brings.
 use Rattle.std.proofs.Common.{◌≡◌, ℕ, List, [], ◌∷◌, ◌++◌, map, Option, None, Some, refl, sym, ap, subst, ◌∙◌}
 use Rattle.std.specs.List.{flat_map}
 use Rattle.gu_engine.specs.Running.{AnswersEach, Brings, Engine, brought_in}
 use Rattle.gu_engine.specs.Turns.{AnswersInShares, AnswersShare, AnswersTurn, Call, Leaves, Pause, Share, between_of, later_calls}
 use Rattle.gu_engine.specs.declared.event.Event.{Event}
 
--- the events that were left
+-- the events left
 abbrev pending : Option (List Event) → List Event
 pending None = []
 pending (Some events) = events
@@ -28,7 +28,7 @@ module _ {S : Type 0} (engine : Engine S) where
     turn.answered.split ∙ ap (λ (es : List Event). brought_in turn.answered.events ++ es) (others_left new.state turn.answered.others new.left turn.leaves),
   )
 
-  -- turns that go on answer what was left
+  -- turns that continue answer what was left
   later_shares : (moments : List ℕ) (old new : Pause S) (text : List ℕ) → AnswersEach (AnswersTurn engine) old (later_calls moments) text new → new.left ≡ None
       → (shares : List Share) × (flat_map (λ (share : Share). share.events) shares ≡ pending old.left) × (map (λ (share : Share). share.moment) shares ≡ moments)
       × AnswersEach (AnswersShare engine) old.state shares text new.state × (new.kept ≡ old.kept)
@@ -49,7 +49,7 @@ module _ {S : Type 0} (engine : Engine S) where
         kept ∙ turn.has.1,
       )
 
-  -- a turn that reads, and those that go on
+  -- a turn that reads, and those that continue
   pub in_shares : (old new : Pause S) (bytes : List ℕ) (moment : ℕ) (moments text : List ℕ)
       → AnswersEach (AnswersTurn engine) old (record { read = Some bytes; moment = moment } ∷ later_calls moments) text new → new.left ≡ None
       → AnswersInShares engine (between_of old) bytes (moment ∷ moments) text (between_of new)

@@ -1,4 +1,4 @@
--- The parts of a turn: what is held goes out, what it has to answer is found and answered, and what is held goes out again.
+-- The parts of a turn: held bytes are sent, the events to answer are found and answered, and held bytes are sent again.
 use Rattle.std.proofs.Common.{◌≡◌, ◌⊎◌, ◌<◌, ◌≤◌, ℕ, Bool, true, false, List, [], ◌++◌, length, Option, None, Some, inl, inr, refl, sym, subst, ap, ◌∙◌, arith}
 use Rattle.std.proofs.lemmas.List.{append-nil}
 use Rattle.gu_streams.specs.Written.{WrotePart}
@@ -16,25 +16,25 @@ use Rattle.gu_engine.specs.declared.turned.Turned.TheVariants as turned
 use Rattle.gu_engine.proofs.Holding.{gives_and_goes, wrote_after}
 use Rattle.gu_engine.proofs.Leaving.{left_none}
 
--- what is left lies in equal bytes alike
+-- events left are the same for equal bytes
 left_in : (a b : Left) (x y kept : List ℕ) (events : Option (List Event)) → b ≡ a → y ≡ x → IsLeft a x kept events → IsLeft b y kept events
 left_in a b x y kept events same_left same_bytes is =
     subst (λ (l : Left). IsLeft l y kept events) (sym same_left) (subst (λ (bytes : List ℕ). IsLeft a bytes kept events) (sym same_bytes) is)
 
--- a pause where only what is held is another
+-- a pause in which only the held bytes differ
 same_pause : {S O : Type 0} (state : S) (a b : Backlog O) (pause : Pause S) → b.left ≡ a.left → b.intake ≡ a.intake → IsPause state a pause → IsPause state b pause
 same_pause state a b pause same_left same_intake is =
     record { state_is = is.state_is; left_is = left_in a.left b.left a.intake b.intake pause.kept pause.left same_left same_intake is.left_is }
 
--- where nothing is given, what was written is a prefix of what was held
+-- if nothing is given, what was written is a prefix of what was held
 pub wrote_gone : (held kept : List ℕ) (o p : Option (List ℕ)) → Gives [] held kept o p → WrotePart (held ++ []) o p
 wrote_gone held kept o p gives = record { written = gives.sent; appended = gives.appended; prefix = record { rest = kept; parts = gives.parts } }
 
--- the same, and then a prefix of what is held still
+-- the same, followed by a prefix of what is still held
 pub wrote_gone_then : (held kept : List ℕ) (o p q : Option (List ℕ)) → Gives [] held kept o p → WrotePart kept p q → WrotePart (held ++ []) o q
 wrote_gone_then held kept o p q gives part = wrote_after [] [] held kept o p q gives (subst (λ (t : List ℕ). WrotePart t p q) (sym (append-nil kept)) part)
 
--- what a turn has to answer is found, unless it is the last
+-- the events that a turn has to answer are found, unless it is the last
 pub finds : {R O : Type 0} (remaining : R → Option (List ℕ)) (reads_old reads_new : CountedReads R) (before after : Backlog O) (became : Turned) (kept : List ℕ) (events : Option (List Event))
     → is_last became ≡ false → TakesIn remaining reads_old reads_new before after became → IsLeft before.left before.intake kept events
     → (found : FindsEvents remaining reads_old reads_new kept events after) × (became ≡ turned.Waits → found.read ≡ Some [])
@@ -45,7 +45,7 @@ finds remaining reads_old reads_new before after turned.Done kept events more ta
 finds remaining reads_old reads_new before after turned.End kept events more takes is = absurd (let e : true ≡ false = more in cc)
 finds remaining reads_old reads_new before after turned.Stopped kept events more takes is = absurd (let e : true ≡ false = more in cc)
 
--- reading came to its end, if it is the last
+-- reading ended, if it is the last
 pub no_more : {R O : Type 0} (remaining : R → Option (List ℕ)) (reads_old reads_new : CountedReads R) (before after : Backlog O) (became : Turned) → is_last became ≡ true
     → TakesIn remaining reads_old reads_new before after became → ReadsNoMore remaining reads_old reads_new
 no_more remaining reads_old reads_new before after turned.Again last takes = absurd (let e : false ≡ true = last in cc)
@@ -60,7 +60,7 @@ module _ {S R O : Type 0} (engine : Engine S) (remaining : R → Option (List �
   pub rests : work.kept_new.left ≡ work.kept_old.left → work.kept_new.intake ≡ work.kept_old.intake → work.reads_new ≡ work.reads_old → Gave work [] → Rests engine remaining old state work
   rests same_left same_intake unread gave = record { same = same_pause state work.kept_old work.kept_new old same_left same_intake is; unread = unread; gave = gave }
 
-  -- the last turn, where nothing is answered
+  -- the last turn, if nothing is answered
   pub turned_last : (before after : Backlog O) (became : Turned) → is_last became ≡ true → TakesIn remaining work.reads_old work.reads_new before after became → before.left ≡ work.kept_old.left
       → before.intake ≡ work.kept_old.intake → work.kept_new.left ≡ after.left → work.kept_new.intake ≡ after.intake → Gave work []
       → length work.kept_new.held.bytes.items ≤ 65536 → IsTurned engine remaining old state work became
@@ -88,7 +88,7 @@ module _ {S R O : Type 0} (engine : Engine S) (remaining : R → Option (List �
         );
   }
 
-  -- what this turn has to answer
+  -- the events that this turn has to answer
   pub found_here : (before after : Backlog O) (became : Turned) → is_last became ≡ false → TakesIn remaining work.reads_old work.reads_new before after became → before.left ≡ work.kept_old.left
       → before.intake ≡ work.kept_old.intake → (found : FindsEvents remaining work.reads_old work.reads_new old.kept old.left after) × (became ≡ turned.Waits → found.read ≡ Some [])
   found_here before after became more takes b_left b_intake =
@@ -106,7 +106,7 @@ module _ {S R O : Type 0} (engine : Engine S) (remaining : R → Option (List �
       → TurnsInPart engine remaining old new work
   part_idle new read reads wrote = record { read = read; text = []; reads = inl reads; part = inl refl; wrote = wrote }
 
-  -- the same, where reading came to its end
+  -- the same, if reading ended
   pub part_last : (new : S) → ReadsNoMore remaining work.reads_old work.reads_new → WrotePart (work.kept_old.held.bytes.items ++ []) work.output_old work.output_new → TurnsInPart engine remaining old new work
   part_last new reads wrote = record { read = None; text = []; reads = inr (refl, refl, reads); part = inl refl; wrote = wrote }
 
@@ -172,12 +172,12 @@ module _ {S R O : Type 0} (engine : Engine S) (remaining : R → Option (List �
   turned_over new turned.End turns read more full none goes_on same waits = absurd (let e : true ≡ false = more in cc)
   turned_over new turned.Stopped turns read more full none goes_on same waits = absurd (let e : true ≡ false = more in cc)
 
--- a turn that goes on isn't full
+-- a turn that continues isn't full
 pub not_full : {R O : Type 0} (remaining : R → Option (List ℕ)) (reads_old reads_new : CountedReads R) (before after : Backlog O) (became : Turned) → TakesIn remaining reads_old reads_new before after became
     → became ≡ turned.Full → ⊥
 not_full remaining reads_old reads_new before after became takes full = subst (TakesIn remaining reads_old reads_new before after) full takes
 
--- nothing is left, where so little is held and something is left to be done
+-- nothing is left, if few enough bytes are held and something is left to do
 pub none_is_left : (left : Option (List Event)) (done : Bool) (held : List ℕ) → (left ≡ None) ⊎ ((done ≡ true) ⊎ (65536 < length held)) → done ≡ false → length held ≤ 65536 → left ≡ None
 none_is_left left done held (inl none) goes_on few = none
 none_is_left left done held (inr (inl all)) goes_on few = absurd (let e : true ≡ false = sym all ∙ goes_on in cc)

@@ -1,4 +1,4 @@
--- Machinery: what is left to be answered, as the loop's own functions take it in and answer it.
+-- Machinery: what is left unanswered, as the loop's own functions take it in and answer it.
 use Rattle.std.specs.Prelude.{◌≡◌, ◌<◌, ◌+◌, ◌⊎◌, ◌∷◌, true, ℕ, List, [], length, Option, None, Some}
 use Rattle.std.specs.Io.KnownBytes.{IsAtEnd}
 use Rattle.gu_streams.specs.Reads.{Stopped, Took, bytes_left}
@@ -13,7 +13,7 @@ use Rattle.gu_engine.specs.declared.event.Event.{Event}
 use Rattle.gu_engine.specs.declared.turned.Turned.{Turned}
 use Rattle.gu_engine.specs.declared.turned.Turned.TheVariants as turned
 
--- of what was left this event was the first
+-- this event was the first of those left
 abbrev pub TakesEvent : {O : Type 0} → Backlog O → Event → Backlog O → Type 0
 TakesEvent old event new = (kept : List ℕ) (events : List Event) → IsLeft old.left old.intake kept (Some events)
     → (others : List Event) × (events ≡ event ∷ others) × IsLeft new.left new.intake kept (Some others)
@@ -23,14 +23,14 @@ abbrev pub TakesLast : {O : Type 0} → Backlog O → Backlog O → Type 0
 TakesLast old new = (kept : List ℕ) (events : List Event) → IsLeft old.left old.intake kept (Some events)
     → (events ≡ []) × IsLeft new.left new.intake kept None
 
--- at most so many events are left
+-- the most events left
 abbrev pub steps_left : Left → List ℕ → ℕ
 steps_left left.Nothing bytes = 0
 steps_left left.Silence bytes = length bytes + 2
 steps_left left.Frames bytes = length bytes + 1
 steps_left left.Due bytes = 0
 
--- what a turn has to answer was found: it was left, or it was read
+-- the events that a turn has to answer were left, or were read
 pub record FindsEvents {R O : Type 0} (remaining : R → Option (List ℕ)) (reads_old reads_new : CountedReads R) (kept : List ℕ) (events : Option (List Event)) (new : Backlog O) : Type 0 where
   pub read : Option (List ℕ)
   pub reads : Reads remaining reads_old reads_new read
@@ -39,7 +39,7 @@ pub record FindsEvents {R O : Type 0} (remaining : R → Option (List ℕ)) (rea
   pub has : HasToAnswer kept events read brought next
   pub new_is : IsLeft new.left new.intake next (Some brought)
 
--- what a turn begins with, by what becomes of it unless it is cut
+-- what a turn begins with, given its result unless it is cut
 abbrev pub TakesIn : {R O : Type 0} → (R → Option (List ℕ)) → CountedReads R → CountedReads R → Backlog O → Backlog O → Turned → Type 0
 TakesIn remaining reads_old reads_new old new turned.Again = (kept : List ℕ) (events : Option (List Event)) → IsLeft old.left old.intake kept events
     → FindsEvents remaining reads_old reads_new kept events new
@@ -51,7 +51,7 @@ TakesIn remaining reads_old reads_new old new turned.End = (new ≡ old) × (old
     × (buffer : List ℕ) × Took remaining reads_old reads_new buffer 0 × IsAtEnd (bytes_left remaining reads_new)
 TakesIn remaining reads_old reads_new old new turned.Stopped = (new ≡ old) × Stopped remaining reads_old reads_new
 
--- the first of what was left is answered, and this is left now: nothing, or the others, as so much is held or as nothing is left to be done
+-- the first of the events left are answered, and now nothing is left, or the others, because too much is held or nothing is left to do
 pub record AnswersLeft {S O : Type 0} (engine : Engine S) (now : ℕ) (old : S) (brought : List Event) (kept : List ℕ) (new : S) (backlog : Backlog O)
     (held : List ℕ) (output_old output_new : Option (List ℕ)) : Type 0 where
   pub text : List ℕ
@@ -67,7 +67,7 @@ abbrev pub AnswersWhatIsLeft : {S O : Type 0} → Engine S → ℕ → S → Bac
 AnswersWhatIsLeft engine now old before new after output_old output_new = (kept : List ℕ) (brought : List Event) → IsLeft before.left before.intake kept (Some brought)
     → AnswersLeft engine now old brought kept new after before.held.bytes.items output_old output_new
 
--- and after a fault a prefix of the answers to the first of it went out
+-- after a fault, a prefix of the answers to the first of it was sent
 abbrev pub AnswersPartOfIt : {S O : Type 0} → Engine S → ℕ → S → Backlog O → Option (List ℕ) → Option (List ℕ) → Type 0
 AnswersPartOfIt engine now old before output_old output_new = (kept : List ℕ) (brought : List Event) → IsLeft before.left before.intake kept (Some brought)
     → GivesPart engine now old brought before.held.bytes.items output_old output_new

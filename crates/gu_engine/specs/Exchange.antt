@@ -1,4 +1,4 @@
--- The exchange of one session with a house: what its input is answered by, turn by turn.
+-- The exchange of one session with a house: the answers to its input, turn by turn.
 use Rattle.std.specs.Prelude.{◌≡◌, ◌||◌, ◌&&◌, ◌∷◌, ◌++◌, ℕ, Bool, true, false, not, is_some, List, [], Option, None, Some}
 use Rattle.std.specs.List.{filter_map, flat_map, list_any}
 use Rattle.std.specs.Io.KnownBytes.{Consumes, Keeps}
@@ -24,11 +24,11 @@ use Rattle.gu_engine.specs.declared.event.Event.TheVariants as event
 use Rattle.gu_engine.specs.declared.house.Answered.{Answered}
 use Rattle.gu_engine.specs.declared.house.Ask.{Ask}
 
--- the firm that is logged on
+-- the logged-on firm
 abbrev pub firm_of : SessionState → Option FirmId
 firm_of session = option_map (λ (at : LoggedOn). at.firm) session.at
 
--- a firm asks this of the house: by a message of this number, which came at this moment
+-- a firm asks this of the house, in the message with this number, which arrived at this moment
 pub record IsAskOf (asked : Asked) (now : ℕ) (ask : Ask) : Type 0 where
   pub firm : IsAskedBy ask.firm asked.what
   pub number_is : ask.number ≡ asked.reference
@@ -40,7 +40,7 @@ abbrev pub new_conversation : List FirmId → Conversation
 new_conversation firms = record { session = new_session firms; next = 1; is_behind = false; is_over = false }
 
 module _ {H C : Type 0} where
-  -- a connection that goes on with a conversation, over this house and this clock
+  -- a connection that resumes a conversation with this house and this clock
   abbrev pub resumed : Conversation → H → C → Connection H C
   resumed conversation house clock = record {
     house = house;
@@ -69,7 +69,7 @@ module _ {H C : Type 0} where
     pub nothing_due : connection.is_behind ≡ false
     pub is_open : connection.is_over ≡ false
 
-  -- A session takes an input at a moment: this is asked of the house, and these bytes are sent. With a close the connection is over.
+  -- A session takes an input at a moment: it makes this request to the house, if any, and sends these bytes. Its end ends the connection.
   pub record TakesInput (old : Connection H C) (input : Input) (now : ℕ) (asked : Option Asked) (text : List ℕ) (new : Connection H C) : Type 0 where
     pub outputs : List Output
     pub session : SessionState
@@ -88,17 +88,17 @@ module _ {H C : Type 0} where
     pub asked : Option Asked
     pub taken : TakesInput old (Notice notice) now asked text new
 
-  -- a stretch of the notices that the firm hasn't had is sent, and more are due until it has had the last
+  -- a batch of the notices that the firm hasn't received is sent, and more are due until it has received the last
   abbrev pub SendsStretch : ℕ → Connection H C → Stretch → List ℕ → Connection H C → Type 0
   SendsStretch now old stretch text new =
       AnswersEach (SendsNotice now) (record old { next = stretch.notices.next; is_behind = not stretch.is_last }) stretch.notices.list.items text new
 
-  -- so are the notices that the house added to its answer; where it added none, they may be due
+  -- the notices that the house added to its answer are sent; if it added none, some may be due
   abbrev pub SendsAny : ℕ → Connection H C → Option Stretch → List ℕ → Connection H C → Type 0
   SendsAny now old None text new = Waits old text new
   SendsAny now old (Some stretch) text new = SendsStretch now old stretch text new
 
-  -- what is asked of the house is answered at once, the session takes the answer, and the notices that the house adds follow it
+  -- a request to the house is answered at once, the session takes the answer, and the notices that the house adds follow
   pub record AnswersAsked (rules : HouseRules H) (now : ℕ) (old : Connection H C) (asked : Asked) (text : List ℕ) (new : Connection H C) : Type 0 where
     pub ask : Ask
     pub is_ask : IsAskOf asked now ask
@@ -113,12 +113,12 @@ module _ {H C : Type 0} where
     pub sends : SendsAny now heard answered.stretch told new
     pub parts : text ≡ answer ++ told
 
-  -- where nothing is asked, notices may be due all the same
+  -- the same; without a request, notices may be due all the same
   abbrev pub AnswersAny : HouseRules H → ℕ → Connection H C → Option Asked → List ℕ → Connection H C → Type 0
   AnswersAny rules now old None text new = Waits old text new
   AnswersAny rules now old (Some asked) text new = AnswersAsked rules now old asked text new
 
-  -- a frame: what the session sends, and the answer to what it asks, with notices for the firm, or notices may be due then
+  -- a frame: what the session sends, then the answer to its request, with notices for the firm; or notices may be due then
   pub record AnswersFrame (rules : HouseRules H) (now : ℕ) (old : Connection H C) (frame text : List ℕ) (new : Connection H C) : Type 0 where
     pub asked : Option Asked
     pub heard : Connection H C
@@ -128,7 +128,7 @@ module _ {H C : Type 0} where
     pub answers : AnswersAny rules now heard asked answer new
     pub parts : text ≡ sent ++ answer
 
-  -- the firm that is logged on is sent a stretch of the notices that it hasn't had
+  -- the logged-on firm is sent a batch of the notices that it hasn't received
   pub record TellsStretch (rules : HouseRules H) (now : ℕ) (old : Connection H C) (text : List ℕ) (new : Connection H C) : Type 0 where
     pub firm : FirmId
     pub logged_on : firm_of old.session ≡ Some firm
@@ -137,32 +137,32 @@ module _ {H C : Type 0} where
     pub told : rules.tells old.house firm old.next stretch house
     pub sent : SendsStretch now (record old { house = house }) stretch text new
 
-  -- notices are due to a firm that is logged on and hasn't had the last, unless the connection is over
+  -- notices are due to a logged-on firm that may not have received the last, unless the connection is over
   abbrev pub is_due : Connection H C → Bool
   is_due connection = connection.is_behind && not connection.is_over && is_some (firm_of connection.session)
 
-  -- a turn is over: time has passed
+  -- a turn is over: the session takes a tick
   pub record Ticks (now : ℕ) (old : Connection H C) (text : List ℕ) (new : Connection H C) : Type 0 where
     pub asked : Option Asked
     pub taken : TakesInput old Tick now asked text new
 
-  -- the session is told that the house closes
+  -- the session is closed, as the house closes
   pub record ClosesSession (now : ℕ) (old : Connection H C) (text : List ℕ) (new : Connection H C) : Type 0 where
     pub asked : Option Asked
     pub taken : TakesInput old Close now asked text new
 
-  -- the session is told that nothing more comes, and sends nothing
+  -- the session's input ends, and it sends nothing
   pub record EndsSession (old new : Connection H C) : Type 0 where
     pub now : ℕ
     pub asked : Option Asked
     pub taken : TakesInput old End now asked [] new
 
-  -- a turn begins at the moment that the clock gives next
+  -- a turn begins at the next moment that the clock gives
   pub record BeginsAt (ahead : C → Option (List ℕ)) (old : Connection H C) (now : ℕ) (new : Connection H C) : Type 0 where
     pub given : Consumes (ahead old.clock) (ahead new.clock) (now ∷ [])
     pub new_is : new ≡ record old { clock = new.clock }
 
-  -- a turn can't begin, since the clock fails
+  -- a turn can't begin, because the clock fails
   pub record ClockFails (ahead : C → Option (List ℕ)) (has_failed : C → Bool) (old new : Connection H C) : Type 0 where
     pub failed : has_failed new.clock ≡ true
     pub kept : Keeps (ahead old.clock) (ahead new.clock)
@@ -175,7 +175,7 @@ module _ {H C : Type 0} where
   AnswersEvent rules now old event.More text new = TellsStretch rules now old text new
   AnswersEvent rules now old event.Over text new = Ticks now old text new
 
-  -- the exchange as an engine: events are answered at the moment of their turn, the notices come after each frame, until the connection is over
+  -- the exchange as an engine: events are answered at the moment of their turn, notices follow each frame, until the connection is over
   abbrev pub exchange : HouseRules H → (C → Option (List ℕ)) → (C → Bool) → Engine (Connection H C)
   exchange rules ahead has_failed = record {
     begins = BeginsAt ahead;
@@ -185,7 +185,7 @@ module _ {H C : Type 0} where
     is_done = λ (connection : Connection H C). connection.is_over;
   }
 
--- What the reader gave up to its end, or to the close of the session, is exchanged for what was written, turn by turn, and the session is ended.
+-- What the reader gave, up to its end or the session's, is exchanged for what was written, turn by turn, and the session's input is ended.
 pub record Exchanged {H C : Type 0} (rules : HouseRules H) (ahead : C → Option (List ℕ)) (has_failed : C → Bool) (old new : Connection H C)
     (streams : Streams) : Type 0 where
   pub mid : Connection H C
@@ -196,6 +196,6 @@ pub record Exchanged {H C : Type 0} (rules : HouseRules H) (ahead : C → Option
 abbrev pub ExchangedSoFar : {H C : Type 0} → HouseRules H → (C → Option (List ℕ)) → (C → Bool) → Connection H C → Connection H C → Streams → Type 0
 ExchangedSoFar rules ahead has_failed old new streams = ServedSoFar (exchange rules ahead has_failed) old new streams
 
--- a prefix of the exchange of the first turns, and of the first of what one more brings, was written
+-- a prefix of the exchange was written: of the first turns, and of the first events of one more
 abbrev pub ExchangedInPart : {H C : Type 0} → HouseRules H → (C → Option (List ℕ)) → (C → Bool) → Connection H C → Streams → Type 0
 ExchangedInPart rules ahead has_failed old streams = ServedInPart (exchange rules ahead has_failed) old streams

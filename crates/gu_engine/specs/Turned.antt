@@ -1,4 +1,4 @@
--- What became of a turn: what was read, answered and let go, by what the turn returns.
+-- Results of a turn: what was read, answered and sent, for each result.
 use Rattle.std.specs.Prelude.{◌≡◌, ◌<◌, ◌≤◌, ◌⊎◌, ℕ, Bool, true, false, List, [], ◌++◌, length, Option, None, Some}
 use Rattle.std.specs.Io.KnownBytes.{IsAtEnd}
 use Rattle.gu_streams.specs.Reads.{Stopped, Took, bytes_left}
@@ -11,7 +11,7 @@ use Rattle.gu_engine.specs.declared.backlog.Backlog.{Backlog}
 use Rattle.gu_engine.specs.declared.turned.Turned.{Turned}
 use Rattle.gu_engine.specs.declared.turned.Turned.TheVariants as turned
 
--- no further turn is to be made
+-- no further turn is due
 abbrev pub is_last : Turned → Bool
 is_last turned.Again = false
 is_last turned.Waits = false
@@ -20,7 +20,7 @@ is_last turned.Done = true
 is_last turned.End = true
 is_last turned.Stopped = true
 
--- What a turn works on, before and after: the reader, what the engine keeps, and what went out.
+-- A turn's work, before and after: the reader, what the engine keeps, and what was sent.
 pub record Work (R O : Type 0) : Type 0 where
   pub reads_old : CountedReads R
   pub reads_new : CountedReads R
@@ -29,7 +29,7 @@ pub record Work (R O : Type 0) : Type 0 where
   pub output_old : Option (List ℕ)
   pub output_new : Option (List ℕ)
 
--- the work of a turn, by the bytes that its writer holds
+-- the work of a turn, given what its writer holds
 abbrev pub work_of : {R W O : Type 0} → (W → Option (List ℕ)) → CountedReads R → CountedReads R → W → W → Backlog O → Backlog O → Work R O
 work_of contents reads_old reads_new writer_old writer_new kept_old kept_new = record {
   reads_old = reads_old;
@@ -40,18 +40,18 @@ work_of contents reads_old reads_new writer_old writer_new kept_old kept_new = r
   output_new = contents writer_new;
 }
 
--- this text was given: of what was held, and then of it, a first part went out, and the rest is held
+-- this text was given: the first of what was held and of the text was sent, and the rest is held
 abbrev pub Gave : {R O : Type 0} → Work R O → List ℕ → Type 0
 Gave work text = Gives text work.kept_old.held.bytes.items work.kept_new.held.bytes.items work.output_old work.output_new
 
 module _ {S R O : Type 0} (engine : Engine S) (remaining : R → Option (List ℕ)) (old : Pause S) (state : S) (work : Work R O) where
-  -- nothing was answered, and nothing read: of what was held a first part went out
+  -- nothing was answered or read; the first of what was held was sent
   pub record Rests : Type 0 where
     pub same : IsPause state work.kept_new old
     pub unread : work.reads_new ≡ work.reads_old
     pub gave : Gave work []
 
-  -- A turn was made: a first part of what was held went out, so that at most 65,536 bytes were held still; then it read and answered.
+  -- A turn was made: the first of what was held was sent, so that at most 65,536 bytes remained; then it read and answered.
   pub record Turns : Type 0 where
     pub held : List ℕ
     pub output : Option (List ℕ)
@@ -65,7 +65,7 @@ module _ {S R O : Type 0} (engine : Engine S) (remaining : R → Option (List �
     pub answered : AnswersTurn engine old call text new
     pub gave : Gives text held work.kept_new.held.bytes.items output work.output_new
 
-  -- the reader was found to be at its end
+  -- the input has ended
   pub record Ends : Type 0 where
     pub same : IsPause state work.kept_new old
     pub none_left : old.left ≡ None
@@ -75,14 +75,14 @@ module _ {S R O : Type 0} (engine : Engine S) (remaining : R → Option (List �
     pub gave : Gave work []
     pub few : length work.kept_new.held.bytes.items ≤ 65536
 
-  -- reading stopped, or a turn failed to begin, after what it read; and nothing was answered
+  -- reading stopped, or a turn failed to begin after it read; nothing was answered
   pub record Stops : Type 0 where
     pub gave : Gave work []
     pub few : length work.kept_new.held.bytes.items ≤ 65536
     pub stopped : (IsPause state work.kept_new old × Stopped remaining work.reads_old work.reads_new)
         ⊎ ((read : Option (List ℕ)) × Reads remaining work.reads_old work.reads_new read × engine.stops old.state state)
 
-  -- What became of a turn. Where it returns Full, more than 65,536 bytes are held; Done, nothing is left to be done.
+  -- The result of a turn. If it is Full, more than 65,536 bytes are held; if it is Done, nothing is left to do.
   abbrev pub IsTurned : Turned → Type 0
   IsTurned turned.Again = (turns : Turns) × (turns.new.left ≡ None) × (engine.is_done state ≡ false)
   IsTurned turned.Waits = (turns : Turns) × (turns.new.left ≡ None) × (engine.is_done state ≡ false) × (turns.call.read ≡ Some [])
@@ -91,7 +91,7 @@ module _ {S R O : Type 0} (engine : Engine S) (remaining : R → Option (List �
   IsTurned turned.End = Ends
   IsTurned turned.Stopped = Stops
 
-  -- after a fault: of what was held and of the answers to the first of what the turn had to answer a prefix went out
+  -- after a fault, a prefix was sent of what was held and of the answers to the first events that the turn had to answer
   pub record TurnsInPart : Type 0 where
     pub read : Option (List ℕ)
     pub text : List ℕ
@@ -100,10 +100,10 @@ module _ {S R O : Type 0} (engine : Engine S) (remaining : R → Option (List �
     pub wrote : WrotePart (work.kept_old.held.bytes.items ++ text) work.output_old work.output_new
 
 module _ {S R O : Type 0} (engine : Engine S) (remaining : R → Option (List ℕ)) (state_old state_new : S) (work : Work R O) where
-  -- wherever the engine was, this became of the turn
+  -- whatever the engine's state, this is the result of the turn
   abbrev pub TurnsTo : Turned → Type 0
   TurnsTo became = (old : Pause S) → IsPause state_old work.kept_old old → IsTurned engine remaining old state_new work became
 
-  -- and this after a fault
+  -- the same after a fault
   abbrev pub TurnsToPart : Type 0
   TurnsToPart = (old : Pause S) → IsPause state_old work.kept_old old → TurnsInPart engine remaining old state_new work

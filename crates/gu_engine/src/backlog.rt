@@ -1,4 +1,4 @@
-//! What an engine keeps between two turns, besides what answers.
+//! The state that an engine keeps between two turns, apart from its answerer's.
 
 ghost use Rattle.std.specs.Prelude.{◌≡◌, ◌↔◌, ◌<◌, ◌≤◌, ◌+◌, [], List, ℕ, false, length, take, IfErr, IfNone, IfOk, IfSome, IsTrue, OnErr, OnOk, true};
 ghost use Rattle.gu_engine.specs.Backlogs.{TakesEvent, TakesIn, TakesLast, steps_left};
@@ -16,21 +16,21 @@ use gu_streams::{CountedReads, Outlet, StreamError, Turn};
 use std::alloc::{AllocError, Global};
 use std::io::{Read, Write};
 
-/// What a turn left to be answered.
+/// The events that a turn left unanswered.
 #[derive(Clone, Copy)]
 pub enum Left {
     /// Nothing.
     Nothing,
-    /// Silence, and that the turn is over.
+    /// Silence, and the end of the turn.
     Silence,
-    /// The frames that are whole, and that the turn is over.
+    /// The whole frames, and the end of the turn.
     Frames,
-    /// No event: parts of what is due, if any are.
+    /// No events: only parts of what is due, if any.
     Due,
 }
 
-/// What an engine keeps between two turns, besides what answers: bytes of which no frame was taken yet, what a turn that was cut left
-/// to be answered, and answers that are still held.
+/// The state that an engine keeps between two turns, apart from its answerer's: bytes from which no frame was taken yet, what a cut turn
+/// left unanswered, and answers still held.
 #[derive(Drop)]
 pub struct Backlog<O> {
     intake: CountedIntake,
@@ -39,7 +39,7 @@ pub struct Backlog<O> {
 }
 
 impl<O> Backlog<O> {
-    /// Returns that of an engine before its first turn, whose answers go out by this outlet.
+    /// Returns the backlog before the first turn, whose answers go out through this outlet.
     pub fn new(alloc: Global, outlet: O) -> Self
         ensures { IsEmpty result }
     {
@@ -57,21 +57,21 @@ impl<O> Backlog<O> {
         self.held.bytes.is_empty()
     }
 
-    /// Returns how many bytes of answers are held.
+    /// Returns the number of bytes of answers held.
     pub fn held(&self) -> usize
         ensures { result ≡ length self.now.held.bytes.items }
     {
         self.held.bytes.len()
     }
 
-    /// Returns whether no turn left anything to be answered.
+    /// Returns whether no turn left anything unanswered.
     pub fn is_idle(&self) -> bool
         ensures { IsTrue result ↔ IsIdle self.now }
     {
         matches!(self.left, Left::Nothing)
     }
 
-    /// Gives back the room of what is empty. It stays the same backlog.
+    /// Releases unused memory. The backlog stays the same.
     pub fn release(&mut self)
         ensures same { HoldsTheSame self.old self.new }
         ensures outlet { self.new.held.outlet ≡ self.old.held.outlet }
@@ -80,7 +80,7 @@ impl<O> Backlog<O> {
         self.held.release();
     }
 
-    /// Lets go of a first part of the answers that are held, of at most this many bytes, whatever its outlet.
+    /// Sends at most this many of the first bytes of held answers, whatever the outlet.
     pub fn send_first<W: Write>(&mut self, most: usize, writer: &mut W) -> Result<(), StreamError>
         ensures given { OnOk result (Gives [] self.old.held.bytes.items self.new.held.bytes.items (W.contents writer.old) (W.contents writer.new)) }
         ensures most { OnOk result (length self.old.held.bytes.items ≤ length self.new.held.bytes.items + most) }
@@ -93,7 +93,7 @@ impl<O> Backlog<O> {
         self.held.let_go_first(most, writer)
     }
 
-    /// Takes the first frame; or finds that the turn is over, as there is none yet.
+    /// Takes the first frame, or returns the end of the turn if there is none yet.
     fn next_frame(&mut self) -> Result<Event, AllocError>
         requires { self.old.left ≡ Left.Frames }
         ensures event { IfOk result (λ event. TakesEvent self.old event self.new) }
@@ -113,7 +113,7 @@ impl<O> Backlog<O> {
         }
     }
 
-    /// Takes the next event that is left to be answered, if there is one.
+    /// Takes the next event left unanswered, if there is one.
     pub(crate) fn next_event(&mut self) -> Result<Option<Event>, AllocError>
         ensures event { IfOk result (λ next. IfSome next (λ event. TakesEvent self.old event self.new)) }
         ensures none { IfOk result (λ next. IfNone next (TakesLast self.old self.new)) }
@@ -135,7 +135,7 @@ impl<O> Backlog<O> {
         }
     }
 
-    /// Reads once, unless a turn left something to be answered.
+    /// Reads once, unless a turn left something unanswered.
     pub(crate) fn take_in<R: Read>(
         &mut self,
         reads: &mut CountedReads<R>,
@@ -169,7 +169,7 @@ impl<O> Backlog<O> {
 }
 
 impl<O: Drop> Backlog<O> {
-    /// Sends answers by another outlet from now on.
+    /// Sends answers through another outlet from now on.
     pub fn set_outlet(&mut self, outlet: O)
         ensures same { HoldsTheSame self.old self.new }
         ensures outlet { self.new.held.outlet ≡ outlet }
@@ -179,7 +179,7 @@ impl<O: Drop> Backlog<O> {
 }
 
 impl<O: Outlet> Backlog<O> {
-    /// Lets go of a first part of the answers that are held.
+    /// Sends the first of the held answers.
     pub fn send<W: Write>(&mut self, writer: &mut W) -> Result<(), StreamError>
         ensures given { OnOk result (Gives [] self.old.held.bytes.items self.new.held.bytes.items (W.contents writer.old) (W.contents writer.new)) }
         ensures all { OnOk result (O.takes_all ≡ true → self.new.held.bytes.items ≡ []) }

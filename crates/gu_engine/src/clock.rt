@@ -7,28 +7,28 @@ use gu_terms::Moment;
 use std::rt;
 use std::time::{SystemTime, UNIX_EPOCH};
 
-/// A clock failed, or the time that it gave is no moment.
+/// A clock failed, or gave a time that isn't a moment.
 #[derive(Clone, Copy, Debug, PartialEq, Eq)]
 pub struct ClockFault;
 
-/// What gives the moment.
+/// A clock gives the moment.
 pub trait Clock {
     ghost use Rattle.std.specs.Prelude.{Bool, List, Option, ℕ};
 
-    /// The moments that it will give, one after another, where they are known.
+    /// The moments that it will give, one after another, if they are known.
     ghost ahead: { Self → Option (List ℕ) };
 
     /// Whether it failed.
     ghost has_failed: { Self → Bool };
 
-    /// The moment.
+    /// Returns the moment.
     fn now(&mut self) -> Result<Moment, ClockFault>
         ensures given { IfOk result (λ now. Consumes (ahead self.old) (ahead self.new) (now ∷ [])) }
         ensures kept { OnErr result (Keeps (ahead self.old) (ahead self.new)) }
         ensures failed { IsErr result → has_failed self.new ≡ true };
 }
 
-/// The clock of the machine.
+/// The system clock.
 #[derive(Drop)]
 pub struct SystemClock<'a, R> {
     rt: &'a R,
@@ -36,7 +36,7 @@ pub struct SystemClock<'a, R> {
 }
 
 impl<'a, R: rt::Clock> SystemClock<'a, R> {
-    /// The clock of this runtime.
+    /// Returns the clock of this runtime.
     pub fn new(rt: &'a R) -> Self {
         SystemClock {
             rt,
@@ -44,7 +44,7 @@ impl<'a, R: rt::Clock> SystemClock<'a, R> {
         }
     }
 
-    /// The moment, where it can be had.
+    /// Returns the moment, if it is available.
     fn moment(&self) -> Option<Moment> {
         let time = SystemTime::now(self.rt).ok()?;
         let since = time.duration_since(UNIX_EPOCH).ok()?;

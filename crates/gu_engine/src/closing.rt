@@ -1,4 +1,4 @@
-//! How a house that closes ends a connection.
+//! Ending a connection when the house closes.
 
 ghost use Rattle.std.specs.Prelude.{◌≡◌, ◌⊎◌, true, IfErr, IsErrOf, OnErr, OnOk};
 ghost use Rattle.gu_engine.specs.Closings.{Closes, HoldsTheSame, IsIdle};
@@ -10,10 +10,10 @@ use crate::connection::Connection;
 use crate::house::House;
 use gu_streams::StreamError;
 
-/// Sends a firm that is logged on the Logout of a house that closes, at the clock's moment: it is held after what is held already. The
-/// connection is over then.
+/// Sends a logged-on firm the Logout of a closing house, at the clock's moment; it is held after the answers already held. The connection
+/// is then over.
 ///
-/// It is for a connection whose last turn left nothing to be answered (`Backlog::is_idle`).
+/// Call it only for a connection whose last turn left nothing unanswered (`Backlog::is_idle`).
 pub fn close<H: House, C: Clock, O>(
     connection: &mut Connection<H, C>,
     backlog: &mut Backlog<O>,

@@ -1,4 +1,4 @@
-//! One connection of a firm: its session, the house that answers it, and a clock.
+//! A firm's connection: its session, the house that answers it, and a clock.
 
 ghost use Rattle.std.specs.Prelude.{◌≡◌, ◌<◌, ◌^◌, ◌++◌, ◌||◌, [], not, List, Option, ℕ, true, IfOk, OnErr, OnOk};
 ghost use Rattle.gu_engine.specs.Exchange.{AnswersAny, AnswersAsked, AnswersFrame, ClosesSession, EndsSession, IsNew, SendsAny, SendsNotice, SendsStretch, TakesInput, TellsStretch, Ticks, Waits, conversation_of, is_due, resumed};
@@ -16,29 +16,29 @@ use gu_session::{AskRef, Asked, Outcome, Session, Taken};
 use gu_terms::{FirmId, Moment, Notice, Stretch};
 use std::alloc::{AllocError, Global};
 
-/// One connection of a firm.
+/// A connection of a firm.
 #[derive(Drop)]
 pub struct Connection<H, C> {
     house: H,
     session: Session,
-    /// The first entry whose notices the firm hasn't had.
+    /// The first entry whose notices the firm hasn't received.
     next: u64,
     /// Whether there may be such notices.
     is_behind: bool,
     clock: C,
-    /// Whether the session gave the close.
+    /// Whether the session has ended.
     is_over: bool,
 }
 
 impl<H, C> Connection<H, C> {
-    /// A connection in which one of these firms may log on. Its notices begin with the first entry.
+    /// Returns a connection in which one of these firms may log on. Its notices begin with the first entry.
     pub fn new(alloc: Global, firms: Vec<FirmId>, house: H, clock: C) -> Self
         ensures { IsNew result firms.items house clock }
     {
         Connection::resume(Conversation::new(alloc, firms), house, clock)
     }
 
-    /// Goes on with a conversation, over this house and this clock.
+    /// Returns a connection that resumes a conversation with this house and this clock.
     pub fn resume(conversation: Conversation, house: H, clock: C) -> Self
         ensures { result ≡ resumed conversation house clock }
     {
@@ -58,7 +58,7 @@ impl<H, C> Connection<H, C> {
         }
     }
 
-    /// Returns the conversation, to be gone on with later.
+    /// Returns the conversation, to be resumed later.
     pub fn rest(self) -> Conversation
     where
         H: Drop,
@@ -83,14 +83,14 @@ impl<H, C> Connection<H, C> {
         }
     }
 
-    /// Its house.
+    /// Returns its house.
     pub fn house(&self) -> &H
         ensures { result.now ≡ self.now.house }
     {
         &self.house
     }
 
-    /// Its house, which outlives it.
+    /// Returns its house by value.
     pub fn into_house(self) -> H
     where
         C: Drop,
@@ -109,7 +109,7 @@ impl<H, C> Connection<H, C> {
         house
     }
 
-    /// Notes what a step gave besides its messages, and returns what it asks of the house.
+    /// Records the outputs of a step apart from its messages, and returns its request to the house.
     fn note(&mut self, taken: Taken) -> Option<Asked>
         ensures asked { result ≡ taken.handed }
         ensures over { self.new ≡ record self.old { is_over = self.old.is_over || taken.is_closed } }
@@ -119,14 +119,14 @@ impl<H, C> Connection<H, C> {
         handed
     }
 
-    /// Notes that notices may be due.
+    /// Records that notices may be due.
     fn wait(&mut self)
         ensures { Waits self.old [] self.new }
     {
         self.is_behind = true;
     }
 
-    /// Gives the session a frame, appends the bytes that it sends, and returns what it asks of the house.
+    /// Gives the session a frame, appends the bytes that it sends, and returns its request to the house.
     fn hear(
         &mut self,
         frame: Frame,
@@ -172,7 +172,7 @@ impl<H, C> Connection<H, C> {
         Ok(())
     }
 
-    /// Sends a stretch of notices. More are due unless it is the last.
+    /// Sends a batch of notices. More are due unless it is the last.
     fn send_stretch(
         &mut self,
         stretch: Stretch,
@@ -190,7 +190,7 @@ impl<H, C> Connection<H, C> {
         self.send_all(notices.list, now, output)
     }
 
-    /// Sends the notices that the house added to its answer. If it added none, they may be due.
+    /// Sends the notices that the house added to its answer. If it added none, some may be due.
     fn send_any(
         &mut self,
         stretch: Option<Stretch>,
@@ -206,7 +206,7 @@ impl<H, C> Connection<H, C> {
         }
     }
 
-    /// Gives the session the answer to what it asked.
+    /// Gives the session the answer to its request.
     fn reply(
         &mut self,
         reference: AskRef,
@@ -232,7 +232,7 @@ impl<H, C> Connection<H, C> {
         Ok(())
     }
 
-    /// Tells the session that the house closes: a firm that is logged on is sent a Logout. After an error nothing has changed.
+    /// Closes the session, as the house closes: a logged-on firm is sent a Logout. After an error nothing has changed.
     pub fn close(&mut self, now: Moment, output: &mut Vec<u8>) -> Result<(), AllocError>
         ensures closed { OnOk result ((text : List ℕ) × (output.new.items ≡ output.old.items ++ text)
             × ClosesSession now self.old text self.new) }
@@ -244,7 +244,7 @@ impl<H, C> Connection<H, C> {
         Ok(())
     }
 
-    /// Tells the session that nothing more comes. It sends nothing then, whatever the moment.
+    /// Ends the session's input. It sends nothing then, at any moment.
     pub fn end(&mut self)
         ensures { EndsSession self.old self.new }
     {
@@ -254,7 +254,7 @@ impl<H, C> Connection<H, C> {
 }
 
 impl<H: House, C> Connection<H, C> {
-    /// Has the house answer what was asked, gives the session the answer, and then sends the notices that the house added.
+    /// Gets the house's answer to a request, gives it to the session, and then sends the notices that the house added.
     fn answer_asked(
         &mut self,
         asked: Asked,
@@ -276,7 +276,7 @@ impl<H: House, C> Connection<H, C> {
         self.send_any(stretch, now, output)
     }
 
-    /// Answers what was asked, if anything was. If not, notices may be due all the same.
+    /// Answers the request, if there is one. If not, notices may be due all the same.
     fn answer_any(
         &mut self,
         asked: Option<Asked>,
@@ -306,7 +306,7 @@ impl<H: House, C> Connection<H, C> {
         self.answer_any(asked, now, output)
     }
 
-    /// Sends the firm that is logged on a stretch of the notices that it hasn't had.
+    /// Sends the logged-on firm a batch of the notices that it hasn't received.
     fn tell_stretch(&mut self, now: Moment, output: &mut Vec<u8>) -> Result<(), AllocError>
         requires { is_due self.old ≡ true }
         ensures told { OnOk result ((text : List ℕ) × (output.new.items ≡ output.old.items ++ text)

@@ -1,4 +1,4 @@
-//! A connection of a firm between its turns.
+//! A firm's connection between its turns.
 
 ghost use Rattle.std.specs.Prelude.{◌≡◌, true};
 ghost use Rattle.gu_engine.specs.Exchange.{firm_of, new_conversation};
@@ -8,20 +8,20 @@ use gu_session::Session;
 use gu_terms::{FirmId, Moment};
 use std::alloc::Global;
 
-/// A connection of a firm between its turns: without the house that answers it, and without a clock.
+/// A firm's connection between its turns: without the house that answers it, and without a clock.
 #[derive(Drop)]
 pub struct Conversation {
     pub(crate) session: Session,
-    /// The first entry whose notices the firm hasn't had.
+    /// The first entry whose notices the firm hasn't received.
     pub(crate) next: u64,
     /// Whether there may be such notices.
     pub(crate) is_behind: bool,
-    /// Whether the session gave the close.
+    /// Whether the session has ended.
     pub(crate) is_over: bool,
 }
 
 impl Conversation {
-    /// Creates one in which one of these firms may log on. Its notices begin with the first entry.
+    /// Returns a conversation in which one of these firms may log on. Its notices begin with the first entry.
     pub fn new(alloc: Global, firms: Vec<FirmId>) -> Self
         ensures { result ≡ new_conversation firms.items }
     {
@@ -33,28 +33,28 @@ impl Conversation {
         }
     }
 
-    /// Returns the firm once it is logged on, also after the end.
+    /// Returns the firm after it logs on, even after the end.
     pub fn firm(&self) -> Option<FirmId>
         ensures { result ≡ firm_of self.now.session }
     {
         self.session.firm()
     }
 
-    /// Returns the first entry whose notices the firm hasn't had.
+    /// Returns the first entry whose notices the firm hasn't received.
     pub fn next(&self) -> u64
         ensures { result ≡ self.now.next }
     {
         self.next
     }
 
-    /// Returns whether the session gave the close.
+    /// Returns whether the session has ended.
     pub fn is_over(&self) -> bool
         ensures { result ≡ self.now.is_over }
     {
         self.is_over
     }
 
-    /// Returns the next moment at which a tick does something, as long as nothing else comes; or None if it never does.
+    /// Returns the next moment at which a tick does something if no other input comes first, or None if it never does.
     pub fn due_at(&self) -> Option<Moment>
         ensures rests { RestsUntil self.now.session result }
         ensures acts { ActsAt self.now.session result }
@@ -62,8 +62,7 @@ impl Conversation {
         self.session.due_at()
     }
 
-    /// Returns the MsgSeqNum (34) that the firm's next message is to have, which is 1 before its Logon, and that of the next message to
-    /// send.
+    /// Returns the expected MsgSeqNum (34) of the firm's next message (1 before its Logon), and that of the next message to send.
     pub fn numbers(&self) -> (u64, u64)
         ensures expected { result.0 ≡ expected_of self.now.session }
         ensures next { result.1 ≡ self.now.session.next }
@@ -71,7 +70,7 @@ impl Conversation {
         self.session.numbers()
     }
 
-    /// Notes that notices may be due.
+    /// Records that notices may be due.
     pub fn expect_notices(&mut self)
         ensures { self.new ≡ record self.old { is_behind = true } }
     {

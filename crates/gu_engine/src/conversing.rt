@@ -13,7 +13,7 @@ use gu_streams::{CountedReads, StreamError};
 use std::alloc::Global;
 use std::io::{Read, Write};
 
-/// The exchange of one session with its house, over a reader and a writer, up to the end of the input or the close of the session.
+/// Runs the exchange of one session with its house, up to the end of the input or of the session, and returns the connection.
 pub fn converse<R: Read, W: Write, H: House, C: Clock>(
     alloc: Global,
     connection: &mut Connection<H, C>,
@@ -23,12 +23,12 @@ pub fn converse<R: Read, W: Write, H: House, C: Clock>(
     ensures exchanged { OnOk result (Exchanged H.rules C.ahead C.has_failed connection.old connection.new
         (streams_of R.remaining W.contents reads.old reads.new writer.old writer.new)) }
 
-    // Where the reader or the clock failed, or no read was left, all that was read before is exchanged, and exactly that was written.
+    // If the reader or the clock failed, or no reads are left, everything read before is answered, and exactly that was written.
     ensures answered { IsErrOf result StreamError.Read → ExchangedSoFar H.rules C.ahead C.has_failed connection.old connection.new
         (streams_of R.remaining W.contents reads.old reads.new writer.old writer.new) }
     ensures stopped { IsErrOf result StreamError.Read → HasStopped reads.new ⊎ (C.has_failed connection.new.clock ≡ true) }
 
-    // After any error.
+    // After any error, a prefix of the exchange was written.
     ensures part { OnErr result (ExchangedInPart H.rules C.ahead C.has_failed connection.old
         (streams_of R.remaining W.contents reads.old reads.new writer.old writer.new)) }
 {

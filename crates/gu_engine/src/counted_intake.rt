@@ -1,4 +1,4 @@
-//! An intake that can find that it keeps no bytes.
+//! An intake that knows when it is empty.
 
 ghost use Rattle.std.specs.Prelude.{◌≡◌, ◌++◌, ◌<◌, [], length, IfNone, IfOk, IfSome, OnErr, OnOk};
 ghost use Rattle.gu_fix.specs.Stream.{AreFrames, IsFirstFrame, IsOpen, LeadsOn};
@@ -7,12 +7,12 @@ use gu_fix::{FeedError, Frame, Intake};
 use std::alloc::Global;
 use std::marker::Model;
 
-/// The bytes of a reader of which no frame was taken yet, counted. To a contract it is those bytes.
+/// A reader's bytes from which no frame was taken yet, counted. To a contract it is those bytes.
 #[derive(Drop)]
 pub struct CountedIntake {
     alloc: Global,
     intake: Intake,
-    /// At most this many bytes are kept. Garbled bytes that were dropped still count.
+    /// An upper bound on the bytes stored. Garbled bytes that were dropped still count.
     most: usize,
 }
 
@@ -27,7 +27,7 @@ impl Model for CountedIntake {
 }
 
 impl CountedIntake {
-    /// Creates an intake that keeps no bytes.
+    /// Returns an empty intake.
     pub fn new(alloc: Global) -> Self
         ensures { result ≡ [] }
     {
@@ -67,7 +67,7 @@ impl CountedIntake {
         Ok(next)
     }
 
-    /// Gives back the room for bytes, if none are kept.
+    /// Releases the memory for bytes, if none are stored.
     pub fn release(&mut self)
         ensures { self.new ≡ self.old }
     {

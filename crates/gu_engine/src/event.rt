@@ -1,11 +1,11 @@
-//! What an engine is given.
+//! Inputs of an engine.
 
 use gu_fix::Frame;
 
-/// What an engine is given, one thing after another.
+/// An event that an engine is given.
 #[derive(Drop)]
 pub enum Event {
-    /// A whole message came.
+    /// A whole message arrived.
     Frame(Frame),
     /// A turn began in which the reader has nothing for now.
     Silence,

@@ -1,4 +1,4 @@
-//! An outlet that lets a first part of what is held go, once answers may go out.
+//! An outlet that may hold answers back, or send only the first bytes.
 
 ghost use Rattle.std.specs.Prelude.{◌≡◌, ◌+◌, ◌≤◌, drop, false, length, take, IfErr, IfOk, OnErr, OnOk};
 ghost use Rattle.std.specs.Io.KnownBytes.{Appends};
@@ -7,28 +7,28 @@ ghost use Rattle.gu_streams.specs.Written.{LetsGo, WrotePart};
 use gu_streams::{Outlet, StreamError};
 use std::io::{ErrorKind, Write};
 
-/// An outlet that lets at most a number of the bytes go that are held, as far as the writer takes them without waiting.
+/// An outlet that sends at most a number of the bytes held, as far as the writer accepts them without waiting.
 #[derive(Drop)]
 pub struct Gate {
     most: usize,
 }
 
 impl Gate {
-    /// Creates one that lets nothing go.
+    /// Returns a gate that sends nothing.
     pub fn closed() -> Self
         ensures { result.most ≡ 0 }
     {
         Gate { most: 0 }
     }
 
-    /// Creates one that lets all go.
+    /// Returns a gate that sends everything.
     pub fn open() -> Self
         ensures { result.most ≡ usize.MAX }
     {
         Gate { most: usize::MAX }
     }
 
-    /// Creates one that lets go of this many bytes at most, each time anew.
+    /// Returns a gate that sends at most this many bytes each time.
     pub fn up_to(most: usize) -> Self
         ensures { result.most ≡ most }
     {
@@ -36,14 +36,14 @@ impl Gate {
     }
 }
 
-/// Writes of a text as much as the writer takes without waiting, and returns how much that is. After an error some prefix was written.
+/// Writes as much of a text as the writer accepts without waiting, and returns the number of bytes. After an error some prefix was written.
 fn write_some<W: Write>(writer: &mut W, text: &[u8]) -> Result<usize, StreamError>
     ensures within { IfOk result (λ count. count ≤ length text.now) }
     ensures ok { IfOk result (λ count. Appends (W.contents writer.old) (W.contents writer.new) (take count text.now)) }
     ensures err { OnErr result (WrotePart text.now (W.contents writer.old) (W.contents writer.new)) }
     ensures fault { IfErr result (λ error. error ≡ StreamError.Write) }
 
-    // No text is written without asking the writer.
+    // If the text is empty, the writer isn't called.
     ensures unasked { length text.now ≡ 0 → writer.new ≡ writer.old }
 {
     let mut at = 0;
@@ -62,7 +62,7 @@ fn write_some<W: Write>(writer: &mut W, text: &[u8]) -> Result<usize, StreamErro
     Ok(at)
 }
 
-/// Drops the first bytes, this many, and moves the others once. (`drain` walks over all of them three times.)
+/// Drops the first `count` bytes, moving the others once. (`drain` passes over all of them three times.)
 fn drop_first(bytes: &mut Vec<u8>, count: usize)
     requires { count ≤ length bytes.old.items }
     ensures { bytes.new.items ≡ drop count bytes.old.items }
@@ -84,12 +84,12 @@ impl Outlet for Gate {
         ensures kept { OnErr result (held.new.items ≡ held.old.items) }
         ensures fault { IfErr result (λ error. error ≡ StreamError.Write) }
 
-        // At most so many bytes go, also before an error.
+        // At most this many bytes are sent, even before an error.
         ensures most { OnOk result (length held.old.items ≤ length held.new.items + self.old.most) }
         ensures first { OnErr result (WrotePart (take self.old.most held.old.items) (W.contents writer.old) (W.contents writer.new)) }
         ensures same { self.new ≡ self.old }
 
-        // While it is closed nothing happens.
+        // While it is closed, nothing happens.
         ensures unwritten { self.old.most ≡ 0 → writer.new ≡ writer.old }
         ensures held { self.old.most ≡ 0 → held.new.items ≡ held.old.items }
     {

@@ -1,4 +1,4 @@
-//! Answers that are held.
+//! Answers waiting to be sent.
 
 ghost use Rattle.std.specs.Prelude.{◌≡◌, ◌≤◌, ◌<◌, ◌+◌, ◌↔◌, [], true, length, take, IfErr, IsTrue, OnErr, OnOk};
 ghost use Rattle.gu_streams.specs.Written.{WrotePart};
@@ -9,10 +9,10 @@ use gu_streams::{Outlet, StreamError};
 use std::alloc::Global;
 use std::io::Write;
 
-/// How many bytes may be held where one more event is answered: with more, a turn is cut.
+/// The most bytes that may be held when one more event is answered; with more, a turn is cut.
 const MOST_HELD: usize = 65_536;
 
-/// Answers that are held, and how they go out.
+/// Answers waiting to be sent, and the outlet that sends them.
 #[derive(Drop)]
 pub struct Held<O> {
     pub(crate) bytes: Vec<u8>,
@@ -20,7 +20,7 @@ pub struct Held<O> {
 }
 
 impl<O> Held<O> {
-    /// Holds nothing yet.
+    /// Returns a buffer that holds nothing yet.
     pub(crate) fn new(alloc: Global, outlet: O) -> Self
         ensures { result.bytes.items ≡ [] }
     {
@@ -37,7 +37,7 @@ impl<O> Held<O> {
         self.bytes.len() > MOST_HELD
     }
 
-    /// Gives back the room for answers, if none are held.
+    /// Releases the memory for answers, if none are held.
     pub(crate) fn release(&mut self)
         ensures held { self.new.bytes.items ≡ self.old.bytes.items }
         ensures outlet { self.new.outlet ≡ self.old.outlet }
@@ -47,7 +47,7 @@ impl<O> Held<O> {
         }
     }
 
-    /// Lets go of a first part of what is held, of at most this many bytes, whatever its outlet.
+    /// Sends at most this many of the first bytes held, whatever the outlet.
     pub(crate) fn let_go_first<W: Write>(
         &mut self,
         most: usize,
@@ -65,7 +65,7 @@ impl<O> Held<O> {
 }
 
 impl<O: Drop> Held<O> {
-    /// Lets go by another outlet from now on.
+    /// Sends through another outlet from now on.
     pub(crate) fn set_outlet(&mut self, outlet: O)
         ensures held { self.new.bytes ≡ self.old.bytes }
         ensures outlet { self.new.outlet ≡ outlet }
@@ -75,7 +75,7 @@ impl<O: Drop> Held<O> {
 }
 
 impl<O: Outlet> Held<O> {
-    /// Lets go of a first part of what is held.
+    /// Sends the first of the bytes held.
     pub(crate) fn let_go<W: Write>(&mut self, writer: &mut W) -> Result<(), StreamError>
         ensures given { OnOk result (Gives [] self.old.bytes.items self.new.bytes.items (W.contents writer.old) (W.contents writer.new)) }
         ensures all { OnOk result (O.takes_all ≡ true → self.new.bytes.items ≡ []) }
@@ -85,7 +85,7 @@ impl<O: Outlet> Held<O> {
         self.outlet.let_go(writer, &mut self.bytes)
     }
 
-    /// Lets go of a first part of it, where it is much.
+    /// Sends the first of them, if many are held.
     pub(crate) fn send_if_much<W: Write>(&mut self, writer: &mut W) -> Result<(), StreamError>
         ensures given { OnOk result (Gives [] self.old.bytes.items self.new.bytes.items (W.contents writer.old) (W.contents writer.new)) }
         ensures few { OnOk result (O.takes_all ≡ true → length self.new.bytes.items ≤ 65536) }

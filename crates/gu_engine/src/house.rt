@@ -1,4 +1,4 @@
-//! The house that answers what a connection's firm asks, and has notices for it.
+//! The house that answers a connection's firm, and has notices for it.
 
 ghost use Rattle.std.specs.Prelude.{◌≡◌, ◌<◌, false, IfOk, IsOk};
 ghost use Rattle.gu_engine.specs.Houses.{AnswersAsk, IsCommand};
@@ -8,12 +8,12 @@ use gu_session::Outcome;
 use gu_terms::{FirmId, Moment, Stretch};
 use std::alloc::AllocError;
 
-/// What a firm asks of a house.
+/// A firm's request to a house.
 #[derive(Drop)]
 pub struct Ask {
     /// The firm that asks.
     pub firm: FirmId,
-    /// The MsgSeqNum (34) of the message that asks.
+    /// The MsgSeqNum (34) of the message with the request.
     pub number: u64,
     /// The moment of the turn that brought the message.
     pub now: Moment,
@@ -21,35 +21,35 @@ pub struct Ask {
     pub request: Request,
 }
 
-/// What a house gives for an `Ask`.
+/// A house's answer to an `Ask`.
 #[derive(Drop)]
 pub struct Answered {
     /// What became of it.
     pub outcome: Outcome,
-    /// Notices for the firm that asked, if the house had them at hand. If not, they are asked for.
+    /// Notices for the firm that asked, if the house had them at hand. If not, they are requested separately.
     pub stretch: Option<Stretch>,
 }
 
-/// What answers the requests of a connection, and has notices for its firm.
+/// A house answers the requests of a connection, and has notices for its firm.
 pub trait House {
     ghost use Rattle.gu_engine.specs.Houses.{HouseRules};
 
-    /// How it does so.
+    /// The rules of its answers.
     ghost rules: { HouseRules Self };
 
-    /// Does what is asked, and returns what became of it. The house may add a stretch of the firm's notices, of the entries from a
-    /// number on: the next that the firm will ask for. A command always has an outcome, also if it isn't entered.
+    /// Carries out a request, and returns its outcome. The house may add a batch of the firm's notices of the entries from a number on, the
+    /// next that the firm would ask for. A command always has an outcome, even if it isn't entered.
     fn answer(&mut self, ask: Ask, from: u64) -> Result<Answered, AllocError>
         ensures answered { IfOk result (λ answered. AnswersAsk rules self.old ask from answered self.new) }
         ensures commands { IsCommand ask.request → IsOk result };
 
-    /// Returns a stretch of a firm's notices, of the entries from a number on.
+    /// Returns a batch of a firm's notices of the entries from a number on.
     fn notices(&mut self, firm: &FirmId, from: u64) -> Result<Stretch, AllocError>
         ensures told { IfOk result (λ stretch. rules.tells self.old firm.now from stretch self.new) }
         ensures goes_on { IfOk result (λ stretch. stretch.is_last ≡ false → from < stretch.notices.next) };
 }
 
-/// A house that is lent answers as the house itself.
+/// A borrowed house answers as the house itself.
 impl<H: House> House for &mut H {
     ghost use Rattle.gu_engine.specs.Houses.{lent};
 

@@ -1,16 +1,16 @@
-//! What holds of every engine.
+//! Laws of every engine.
 
 ghost use Rattle.gu_engine.specs.Running.{AreReads, TurnsGoOn};
 ghost use Rattle.gu_engine.specs.Turns.{CutTurnsGoOn, UncutTurnsArePieces};
 
 use crate::answerer::Answerer;
 
-/// Where the reader always has something, or is at its end, each turn is a read of some bytes.
+/// If the reader always has something or is at its end, each turn is a read of some bytes.
 pub fn reads_alone()
     ensures { AreReads }
 {}
 
-/// Turns, and then more turns, are answered as all of them one after another. So an exchange that goes on is one exchange.
+/// Turns followed by more turns are answered as all of them one after another. So an exchange that is resumed is one exchange.
 pub fn turns_go_on<A: Answerer>()
     ensures { TurnsGoOn A.engine }
 {}
@@ -20,8 +20,8 @@ pub fn uncut_turns_are_pieces<A: Answerer>()
     ensures { UncutTurnsArePieces A.engine }
 {}
 
-/// A turn that is cut and those that go on with what it left answer the events that its piece brings: each once, in order, and at the
-/// moment of the turn that answers it.
+/// A cut turn and those that continue with what it left answer the events that its piece brings: each once, in order, and at the moment of
+/// the turn that answers it.
 pub fn cut_turns_go_on<A: Answerer>()
     ensures { CutTurnsGoOn A.engine }
 {}

@@ -1,4 +1,4 @@
-//! The loop of an engine of messages: a reader, an intake, what answers, and a writer; and one connection of a firm as what answers.
+//! The loop of a message engine: a reader, an intake, an answerer and a writer; and a firm's connection as an answerer.
 #![tactic(auto)]
 
 mod answerer;

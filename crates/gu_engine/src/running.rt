@@ -1,4 +1,4 @@
-//! The loop of every engine of messages: reader, backlog, what answers, and writer.
+//! The loop of every message engine: reader, backlog, answerer and writer.
 
 ghost use Rattle.std.specs.Prelude.{◌≡◌, ◌≢◌, ◌⊎◌, ◌≤◌, ◌∷◌, ◌<◌, [], List, ℕ, true, false, length, IfErr, IfOk, IsErrOf, OnErr, OnOk};
 ghost use Rattle.gu_streams.specs.Reads.{HasStopped, IsAhead};
@@ -20,7 +20,7 @@ use gu_terms::Moment;
 use std::alloc::Global;
 use std::io::{Read, Write};
 
-/// Answers an event, where something is left to be done and at most 65,536 bytes are held.
+/// Answers an event, if something is left to do and at most 65,536 bytes are held.
 fn answer_one<W: Write, O: Outlet, A: Answerer>(
     writer: &mut W,
     answerer: &mut A,
@@ -42,7 +42,7 @@ fn answer_one<W: Write, O: Outlet, A: Answerer>(
     held.send_if_much(writer)
 }
 
-/// Gives what is due, part by part, until nothing is or more than 65,536 bytes are held.
+/// Gives what is due, part by part, until nothing is due or more than 65,536 bytes are held.
 fn give_due<W: Write, O: Outlet, A: Answerer>(
     writer: &mut W,
     answerer: &mut A,
@@ -60,7 +60,7 @@ fn give_due<W: Write, O: Outlet, A: Answerer>(
     Ok(())
 }
 
-/// Answers an event that a turn brought, and gives what is due then.
+/// Answers an event that a turn brought, and then gives what is due.
 fn answer_event<W: Write, O: Outlet, A: Answerer>(
     writer: &mut W,
     answerer: &mut A,
@@ -81,8 +81,8 @@ fn answer_event<W: Write, O: Outlet, A: Answerer>(
     give_due(writer, answerer, now, held)
 }
 
-/// Answers what is left to be answered, one event after another, until none is left, more than 65,536 bytes are held or nothing is left
-/// to be done. What is due comes first.
+/// Answers what was left unanswered, one event after another, until none is left, more than 65,536 bytes are held or nothing is left to do.
+/// What is due comes first.
 fn answer_left<W: Write, O: Outlet, A: Answerer>(
     writer: &mut W,
     answerer: &mut A,
@@ -105,8 +105,8 @@ fn answer_left<W: Write, O: Outlet, A: Answerer>(
     Ok(())
 }
 
-/// Lets go of what is held, unless the next turn brings bytes that were read before. If more than 65,536 bytes are held or nothing is left
-/// to be done, it does so all the same.
+/// Sends what is held, unless the next turn brings bytes that were read ahead. If more than 65,536 bytes are held or nothing is left to do,
+/// it sends all the same.
 fn send_unless_ahead<R: Read, W: Write, O: Outlet, A: Answerer>(
     reads: &CountedReads<R>,
     writer: &mut W,
@@ -124,10 +124,10 @@ fn send_unless_ahead<R: Read, W: Write, O: Outlet, A: Answerer>(
     Ok(())
 }
 
-/// Makes one turn: goes on with what the last turn left or else reads once, and answers. It is cut once more than 65,536 bytes are held:
-/// then the rest is left for a later turn. With so many from before that can't go out, nothing is read or answered.
+/// Makes one turn: continues with what the last turn left, or else reads once, and answers. The turn is cut when more than 65,536 bytes are
+/// held: the rest is left for a later turn. If more are held from before and can't go out, nothing is read or answered.
 ///
-/// What is held goes out before the reader is asked, and at the end of the turn unless the next turn brings bytes that were read before.
+/// Held answers are sent before the reader is asked, and at the end of the turn unless the next turn brings bytes that were read ahead.
 pub fn turn<R: Read, W: Write, O: Outlet, A: Answerer>(
     reads: &mut CountedReads<R>,
     writer: &mut W,
@@ -139,14 +139,14 @@ pub fn turn<R: Read, W: Write, O: Outlet, A: Answerer>(
     ensures turned { IfOk result (TurnsTo A.engine R.remaining answerer.old answerer.new
         (work_of W.contents reads.old reads.new writer.old writer.new backlog.old backlog.new)) }
 
-    // Whatever was left, a first part of what was held and answered went out, and the rest is held.
+    // Whatever was left, the first of what was held and answered was sent, and the rest is held.
     ensures gave { IfOk result (λ turned. GivesSome backlog.old.held.bytes.items backlog.new.held.bytes.items (W.contents writer.old) (W.contents writer.new)) }
 
-    // By an outlet that always takes all, nothing is held where the next turn asks the reader, and no turn is cut.
+    // With an outlet that always sends everything, nothing is held when the next turn asks the reader, and no turn is cut.
     ensures sent { IfOk result (λ turned. O.takes_all ≡ true → (backlog.new.held.bytes.items ≡ []) ⊎ (IsAhead reads.new × (is_last turned ≡ false))) }
     ensures uncut { IfOk result (λ turned. O.takes_all ≡ true → turned ≢ Turned.Full) }
 
-    // After a fault a prefix of what was held and of the answers went out.
+    // After a fault, a prefix of what was held and of the answers was sent.
     ensures part { OnErr result (TurnsToPart A.engine R.remaining answerer.old answerer.new
         (work_of W.contents reads.old reads.new writer.old writer.new backlog.old backlog.new)) }
     ensures faults { IfErr result IsAnswerFault }
@@ -179,7 +179,7 @@ pub fn turn<R: Read, W: Write, O: Outlet, A: Answerer>(
     Ok(turned)
 }
 
-/// Makes turns until the input is at its end, reading stops or nothing is left to be done, by an outlet that always takes all.
+/// Makes turns until the input ends, reading stops or nothing is left to do, with an outlet that always sends everything.
 fn make_turns<R: Read, W: Write, O: Outlet, A: Answerer>(
     reads: &mut CountedReads<R>,
     writer: &mut W,
@@ -204,9 +204,9 @@ fn make_turns<R: Read, W: Write, O: Outlet, A: Answerer>(
     }
 }
 
-/// Answers what the reader gives, turn by turn, until it is at its end or nothing is left to be done.
+/// Answers what the reader gives, turn by turn, until the input ends or nothing is left to do.
 ///
-/// The answers to a turn are sent before the next read of the reader, and also once there are more than 65,536 bytes of them.
+/// A turn's answers are sent before the reader is read again, and as soon as there are more than 65,536 bytes of them.
 pub fn run<R: Read, W: Write, A: Answerer>(
     alloc: Global,
     reads: &mut CountedReads<R>,
@@ -215,12 +215,12 @@ pub fn run<R: Read, W: Write, A: Answerer>(
 ) -> Result<(), StreamError>
     ensures done { OnOk result (Served A.engine answerer.old answerer.new (streams_of R.remaining W.contents reads.old reads.new writer.old writer.new)) }
 
-    // Where reading stopped, all that was read before is answered, and exactly that was written.
+    // If reading stopped, everything read before is answered, and exactly that was written.
     ensures answered { IsErrOf result StreamError.Read
         → ServedSoFar A.engine answerer.old answerer.new (streams_of R.remaining W.contents reads.old reads.new writer.old writer.new) }
     ensures stopped { IsErrOf result StreamError.Read → HasStopped reads.new ⊎ FailsToBegin A.engine answerer.new }
 
-    // In any case, and so after each error: what was written is a prefix of the answers to what was read.
+    // In every case, and so after each error: what was written is a prefix of the answers to what was read.
     ensures part { ServedInPart A.engine answerer.old (streams_of R.remaining W.contents reads.old reads.new writer.old writer.new) }
 {
     let mut backlog = Backlog::new(alloc, Blocking);

@@ -1,28 +1,28 @@
-//! What became of a turn.
+//! Results of a turn.
 
 ghost use Rattle.std.specs.Prelude.{◌≡◌};
 ghost use Rattle.gu_engine.specs.Turned.{is_last};
 
-/// What became of a turn, and so when the next one is. While some answers are still held (`Backlog::is_sent`), the next one is also
-/// once they can go out.
+/// The result of a turn, which says when to make the next. As long as answers are held (`Backlog::is_sent`), the next turn is also due when
+/// they can go out.
 #[derive(Clone, Copy, Debug, PartialEq, Eq)]
 pub enum Turned {
-    /// All that it had to answer is answered, and the reader may have more: at once.
+    /// Everything is answered, and the reader may have more: at once.
     Again,
-    /// The same, and the reader has nothing for now: once it has.
+    /// Everything is answered, and the reader has nothing for now: when it has more.
     Waits,
-    /// More than 65,536 bytes are held: nothing was read, or some of what it had to answer may be left: once they can go out.
+    /// More than 65,536 bytes are held, so nothing was read, or some events may be left unanswered: when they can go out.
     Full,
-    /// Nothing is left to be done: no more, once all answers went out.
+    /// Nothing is left to do: no further turn, once all answers are sent.
     Done,
-    /// The reader is at its end: no more, once all answers went out.
+    /// The input has ended: no further turn, once all answers are sent.
     End,
-    /// Reading stopped, or the turn couldn't begin: no more.
+    /// Reading stopped, or the turn couldn't begin: no further turn.
     Stopped,
 }
 
 impl Turned {
-    /// Returns whether no further turn is to be made.
+    /// Returns whether no further turn is due.
     pub fn is_last(self) -> bool
         ensures { result ≡ is_last self }
     {

@@ -1,5 +1,5 @@
 -- A desk asks for an entry, perhaps several times.
-use Rattle.std.proofs.Common.{◌≡◌, ℕ, ◌+◌, ◌≤◌, List, length, inl, inr, ⊎_elim, refl, ◌∙◌, subst, arith}
+use Rattle.std.proofs.Common.{◌≡◌, ℕ, ◌+◌, List, length, inl, inr, ⊎_elim, refl, ◌∙◌, subst, arith}
 use Rattle.gu_journal.specs.Crashes.{Elapses, LeavesOnly}
 use Rattle.gu_etcd.specs.declared.node.Node.{Ghosts}
 use Rattle.gu_etcd.specs.Counts.{CountsStay}

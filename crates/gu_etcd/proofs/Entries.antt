@@ -1,13 +1,33 @@
 -- The desk and the batch of an entry.
-use Rattle.std.proofs.Common.{◌≡◌, List, [], ◌∷◌, ◌++◌, ℕ, sym, ◌∙◌, ap, subst, append_assoc, codes}
+use Rattle.std.proofs.Common.{◌≡◌, List, [], ◌∷◌, ◌++◌, ◌+◌, ◌≤◌, ℕ, length, refl, sym, ◌∙◌, ap, subst, arith, append_assoc, codes}
+use Rattle.std.proofs.lemmas.List.{length-append}
+use Rattle.gu_journal.specs.declared.sink.TheConstants.{MAX_BATCH}
+use Rattle.gu_etcd.specs.declared.name.TheConstants.{MAX_NAME}
+use Rattle.gu_etcd.specs.declared.node.TheConstants.{MAX_ENTRY}
 use Rattle.gu_etcd.specs.Keys.{IsName}
-use Rattle.gu_etcd.specs.Log.{entry_of}
+use Rattle.gu_etcd.specs.Log.{IsOf, desk_line, entry_of}
 use Rattle.gu_etcd.specs.Splitting.{Lacks}
 use Rattle.gu_etcd.proofs.Splits.{has_it, name_lacks, one_split}
 
 -- what follows the head of an entry
 pub after_head : (desk batch : List ℕ) → (desk ++ 10 ∷ []) ++ batch ≡ desk ++ 10 ∷ batch
 after_head desk batch = append_assoc desk (10 ∷ []) batch
+
+-- a batch under the name of a desk is short enough for an entry
+pub short_entry : (desk batch : List ℕ) → IsName desk → length batch ≤ MAX_BATCH → length (entry_of desk batch) ≤ MAX_ENTRY
+short_entry desk batch named short =
+    let head : length (codes "# desk ") ≡ 7 = refl in
+    let name : MAX_NAME ≡ 64 = refl in
+    let most : MAX_ENTRY ≡ MAX_BATCH + 128 = refl in
+    omega (arith, head, name, most, named.short, short, length-append (desk_line desk) batch, length-append (codes "# desk ") (desk ++ 10 ∷ []), length-append desk (10 ∷ []))
+
+-- what was made with a name is the entry of the desk with the name
+pub entry_is : (text made name desk batch : List ℕ) → text ≡ made → made ≡ entry_of name batch → name ≡ desk → text ≡ entry_of desk batch
+entry_is text made name desk batch same is named = same ∙ is ∙ ap (λ (d : List ℕ). entry_of d batch) named
+
+-- it is one of the desk that leads under the name
+pub own_entry : (name desk batch entry : List ℕ) → name ≡ desk → entry ≡ entry_of name batch → IsOf desk entry
+own_entry name desk batch entry same is = record { batch = batch; is = is ∙ ap (λ (d : List ℕ). entry_of d batch) same }
 
 -- an entry is of one desk
 pub one_desk : (a b x y : List ℕ) → IsName a → IsName b → entry_of a x ≡ entry_of b y → (a ≡ b) × (x ≡ y)

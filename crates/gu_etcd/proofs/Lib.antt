@@ -4,3 +4,5 @@ mod Asking
 mod Recalling
 mod Splits
 mod Entries
+mod OwnParts
+mod SinkMoments

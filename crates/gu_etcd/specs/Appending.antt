@@ -1,5 +1,7 @@
 -- Why an appender stops.
 use Rattle.std.specs.Prelude.{◌≡◌, ◌<◌, ◌≤◌, ℕ, List, length}
+use Rattle.gu_journal.specs.declared.sink.SinkError.{SinkError}
+use Rattle.gu_journal.specs.declared.sink.SinkError.TheVariants as sink
 use Rattle.gu_journal.specs.declared.stopped.Stopped.{Stopped}
 use Rattle.gu_etcd.specs.declared.appender.AppendError.{AppendError}
 use Rattle.gu_etcd.specs.declared.appender.AppendError.TheVariants.{Failed, Fenced, Full, Memory}
@@ -13,3 +15,10 @@ pub record HasReason {N : Type 0} (counts : Counts N) (kept : List (List ℕ)) (
   pub failed : stopped.error ≡ Failed → counts.failures old < counts.failures stopped.place
   pub fenced : stopped.error ≡ Fenced → counts.refusals old < counts.refusals stopped.place
   pub full : stopped.error ≡ Full → LAST_NUMBER ≤ length kept
+
+-- the error of a sink for an appender's
+abbrev pub sink_error_of : AppendError → SinkError
+sink_error_of Memory = sink.Memory
+sink_error_of Failed = sink.Failed
+sink_error_of Fenced = sink.Fenced
+sink_error_of Full = sink.Full

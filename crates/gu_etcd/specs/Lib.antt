@@ -12,3 +12,5 @@ pub mod InMemory
 pub mod Steps
 pub mod Splitting
 pub mod Pages
+pub mod Texts
+pub mod Sinks

@@ -54,6 +54,13 @@ impl<N: Node> Appender<N> {
         Appender { node, count }
     }
 
+    /// Returns a reference to its node.
+    pub fn node(&self) -> &N
+        ensures { result.now ≡ node_of self.now }
+    {
+        &self.node
+    }
+
     /// Returns how many entries are kept.
     pub fn count(&self) -> u64
         ensures { N.is_honest (node_of self.now) → result ≡ length (kept_by self.now) }
@@ -72,6 +79,7 @@ impl<N: Node> Appender<N> {
         // The entry names its desk, so another desk's batch is never taken for it, even one of the same text.
         ensures kept { IfOk result (λ appender. N.is_honest (node_of appender) → kept_by appender ≡ kept_by self ++ entry.now ∷ []) }
         ensures leader { IfOk result (λ appender. N.is_honest (node_of appender) → leader_of appender ≡ leader_of self) }
+        ensures leader_stopped { IfErr result (λ stopped. N.is_honest stopped.place → N.leader stopped.place ≡ leader_of self) }
 
         // At any moment of the call the log has what was kept, and of this desk nothing after it, or this entry next.
         ensures any_moment { IfOk result (λ appender. N.is_honest (node_of appender)

@@ -61,6 +61,13 @@ impl MemoryNode {
         }
     }
 
+    /// Returns the entries of its log, in order.
+    pub fn log(&self) -> &[Vec<u8>]
+        ensures { result.now ≡ self.now.log.items }
+    {
+        &self.log
+    }
+
     /// Has another desk lead.
     pub fn lose_leadership(&mut self)
         ensures { self.new ≡ record self.old { leads = false } }

@@ -1,8 +1,9 @@
 //! Names of logs and of desks.
 
-ghost use Rattle.std.specs.Prelude.{◌≡◌, ◌↔◌, IsTrue, MatchOption};
+ghost use Rattle.std.specs.Prelude.{◌≡◌, ◌↔◌, IfOk, IsTrue, MatchOption};
 ghost use Rattle.gu_etcd.specs.Keys.{IsName, is_name_byte};
 
+use std::alloc::{AllocError, Global};
 use std::marker::Model;
 
 /// The most bytes that a name may have.
@@ -54,6 +55,15 @@ impl Name {
         } else {
             None
         }
+    }
+
+    /// Returns a copy.
+    pub fn copy(&self, alloc: Global) -> Result<Name, AllocError>
+        ensures { IfOk result (λ name. name ≡ self.now) }
+    {
+        Ok(Name {
+            bytes: Vec::from_slice(alloc, &self.bytes)?,
+        })
     }
 
     /// Returns its bytes.

@@ -6,13 +6,11 @@ ghost use Rattle.gu_etcd.specs.Counts.{Counts};
 ghost use Rattle.gu_etcd.specs.Log.{IsOf};
 ghost use Rattle.gu_etcd.specs.Node.{Follows, HasCause, Puts, Says, known_after};
 
+use gu_journal::MAX_BATCH;
 use std::alloc::{AllocError, AllocFailed, Global};
 use thiserror::Error;
 
-/// The most bytes that a batch may have.
-pub const MAX_BATCH: usize = 512 << 10;
-
-/// The most bytes that an entry may have: a batch under the name of a desk.
+/// The most bytes that an entry may have: a batch of a journal, under the name of a desk.
 pub const MAX_ENTRY: usize = MAX_BATCH + 128;
 
 /// The last number that an entry may have: numbers are written with ten digits.

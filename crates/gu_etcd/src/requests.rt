@@ -28,6 +28,8 @@ pub const RANGE_PATH: &str = "/v3/kv/range";
 pub const GRANT_PATH: &str = "/v3/lease/grant";
 /// The path at which leases are kept alive.
 pub const KEEP_ALIVE_PATH: &str = "/v3/lease/keepalive";
+/// The path at which leases are given back.
+pub const REVOKE_PATH: &str = "/v3/lease/revoke";
 
 /// Returns bytes in base64.
 fn coded(alloc: Global, bytes: &[u8]) -> Result<String, AllocError>
@@ -133,7 +135,7 @@ pub fn grant_text(alloc: Global, seconds: u64) -> Result<String, AllocError>
     format!(in alloc; "{{\"TTL\":\"{seconds}\",\"ID\":\"0\"}}")
 }
 
-/// Returns the request that a lease goes on.
+/// Returns the request that a lease goes on, or, at its path, that it ends.
 pub fn keep_alive_text(alloc: Global, lease: u64) -> Result<String, AllocError>
     ensures { IfOk result (λ text. string_bytes text ≡ keep_alive_text lease) }
 {

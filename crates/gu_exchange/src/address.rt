@@ -14,8 +14,10 @@ use std::alloc::Global;
 /// The address `etcd://HOST:PORT[,HOST:PORT..]/NAME` of a log. Its hosts are of this machine.
 #[derive(Drop)]
 pub struct Address {
+    /// At least one.
     pub endpoints: Vec<Vec<u8>>,
     pub name: Name,
+    ghost some: { 0 < length endpoints.items },
 }
 
 /// Adds an endpoint, if the text is one.
@@ -25,6 +27,7 @@ fn add_endpoint(
     text: &[u8],
 ) -> Result<(), AddressError>
     ensures added { OnOk result (log_of endpoints.new.items ≡ log_of endpoints.old.items ++ text.now ∷ []) }
+    ensures some { OnOk result (0 < length endpoints.new.items) }
     ensures is_one { OnOk result (IsEndpoint text.now) }
     ensures refused { IsErrOf result NotAnAddress → ¬ IsEndpoint text.now }
 {
@@ -39,6 +42,7 @@ fn add_endpoint(
 fn endpoints_of(alloc: Global, text: &[u8]) -> Result<Vec<Vec<u8>>, AddressError>
     ensures listed { IfOk result (λ endpoints. log_of endpoints.items ≡ between_commas text.now) }
     ensures each { IfOk result (λ endpoints. AllByRecursion IsEndpoint (log_of endpoints.items)) }
+    ensures some { IfOk result (λ endpoints. 0 < length endpoints.items) }
     ensures refused { IsErrOf result NotAnAddress → ¬ AllByRecursion IsEndpoint (between_commas text.now) }
 {
     let mut endpoints = Vec::new(alloc);

@@ -1,4 +1,4 @@
--- How bytes meet a body.
+-- Comparing bytes with a body.
 use Rattle.std.proofs.Common.{◌≡◌, ℕ, ◌+◌, ◌-◌, ◌<◌, ◌≤◌, List, [], ◌∷◌, ◌++◌, length, take, drop, get_or, sym, ap, ◌∙◌, append_assoc, arith}
 use Rattle.std.specs.Prelude.{replicate}
 use Rattle.std.proofs.lemmas.List.{length-take-le, length-append, length-replicate, get_or-append-add, get_or_append_left, get_or_at}
@@ -6,11 +6,11 @@ use Rattle.gu_fix.specs.WholeMessage.{soh, type_tag, body_of}
 use Rattle.gu_fix.proofs.WholeLemmas.{length-type_tag}
 use Rattle.gu_fix.proofs.Lengths.{split_at}
 
--- a body has four bytes more than what stands within it
+-- a body has four bytes more than its inner part
 pub length-body : (inner : List ℕ) → length (body_of inner) ≡ length inner + 4
 length-body inner = simp (length-append, length-type_tag) (omega arith)
 
--- what is known of bytes that begin with the tag
+-- bytes that begin with the tag
 pub body_begins : (bytes rest : List ℕ) (len : ℕ) → 4 ≤ len → bytes ≡ type_tag ++ rest → len ≤ length bytes → get_or bytes (len - 1) 0 ≡ soh
     → (inner : List ℕ) × (after : List ℕ) × (length (body_of inner) ≡ len) × (bytes ≡ body_of inner ++ after)
 body_begins bytes rest len least e room last =
@@ -57,7 +57,7 @@ pub body_apart_tag : (bytes : List ℕ) (len : ℕ) → ((more rest : List ℕ) 
 body_apart_tag bytes len apart inner more rest l e =
     apart more ((inner ++ soh ∷ []) ++ rest) (e ∙ simp append_assoc)
 
--- bytes whose last byte of that length isn't SOH begin no body of it
+-- bytes whose last byte at that length isn't SOH begin no body of that length
 pub body_apart_end : (bytes : List ℕ) (len : ℕ) → 4 ≤ len → len ≤ length bytes → (get_or bytes (len - 1) 0 ≡ soh → ⊥)
     → (inner more rest : List ℕ) → length (body_of inner) ≡ len → bytes ++ more ≡ body_of inner ++ rest → ⊥
 body_apart_end bytes len least room other inner more rest l e =

@@ -10,7 +10,7 @@ use Rattle.std.proofs.lemmas.Str.Parse.{digit_from_value}
 use Rattle.gu_fix.specs.WholeMessage.{soh}
 use Rattle.gu_fix.proofs.WholeLemmas.{soh_no_digit}
 
--- where digits are followed by a byte that isn't SOH, the text goes on with that byte
+-- if digits are followed by a byte that isn't SOH, the text continues with that byte
 pub longer_digits : (a digits : List ℕ) (b : ℕ) (x y : List ℕ) → AllDigits 10 a → AllDigits 10 digits → (b ≡ soh → ⊥) → a ++ b ∷ x ≡ digits ++ soh ∷ y → (length a < length digits) × (digit_value b < 10)
 longer_digits [] [] b x y p q other e = absurd (other cc)
 longer_digits [] (d ∷ ds) b x y p q other e =
@@ -23,7 +23,7 @@ longer_digits (c ∷ cs) (d ∷ ds) b x y p q other e =
     let r = longer_digits cs ds b x y p.1 q.1 other tails in
     (omega (arith, r.0), r.1)
 
--- where nothing but digits has come, the text goes on from them
+-- if only digits have come, the text continues from them
 pub digits_front : (a digits x y : List ℕ) → AllDigits 10 a → AllDigits 10 digits → a ++ x ≡ digits ++ soh ∷ y → (tail : List ℕ) × (digits ≡ a ++ tail)
 digits_front [] digits x y p q e = (digits, refl)
 digits_front (c ∷ cs) [] x y p q e = absurd (soh_no_digit c p.0 cc)
@@ -38,7 +38,7 @@ value_after_ge : (n : ℕ) (ds : List ℕ) → n ≤ digits_value_after 10 n ds
 value_after_ge n [] = omega arith
 value_after_ge n (d ∷ ds) = omega (arith, value_after_ge (n * 10 + digit_value d) ds)
 
--- nor do they where other digits stand before them
+-- nor do digits before them
 value_from : (n : ℕ) (a tail : List ℕ) → digits_value_after 10 n a ≤ digits_value_after 10 n (a ++ tail)
 value_from n [] tail = value_after_ge n tail
 value_from n (c ∷ cs) tail = value_from (n * 10 + digit_value c) cs tail
@@ -54,7 +54,7 @@ value_small ds all few =
     let power : 10 ^ length ds ≤ 10 ^ 7 = pow-le-pow_right {n = 10} (omega arith) few in
     omega arith
 
--- what is no digit has no value below ten
+-- a byte that isn't a digit has no value below ten
 pub no_digit_value : (c : ℕ) → IsOutOfRange 48 57 c → 10 ≤ digit_value c
 no_digit_value c out =
     elim (cases_lt (digit_value c) 10) [

@@ -27,7 +27,7 @@ after_type value (f ∷ fs) =
     let r = ends_with_soh f fs in
     (value ++ soh ∷ r.0, ap (λ (t : List ℕ). value ++ soh ∷ t) r.1 ∙ sym (append_assoc value (soh ∷ r.0) (soh ∷ [])))
 
--- the tag of MsgType as it is written
+-- the tag of MsgType as written
 decimal_35 : decimal 35 ++ 61 ∷ [] ≡ type_tag
 unfolding digits type_tag
 decimal_35 = refl
@@ -74,28 +74,28 @@ whole_message fs h fits =
 
 -- ---- the first fault
 
--- a tag is at fault
+-- a tag is invalid
 pub bad_tag : (fs : List TagValue) → (begins_with_type fs && list_all (λ f. is_body_tag f.tag) fs) ≡ false → fault_of fs ≡ Some BadTag
 unfolding fault_of
 bad_tag fs h = rw h refl
 
--- no tag is at fault, and a value is empty
+-- no tag is invalid, and a value is empty
 pub empty_value : (fs : List TagValue) → (begins_with_type fs && list_all (λ f. is_body_tag f.tag) fs) ≡ true → list_any (λ f. is_empty f.value) fs ≡ true → fault_of fs ≡ Some EmptyValue
 unfolding fault_of
 empty_value fs h e = rw (h, e) refl
 
--- nor is a value empty, and one has SOH in it
+-- no value is empty either, and one contains SOH
 pub soh_in_value : (fs : List TagValue) → (begins_with_type fs && list_all (λ f. is_body_tag f.tag) fs) ≡ true → list_any (λ f. is_empty f.value) fs ≡ false → list_any (λ f. has_soh f.value) fs ≡ true → fault_of fs ≡ Some SohInValue
 unfolding fault_of
 soh_in_value fs h e s = rw (h, e, s) refl
 
--- nor has one SOH in it, and the message is too long
+-- none contains SOH either, and the message is too long
 pub too_long : (fs : List TagValue) → (begins_with_type fs && list_all (λ f. is_body_tag f.tag) fs) ≡ true → list_any (λ f. is_empty f.value) fs ≡ false → list_any (λ f. has_soh f.value) fs ≡ false
     → 65536 < length (message_of fs) → fault_of fs ≡ Some TooLong
 unfolding fault_of
 too_long fs h e s l = let t = lt-ltb 65536 (length (message_of fs)) l in rw (h, e, s, t) refl
 
--- nothing is at fault
+-- there is no fault
 pub no_fault : (fs : List TagValue) → (begins_with_type fs && list_all (λ f. is_body_tag f.tag) fs) ≡ true → list_any (λ f. is_empty f.value) fs ≡ false → list_any (λ f. has_soh f.value) fs ≡ false
     → length (message_of fs) ≤ 65536 → fault_of fs ≡ None
 unfolding fault_of
@@ -103,7 +103,7 @@ no_fault fs h e s l = let t = le-ltb 65536 (length (message_of fs)) l in rw (h, 
 
 -- ---- the length, field by field
 
--- one field more
+-- one more field
 pub length-fields_text : (f : TagValue) (fs : List TagValue) → length (fields_text (f ∷ fs)) ≡ length (decimal f.tag) + length f.value + 2 + length (fields_text fs)
 length-fields_text f fs =
     omega (

@@ -1,4 +1,4 @@
--- Where the parts of a message end, as the marks of the SOHs among sixteen bytes show it.
+-- The ends of a message's parts, from the bit masks of SOHs among sixteen bytes.
 use Rattle.std.proofs.Common.{◌≡◌, ◌<◌, ◌≤◌, ◌+◌, ◌-◌, ◌/◌, ◌%◌, ◌^◌, ℕ, zero, suc, Bool, true, false, cond, eqb, List, [], ◌∷◌, length, take, drop, get_or, map, not, ap, sym, ◌∙◌, arith, inl, inr, refl, shr-shr, w64}
 use Rattle.std.specs.Int.{trailing_zeros}
 use Rattle.std.specs.List.{prefix_len}
@@ -16,7 +16,7 @@ use Rattle.gu_fix.specs.Spans.{EndsPart, soh_marks}
 abbrev is_soh : ℕ → Bool
 is_soh b = eqb b 1
 
--- the lowest bit that is set stands for one of the bytes
+-- the lowest set bit is that of one of the bytes
 lowest_within : (tests : List Bool) → 0 < mask_l tests → mask_l tests < 2 ^ 64 → trailing_zeros w64 (mask_l tests) < length tests
 lowest_within tests some fits =
     let low = bit_at-trailing_zeros w64 (mask_l tests) some fits in
@@ -28,7 +28,7 @@ lowest_within tests some fits =
           absurd (omega (arith, low.1, bit_mask_l tests place, none))
     ]
 
--- without its lowest bits a mask is that of the tests after them
+-- a mask without its lowest bits is that of the tests after them
 shifted : (tests : List Bool) (n : ℕ) → mask_l tests / 2 ^ n ≡ mask_l (drop n tests)
 shifted tests zero = omega arith
 shifted [] (suc n) = omega arith
@@ -39,7 +39,7 @@ shifted (b ∷ bs) (suc n) =
     let count : suc n ≡ 1 + n = omega arith in
     ap (λ (k : ℕ). mask_l tests / 2 ^ k) count ∙ sym (shr-shr (mask_l tests) 1 n) ∙ ap (λ (k : ℕ). k / 2 ^ n) half ∙ shifted bs n
 
--- where fewer than sixteen bytes are left, their marks are among those of the last sixteen
+-- if fewer than sixteen bytes are left, their mask is part of that of the last sixteen
 pub last_marks : (bytes : List ℕ) (start : ℕ) → 16 ≤ length bytes → length bytes - 16 ≤ start → start ≤ length bytes
     → soh_marks (take 16 (drop (length bytes - 16) bytes)) / 2 ^ (start - (length bytes - 16)) ≡ soh_marks (take 16 (drop start bytes))
 last_marks bytes start long low high =
@@ -53,7 +53,7 @@ last_marks bytes start long low high =
     ∙ sym (take_all 16 (drop start bytes) (omega (arith, length-drop start bytes))) in
     shifted (map is_soh lanes) passed ∙ ap mask_l (drop-map is_soh passed lanes ∙ ap (map is_soh) later)
 
--- the part ends at the first SOH from its beginning on
+-- the part ends at the first SOH at or after its start
 pub ends_part : (bytes : List ℕ) (start end : ℕ) → start ≤ end → end < length bytes → ((k : ℕ) → start ≤ k → k < end → is_soh (get_or bytes k 0) ≡ false) → is_soh (get_or bytes end 0) ≡ true
     → EndsPart bytes start end
 ends_part bytes start end low high before there = record {
@@ -69,7 +69,7 @@ ends_part bytes start end low high before there = record {
   there = eqb-true (get_or bytes end 0) 1 there;
 }
 
--- the first of some marks of the bytes from a place on is that of the first SOH there
+-- the lowest bit of a mask for the bytes from a position on is that of the first SOH there
 record FirstMark (bytes : List ℕ) (start end : ℕ) : Type 0 where
   high : end < length bytes
   before : (k : ℕ) → start ≤ k → k < end → is_soh (get_or bytes k 0) ≡ false
@@ -94,7 +94,7 @@ first_mark bytes start marks within is some fits =
       there = run_in_chunk_stops is_soh bytes start n place 0 room counted near;
     }
 
--- the marks of the bytes from a place on show where the part ends
+-- the mask for the bytes from a position on gives the end of the part
 pub first_marked : (bytes : List ℕ) (start marks : ℕ) → start ≤ length bytes → marks ≡ soh_marks (take 16 (drop start bytes)) → 0 < marks → marks < 2 ^ 64
     → EndsPart bytes start (start + trailing_zeros w64 marks)
 first_marked bytes start marks within is some fits =
@@ -105,7 +105,7 @@ off : (b : Bool) → cond b 1 zero ≡ zero → b ≡ false
 off true e = absurd (omega (arith, e))
 off false e = refl
 
--- where none of sixteen bytes is marked, none is SOH
+-- if the mask of sixteen bytes is 0, none is SOH
 pub none_marked : (bytes : List ℕ) (start : ℕ) → soh_marks (take 16 (drop start bytes)) ≡ 0 → (k : ℕ) → start ≤ k → k < start + 16 → is_soh (get_or bytes k 0) ≡ false
 none_marked bytes start none k low high =
     let lanes = take 16 (drop start bytes) in
@@ -115,25 +115,25 @@ none_marked bytes start none k low high =
     let place = get_or-take 16 (drop start bytes) i 0 (omega (arith, low, high)) ∙ get_or-drop start bytes i 0 ∙ ap (λ (p : ℕ). get_or bytes p 0) (omega (arith, low)) in
     ap is_soh (sym place) ∙ sym (get_or-map is_soh lanes i 0) ∙ off (get_or (map is_soh lanes) i false) (sym bit ∙ zeros)
 
--- no byte from one place up to another is SOH
+-- no byte from one position up to another is SOH
 abbrev pub NoneWithin : List ℕ → ℕ → ℕ → Type 0
 NoneWithin bytes start end = (k : ℕ) → start ≤ k → k < end → is_soh (get_or bytes k 0) ≡ false
 
--- where none of the bytes so far is SOH, and none of the next sixteen is marked, none of these is
+-- if none of the bytes so far is SOH, and the mask of the next sixteen is 0, none of these is
 pub none_further : (bytes : List ℕ) (start place : ℕ) → NoneWithin bytes start place → soh_marks (take 16 (drop place bytes)) ≡ 0 → NoneWithin bytes start (place + 16)
 none_further bytes start place before none k low high = elim (cases_lt k place) [
   | inl lt ↦ before k low lt
   | inr le ↦ none_marked bytes place none k le high
 ]
 
--- where none of the bytes up to the end is SOH, the part doesn't end
+-- if none of the bytes up to the end is SOH, the part doesn't end
 pub none_left : (bytes : List ℕ) (start end : ℕ) → NoneWithin bytes start end → length bytes ≤ end → NoSoh (drop start bytes)
 none_left bytes start end none past k lt e =
     let other = none (start + k) (omega arith) (omega (arith, lt, length-drop start bytes, past)) in
     let same = eq-eqb (get_or bytes (start + k) 0) 1 (sym (get_or-drop start bytes k 0) ∙ e) in
     cc
 
--- where none of the bytes so far is SOH, the marks of the next ones show where the part ends
+-- if none of the bytes so far is SOH, the mask of the next ones gives the end of the part
 pub later_marked : (bytes : List ℕ) (start place marks : ℕ) → NoneWithin bytes start place → start ≤ place → place ≤ length bytes → marks ≡ soh_marks (take 16 (drop place bytes)) → 0 < marks → marks < 2 ^ 64
     → EndsPart bytes start (place + trailing_zeros w64 marks)
 later_marked bytes start place marks before low within is some fits =

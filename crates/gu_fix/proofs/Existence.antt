@@ -1,4 +1,4 @@
--- What stands at a place can always be told.
+-- It is always decided what is at a position.
 use Rattle.std.proofs.Common.{◌≡◌, ℕ, zero, suc, ◌+◌, ◌-◌, ◌<◌, ◌≤◌, ◌⊎◌, List, [], ◌∷◌, ◌++◌, length, take, drop, get_or, refl, sym, ap, subst, ◌∙◌, arith, inl, inr}
 use Rattle.std.proofs.lemmas.List.{length-take-le, take_all, append-nil}
 use Rattle.std.proofs.lemmas.Bool.{cases_eq, cases_lt}
@@ -17,7 +17,7 @@ use Rattle.gu_fix.proofs.Lengths.{split_at, apart_at_soh, apart_at_other, apart_
 use Rattle.gu_fix.proofs.Bodies.{body_begins, body_within, body_within_tag, body_apart_tag, body_apart_end}
 use Rattle.gu_fix.proofs.Places.{open_in_opening, garbled_in_opening, open_in_length, garbled_in_length, HeadRead, open_in_body, garbled_in_body, BodyRead, body_read, whole_in_trailer, whole_here, open_in_trailer, garbled_in_trailer}
 
--- how bytes meet a text
+-- the result of comparing bytes with a text
 meeting_of : (bytes text : List ℕ) → (r : Meeting) × Meets r bytes text
 meeting_of bytes [] = (Begins, (bytes, refl))
 meeting_of [] (t ∷ ts) = (Within, (t ∷ ts, omega arith, refl))
@@ -31,7 +31,7 @@ meeting_of (b ∷ bs) (t ∷ ts) = meeting_step b t bs ts (cases_eq b t) (meetin
 
 -- ---- the length
 
--- the length's text, where the bytes end within its digits
+-- the length's text, if the bytes end within its digits
 at_end : (bytes : List ℕ) → AllDigits 10 bytes → length bytes ≤ 7 → (r : LengthText) × ReadsLength r bytes
 at_end bytes all few =
     elim (cases_lt (digits_value 10 bytes) 4) [
@@ -45,7 +45,7 @@ at_end bytes all few =
       ]
     ]
 
--- the length's text, from a digit on
+-- the length's text, starting at a digit
 length_at : (bytes : List ℕ) (left i : ℕ) → i + left ≡ length bytes → i ≤ 7 → AllDigits 10 (take i bytes) → (r : LengthText) × ReadsLength r bytes
 length_at bytes zero i e few all =
     let every : take i bytes ≡ bytes = take_all i bytes (omega arith) in
@@ -75,7 +75,7 @@ length_at bytes (suc left) i e few all =
 
 -- ---- the body
 
--- how bytes meet a body
+-- the result of comparing bytes with a body
 body_at : (bytes : List ℕ) (len : ℕ) → 4 ≤ len → (r : Meeting) × MeetsBody r bytes len
 body_at bytes len least = body_step (meeting_of bytes type_tag)
   where
@@ -91,34 +91,34 @@ body_at bytes len least = body_step (meeting_of bytes type_tag)
           ]
         ]
 
--- ---- the place
+-- ---- the position
 
--- what stands at a place whose body was read
+-- what is at a position whose body was read
 trailer_step : (bytes digits inner after : List ℕ) → BodyRead bytes digits inner after → ((r : Meeting) × Meets r after (trailer_after (front_of digits (body_of inner)))) → (p : Prefix) × StandsAs p bytes
 trailer_step bytes digits inner after read (Begins, (rest, e)) =
     (place.Whole (21 + length digits + length (body_of inner)), whole_here bytes digits inner rest _ (whole_in_trailer bytes digits inner after rest read e) refl)
 trailer_step bytes digits inner after read (Within, (rest, some, e)) = (place.Open, open_in_trailer bytes digits inner after rest read some e)
 trailer_step bytes digits inner after read (Apart, apart) = (place.Garbled, garbled_in_trailer bytes digits inner after read apart)
 
--- what stands at a place whose length was read
+-- what is at a position whose length was read
 body_found : (bytes digits : List ℕ) (len : ℕ) (rest : List ℕ) → HeadRead bytes digits len rest → ((r : Meeting) × MeetsBody r rest len) → (p : Prefix) × StandsAs p bytes
 body_found bytes digits len rest head (Begins, (inner, after, long, e)) = trailer_step bytes digits inner after (body_read bytes digits len rest inner after head long e) (meeting_of after _)
 body_found bytes digits len rest head (Within, (inner, more, long, e)) = (place.Open, open_in_body bytes digits len rest inner more head long e)
 body_found bytes digits len rest head (Apart, apart) = (place.Garbled, garbled_in_body bytes digits len rest head apart)
 
--- what stands at a place that begins as a message
+-- what is at a position that begins as a message
 length_found : (bytes first : List ℕ) → bytes ≡ opening ++ first → ((r : LengthText) × ReadsLength r first) → (p : Prefix) × StandsAs p bytes
 length_found bytes first e (length_text.Read count n, (digits, rest, l, is, f)) =
     body_found bytes digits n rest (record { is_length = is; parts = e ∙ ap (λ (t : List ℕ). opening ++ t) f }) (body_at rest n is.least)
 length_found bytes first e (length_text.Open, (more, n, is)) = (place.Open, open_in_length bytes first more n e is)
 length_found bytes first e (length_text.Apart, apart) = (place.Garbled, garbled_in_length bytes first e apart)
 
--- what stands at a place, by how its bytes meet the opening
+-- what is at a position, from the comparison of its bytes with the opening
 opening_found : (bytes : List ℕ) → ((r : Meeting) × Meets r bytes opening) → (p : Prefix) × StandsAs p bytes
 opening_found bytes (Begins, (first, e)) = length_found bytes first e (length_at first (length first) 0 (omega arith) (omega arith) tt)
 opening_found bytes (Within, (rest, some, e)) = (place.Open, open_in_opening bytes rest some e)
 opening_found bytes (Apart, apart) = (place.Garbled, garbled_in_opening bytes apart)
 
--- what stands at the front
+-- what is at the start
 pub place_of : (bytes : List ℕ) → (p : Prefix) × StandsAs p bytes
 place_of bytes = opening_found bytes (meeting_of bytes opening)

@@ -1,4 +1,4 @@
--- Frames that are taken one at a time: each leads on to what is kept after it.
+-- Frames taken one at a time: each leads on to what is kept after it.
 use Rattle.std.proofs.Common.{◌≡◌, ℕ, ◌+◌, ◌<◌, ◌≤◌, List, [], ◌∷◌, ◌++◌, length, drop, sym, ap, subst, ◌∙◌, append_assoc, arith, inl, inr}
 use Rattle.std.proofs.lemmas.List.{drop-append-le, length-drop, length-append, nil_from_length}
 use Rattle.std.proofs.lemmas.Bool.{cases_lt}
@@ -28,7 +28,7 @@ pub leads_on_more : (read kept next : List ℕ) (frames given : List (List ℕ))
 leads_on_more read kept next frames given first second more later h =
     subst (λ (fs : List (List ℕ)). AreFrames (read ++ more) fs) (sym (append_assoc frames given later)) (first more (given ++ later) (second more later h))
 
--- no place behind the end is garbled
+-- no position after the end is garbled
 garbled_within : (s : List ℕ) (n : ℕ) → GarbledBefore s n → n ≤ length s
 garbled_within s n before =
     elim (cases_lt (length s) n) [
@@ -36,7 +36,7 @@ garbled_within s n before =
       | inr le ↦ le
     ]
 
--- after the frames of a stream something is kept that leads on
+-- after the frames of a stream, something is kept that leads on
 pub kept_after : (frames : List (List ℕ)) (s : List ℕ) → AreFrames s frames → (kept : List ℕ) × LeadsOn s frames kept
 kept_after [] s none =
     let there : 0 + none.place ≡ none.place = omega arith in
@@ -45,7 +45,7 @@ kept_after (message ∷ messages) s (rest, first, others) =
     let later = kept_after messages rest others in
     (later.0, leads_on_more s rest later.0 (message ∷ []) messages (leads_on_first s message rest first) later.1)
 
--- each stream is a piece that is taken in some way
+-- each stream is a piece that can be taken
 pub takes_exist : (s : List ℕ) → (frames : List (List ℕ)) × (kept : List ℕ) × TakesPiece [] s frames kept
 takes_exist s =
     let are = frames_exist s in

@@ -1,4 +1,4 @@
--- Bytes read as fields in one way at most.
+-- Bytes read as fields in at most one way.
 use Rattle.std.proofs.Common.{◌≡◌, ℕ, zero, suc, ◌<◌, List, [], ◌∷◌, ◌++◌, length, get_or, Option, Result, Ok, Err, refl, sym, ap, subst, ◌∙◌, append_assoc, arith, inl, inr}
 use Rattle.std.specs.List.{flat_map, AllByRecursion}
 use Rattle.std.specs.Str.Parse.{AllDigits, digits_value}
@@ -10,15 +10,15 @@ use Rattle.gu_fix.specs.Fields.{equals, NoSoh, HasTag, IsField, IsFault, ReadsAs
 use Rattle.gu_fix.specs.declared.error.FieldFault.{FieldFault}
 use Rattle.gu_fix.specs.declared.error.SessionRejectReason.{SessionRejectReason}
 
--- no byte of these is that one
+-- none of these bytes is that one
 abbrev pub Lacks : ℕ → List ℕ → Type 0
 Lacks byte bytes = (k : ℕ) → k < length bytes → get_or bytes k 0 ≡ byte → ⊥
 
--- what holds of bytes holds of those after the first
+-- a property of bytes is one of those after the first
 lacks_after : (byte c : ℕ) (cs : List ℕ) → Lacks byte (c ∷ cs) → Lacks byte cs
 lacks_after byte c cs none k lt e = none (suc k) (omega arith) e
 
--- what stands before the first such byte, and what after it
+-- the bytes before the first such byte, and those after it
 pub first_ends : (byte : ℕ) (a b x y : List ℕ) → Lacks byte a → Lacks byte b → a ++ byte ∷ x ≡ b ++ byte ∷ y → (a ≡ b) × (x ≡ y)
 first_ends byte [] [] x y p q e = (refl, cc)
 first_ends byte [] (c ∷ cs) x y p q e = absurd (q zero (omega arith) cc)
@@ -31,7 +31,7 @@ first_ends byte (c ∷ cs) (d ∷ ds) x y p q e =
 
 -- ---- parts
 
--- the parts that SOH ends are told from their bytes
+-- bytes determine the parts that SOH ends
 pub one_list_of_parts : (ps qs : List (List ℕ)) → AllByRecursion NoSoh ps → AllByRecursion NoSoh qs → flat_map (λ part. part ++ soh ∷ []) ps ≡ flat_map (λ part. part ++ soh ∷ []) qs → ps ≡ qs
 one_list_of_parts [] [] each other e = refl
 one_list_of_parts [] (q ∷ qs) each other e = absurd (omega (arith, ap length e, length-append (q ++ soh ∷ []) (flat_map (λ (part : List ℕ). part ++ soh ∷ []) qs), length-append q (soh ∷ [])))
@@ -53,13 +53,13 @@ no_equals text all k lt e =
     let digit = digit_at text k all lt in
     omega (arith, digit.1, e)
 
--- a part has one tag and one value
+-- a part has at most one tag and one value
 pub one_tag : (part : List ℕ) (t u : ℕ) (v w : List ℕ) → HasTag part t v → HasTag part u w → (t ≡ u) × (v ≡ w)
 one_tag part t u v w p q =
     let ends = first_ends equals p.text q.text v w (no_equals p.text p.is_tag.all) (no_equals q.text q.is_tag.all) (sym p.parts ∙ q.parts) in
     (sym p.is_tag.value ∙ ap (digits_value 10) ends.0 ∙ q.is_tag.value, ends.1)
 
--- fields with one tag and one value are one
+-- fields with the same tag and value are equal
 same_field : (f g : TagValue) → f.tag ≡ g.tag → f.value ≡ g.value → f ≡ g
 same_field f g tags values = ap (λ (n : ℕ). tag_value n f.value) tags ∙ ap (λ (t : List ℕ). tag_value g.tag t) values
 
@@ -67,7 +67,7 @@ same_field f g tags values = ap (λ (n : ℕ). tag_value n f.value) tags ∙ ap 
 abbrev fault_at : ℕ → SessionRejectReason → FieldFault
 fault_at tag reason = record { tag = tag; reason = reason }
 
--- faults with one tag and one reason are one
+-- faults with the same tag and reason are equal
 same_fault : (f g : FieldFault) → f.tag ≡ g.tag → f.reason ≡ g.reason → f ≡ g
 same_fault f g tags reasons = ap (λ (n : ℕ). fault_at n f.reason) tags ∙ ap (λ (r : SessionRejectReason). fault_at g.tag r) reasons
 
@@ -79,14 +79,14 @@ no_field_and_fault part f g is (inl (reason, tag)) =
     omega (arith, ap length same.1)
 no_field_and_fault part f g is (inr (reason, tag, none)) = none f.tag f.value is.has_tag
 
--- a part is one fault at most
+-- a part is at most one fault
 one_fault : (part : List ℕ) (f g : FieldFault) → IsFault f part → IsFault g part → f ≡ g
 one_fault part f g (inl (r, t)) (inl (s, u)) = same_fault f g (one_tag part f.tag g.tag [] [] t u).0 (r ∙ sym s)
 one_fault part f g (inl (r, t)) (inr (s, u, none)) = absurd (none f.tag [] t)
 one_fault part f g (inr (r, t, none)) (inl (s, u)) = absurd (none g.tag [] u)
 one_fault part f g (inr (r, t, none)) (inr (s, u, other)) = same_fault f g (t ∙ sym u) (r ∙ sym s)
 
--- a part reads in one way
+-- a part reads in at most one way
 one_read : (part : List ℕ) (r s : Result TagValue FieldFault) → ReadsAs r part → ReadsAs s part → r ≡ s
 one_read part (Ok f) (Ok g) p q =
     let same = one_tag part f.tag g.tag f.value g.value p.has_tag q.has_tag in
@@ -98,7 +98,7 @@ one_read part (Err f) (Err g) p q =
     let faults = one_fault part f g p q in
     cc
 
--- parts read in one way each
+-- parts read in at most one way each
 one_list_of_reads : (rs ss : List (Result TagValue FieldFault)) (parts : List (List ℕ)) → ReadAs rs parts → ReadAs ss parts → rs ≡ ss
 one_list_of_reads [] [] parts p q = refl
 one_list_of_reads [] (s ∷ ss) [] p q = absurd q
@@ -113,7 +113,7 @@ one_list_of_reads (r ∷ rs) (s ∷ ss) (part ∷ parts) p q =
 
 -- ---- all of the bytes
 
--- bytes have one list of fields and one first fault
+-- bytes have at most one list of fields and one first fault
 pub one_reading : (bytes : List ℕ) (fields others : List TagValue) (fault other : Option FieldFault) → HasFields bytes fields fault → HasFields bytes others other → (fields ≡ others) × (fault ≡ other)
 one_reading bytes fields others fault other p q =
     let parts : p.parts ≡ q.parts = one_list_of_parts p.parts q.parts p.are_parts.each q.are_parts.each (sym p.are_parts.whole ∙ q.are_parts.whole) in

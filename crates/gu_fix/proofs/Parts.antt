@@ -1,4 +1,4 @@
--- What a part says of its tag.
+-- Reading the tag of a part.
 use Rattle.std.proofs.Common.{◌≡◌, ◌≤◌, ◌⊎◌, ℕ, ◌<◌, List, ◌∷◌, ◌++◌, length, take, get_or, refl, sym, ap, ◌∙◌, arith, inl, inr}
 use Rattle.std.specs.Int.{IsOutOfRange}
 use Rattle.std.specs.Str.Parse.{AllDigits}
@@ -14,7 +14,7 @@ equals_at part text value e = (
   omega (arith, ap length e, length-append text (61 ∷ value)),
 )
 
--- digits in front of a part reach no further than the text of its tag
+-- leading digits of a part reach no further than the text of its tag
 pub digits_within : (part text value : List ℕ) (i : ℕ) → AllDigits 10 (take i part) → part ≡ text ++ 61 ∷ value → i ≤ length text
 digits_within part text value i all e =
     let at = equals_at part text value e in
@@ -29,7 +29,7 @@ digits_within part text value i all e =
       | inr (inr gt) ↦ omega (arith, gt)
     ]
 
--- what comes after digits is neither `=` nor one more digit of a tag: no tag stands in front
+-- if digits are followed by neither `=` nor one more digit of a tag, there is no tag
 pub no_tag_after : (part : List ℕ) (i : ℕ) → AllDigits 10 (take i part) → (get_or part i 0 ≡ 61 → ⊥) → (i ≡ 9) ⊎ IsOutOfRange 48 57 (get_or part i 0) → (tag : ℕ) (value : List ℕ) → HasTag part tag value → ⊥
 no_tag_after part i all other why tag value h =
     let at = equals_at part h.text value h.parts in
@@ -47,7 +47,7 @@ no_tag_after part i all other why tag value h =
           ]
     ]
 
--- nor where nothing but digits has come
+-- nor is there one if only digits have come
 pub no_tag_in_digits : (part : List ℕ) (i : ℕ) → AllDigits 10 (take i part) → length part ≤ i → (tag : ℕ) (value : List ℕ) → HasTag part tag value → ⊥
 no_tag_in_digits part i all end tag value h =
     omega (arith, digits_within part h.text value i all h.parts, (equals_at part h.text value h.parts).1, end)

@@ -1,4 +1,4 @@
--- The steps of the reader of fields: what was read so far leads on to what the rest reads as.
+-- The steps of the reader of fields: what was read so far, together with the rest.
 use Rattle.std.proofs.Common.{◌≡◌, ℕ, ◌-◌, ◌<◌, ◌≤◌, List, [], ◌∷◌, ◌++◌, length, drop, get_or, Option, None, Some, Ok, Err, refl, sym, ap, subst, ◌∙◌, append_assoc, arith}
 use Rattle.std.specs.Prelude.{codes, sum, ◌%◌, is_some, if◌then◌else◌}
 use Rattle.std.specs.List.{flat_map}
@@ -14,8 +14,8 @@ use Rattle.gu_fix.specs.declared.error.FieldFault.{FieldFault}
 abbrev pub earlier_of : Option FieldFault → Option FieldFault → Option FieldFault
 earlier_of fault other = if is_some fault then fault else other
 
--- Whatever the rest reads as, the bytes read as these fields and those of the rest, and their first fault is this one or
--- that of the rest.
+-- Whatever the rest reads as, the bytes read as these fields and those of the rest, and their first fault is this one or else that of the
+-- rest.
 abbrev pub ReadsOn : List ℕ → List ℕ → List TagValue → Option FieldFault → Type 0
 ReadsOn bytes rest fields fault =
     (later : List TagValue) (other : Option FieldFault) → HasFields rest later other → HasFields bytes (fields ++ later) (earlier_of fault other)
@@ -24,11 +24,11 @@ ReadsOn bytes rest fields fault =
 pub nothing_read : (bytes : List ℕ) → ReadsOn bytes bytes [] None
 nothing_read bytes later other h = h
 
--- a part and its SOH in front of others
+-- a part and its SOH before others
 part_in_front : (part after : List ℕ) (parts : List (List ℕ)) → after ≡ flat_map (λ p. p ++ soh ∷ []) parts → part ++ soh ∷ after ≡ flat_map (λ p. p ++ soh ∷ []) (part ∷ parts)
 part_in_front part after parts e = ap (λ (t : List ℕ). part ++ soh ∷ t) e ∙ sym (append_assoc part (soh ∷ []) (flat_map (λ (p : List ℕ). p ++ soh ∷ []) parts))
 
--- a field in front
+-- a field before others
 field_in_front : (part after : List ℕ) (field : TagValue) (fields : List TagValue) (fault : Option FieldFault) → NoSoh part → IsField field part → HasFields after fields fault
     → HasFields (part ++ soh ∷ after) (field ∷ fields) fault
 field_in_front part after field fields fault none is h = record {
@@ -40,7 +40,7 @@ field_in_front part after field fields fault none is h = record {
   fault_is = h.fault_is;
 }
 
--- a fault in front
+-- a fault before others
 fault_in_front : (part after : List ℕ) (found : FieldFault) (fields : List TagValue) (fault : Option FieldFault) → NoSoh part → IsFault found part → HasFields after fields fault
     → HasFields (part ++ soh ∷ after) fields (Some found)
 fault_in_front part after found fields fault none is h = record {
@@ -59,7 +59,7 @@ field_read bytes rest part after fields fault field so_far e none is later other
     let next = subst (λ (t : List ℕ). HasFields t (field ∷ later) other) (sym e) (field_in_front part after field later other none is h) in
     subst (λ (t : List TagValue). HasFields bytes t (earlier_of fault other)) (sym (append_assoc fields (field ∷ []) later)) (so_far (field ∷ later) other next)
 
--- what comes after a fault names none
+-- a fault after the first isn't reported
 earlier_of-earlier_of : (fault other : Option FieldFault) (found : FieldFault) → earlier_of (earlier_of fault (Some found)) other ≡ earlier_of fault (Some found)
 earlier_of-earlier_of None other found = refl
 earlier_of-earlier_of (Some first) other found = refl
@@ -71,11 +71,11 @@ fault_read bytes rest part after fields fault found so_far e none is later other
     let next = subst (λ (t : List ℕ). HasFields t later (Some found)) (sym e) (fault_in_front part after found later other none is h) in
     subst (HasFields bytes (fields ++ later)) (sym (earlier_of-earlier_of fault other found)) (so_far later (Some found) next)
 
--- no bytes have no fields
+-- the empty text has no fields
 no_fields : HasFields [] [] None
 no_fields = record { parts = []; reads = []; are_parts = record { whole = refl; each = tt }; read_as = tt; fields_are = refl; fault_is = refl }
 
--- a fault alone is the first
+-- a single fault is the first
 earlier_of-none : (fault : Option FieldFault) → earlier_of fault None ≡ fault
 earlier_of-none None = refl
 earlier_of-none (Some found) = refl
@@ -87,7 +87,7 @@ all_read bytes fields fault so_far =
 
 -- ---- the end
 
--- where there is a last byte, it is SOH
+-- the last byte, if there is one, is SOH
 pub record EndsWithSoh (bytes : List ℕ) : Type 0 where
   pub last : 0 < length bytes → get_or bytes (length bytes - 1) 0 ≡ soh
 
@@ -126,7 +126,7 @@ ends-drop bytes n ends = record {
       );
 }
 
--- where no SOH is left, nothing is
+-- if no SOH is left, nothing is
 nothing_left : (rest : List ℕ) → EndsWithSoh rest → NoSoh rest → rest ≡ []
 nothing_left [] ends none = refl
 nothing_left (b ∷ bs) ends none = absurd (none (length (b ∷ bs) - 1) (omega arith) (ends.last (omega arith)))

@@ -1,4 +1,4 @@
--- What stands at a place, by how far its bytes were read.
+-- What is at a position, depending on how far its bytes were read.
 use Rattle.std.proofs.Common.{◌≡◌, ℕ, ◌+◌, ◌-◌, ◌<◌, ◌≤◌, ◌%◌, List, [], ◌∷◌, ◌++◌, length, take, drop, refl, sym, ap, subst, ◌∙◌, append_assoc, arith, sum}
 use Rattle.std.proofs.lemmas.List.{length-append, drop_at, take_at, append-nil}
 use Rattle.std.specs.Prelude.{replicate}
@@ -30,7 +30,7 @@ length_of m w = record {
   most = omega (arith, w.most, ap length w.spelled, length-spelling w.digits (body_of w.inner));
 }
 
--- what comes after the opening
+-- the bytes after the opening
 abbrev behind : List ℕ → List ℕ → List ℕ → List ℕ
 behind digits body rest = digits ++ soh ∷ (body ++ (trailer_after (front_of digits body) ++ rest))
 
@@ -88,7 +88,7 @@ pub record HeadRead (bytes digits : List ℕ) (len : ℕ) (rest : List ℕ) : Ty
   pub is_length : IsLength digits len
   pub parts : bytes ≡ opening ++ (digits ++ soh ∷ rest)
 
--- a message that stands there has these digits, and a body of that length
+-- a message there has these digits, and a body of that length
 read_on : (bytes digits : List ℕ) (len : ℕ) (rest : List ℕ) → HeadRead bytes digits len rest → (m more x : List ℕ) (w : IsWhole m) → bytes ++ more ≡ m ++ x
     → (digits ≡ w.digits) × (length (body_of w.inner) ≡ len) × (rest ++ more ≡ body_of w.inner ++ (trailer_after (front_of w.digits (body_of w.inner)) ++ x))
 read_on bytes digits len rest head m more x w e =
@@ -130,7 +130,7 @@ body_read bytes digits len rest inner after head long e = record {
   parts = head.parts ∙ ap (λ (t : List ℕ). opening ++ (digits ++ soh ∷ t)) e ∙ simp append_assoc;
 }
 
--- with the right trailer a whole message stands there
+-- with the right trailer there is a whole message
 pub whole_in_trailer : (bytes digits inner after rest : List ℕ) → BodyRead bytes digits inner after → after ≡ trailer_after (front_of digits (body_of inner)) ++ rest
     → IsWhole (spelling digits (body_of inner)) × (bytes ≡ spelling digits (body_of inner) ++ rest)
 whole_in_trailer bytes digits inner after rest read e = (
@@ -157,7 +157,7 @@ garbled_in_trailer bytes digits inner after read apart =
     ap (λ (t : List ℕ). front_of t (body_of w.inner)) (sym r.0) ∙ ap (front_of digits) (sym bodies.0) in
     apart more x (bodies.1 ∙ ap (λ (t : List ℕ). trailer_after t ++ x) fronts))
 
--- ---- by the places that the code counts
+-- ---- with the positions that the code counts
 
 -- the bytes up to the length's SOH
 pub read_head : (bytes first digits after : List ℕ) (count len : ℕ) → bytes ≡ opening ++ first → drop 13 bytes ≡ digits ++ soh ∷ after → length digits ≡ count → IsLength digits len
@@ -171,7 +171,7 @@ read_head bytes first digits after count len e f l is =
     let rest : after ≡ drop (13 + count + 1) bytes = sym (drop_at front after (13 + count + 1) long) ∙ ap (drop (13 + count + 1)) (sym split) in
     record { is_length = is; parts = parts ∙ ap (λ (t : List ℕ). opening ++ (digits ++ soh ∷ t)) rest }
 
--- the bytes up to the end of the body, and what is summed
+-- the bytes up to the end of the body, and their sum
 pub read_body : (bytes digits : List ℕ) (len end : ℕ) (rest inner after : List ℕ) → HeadRead bytes digits len rest → length (body_of inner) ≡ len → rest ≡ body_of inner ++ after
     → end ≡ 13 + length digits + 1 + len → BodyRead bytes digits inner (drop end bytes) × (take end bytes ≡ front_of digits (body_of inner))
 read_body bytes digits len end rest inner after head l e at =
@@ -183,7 +183,7 @@ read_body bytes digits len end rest inner after head l e at =
       ap (take end) read.parts ∙ take_at front after end long,
     )
 
--- the message that stands there, by its length
+-- the message there, from its length
 pub whole_here : (bytes digits inner rest : List ℕ) (n : ℕ) → IsWhole (spelling digits (body_of inner)) × (bytes ≡ spelling digits (body_of inner) ++ rest) → n ≡ 21 + length digits + length (body_of inner)
     → (n ≤ length bytes) × IsWhole (take n bytes)
 whole_here bytes digits inner rest n (w, e) at =
@@ -191,6 +191,6 @@ whole_here bytes digits inner rest n (w, e) at =
     let long : length m ≡ n = length-spelling digits (body_of inner) ∙ sym at in
     (omega (arith, ap length e, length-append m rest), subst IsWhole (sym (ap (take n) e ∙ take_at m rest n long)) w)
 
--- what comes after the opening
+-- the bytes after the opening
 pub behind_opening : (bytes first : List ℕ) → bytes ≡ opening ++ first → bytes ≡ opening ++ drop 13 bytes
 behind_opening bytes first e = e ∙ ap (λ (t : List ℕ). opening ++ t) (sym (drop_at opening first 13 length-opening) ∙ ap (drop 13) (sym e))

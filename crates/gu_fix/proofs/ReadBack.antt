@@ -1,4 +1,4 @@
--- What is encoded is read back.
+-- An encoded message is read back.
 use Rattle.std.proofs.Common.{◌≡◌, ℕ, zero, suc, ◌+◌, ◌/◌, ◌%◌, ◌^◌, ◌<◌, ◌≤◌, Bool, true, false, ◌&&◌, List, [], ◌∷◌, ◌++◌, length, None, Some, Ok, refl, sym, ap, subst, ◌∙◌, append_assoc, arith}
 use Rattle.std.specs.Prelude.{map, codes, sum, not, nat_lt, ◌==◌, if◌then◌else◌}
 use Rattle.std.specs.List.{flat_map, list_any, list_all, AllByRecursion}
@@ -21,44 +21,44 @@ use Rattle.gu_fix.specs.declared.error.EncodeError.TheVariants.{BadTag, EmptyVal
 abbrev pub part_of : TagValue → List ℕ
 part_of field = decimal field.tag ++ equals ∷ field.value
 
--- fields one after another are their parts, each ended by SOH
+-- fields in order are their parts, each ended by SOH
 pub joined_parts : (fields : List TagValue) → fields_text fields ≡ flat_map (λ part. part ++ soh ∷ []) (map part_of fields)
 joined_parts [] = refl
 joined_parts (f ∷ fs) = ap (λ (t : List ℕ). field_text f ++ t) (joined_parts fs)
 
--- a field that is written as it is read
+-- a field that is read back as written
 pub record IsSound (field : TagValue) : Type 0 where
   pub least : 0 < field.tag
   pub most : field.tag ≤ 999999999
   pub some : 0 < length field.value
   pub no_soh : NoSoh field.value
 
--- one byte that isn't SOH more
+-- one more byte that isn't SOH
 no_soh-cons : (c : ℕ) (cs : List ℕ) → (c ≡ soh → ⊥) → NoSoh cs → NoSoh (c ∷ cs)
 no_soh-cons c cs other none zero lt e = other e
 no_soh-cons c cs other none (suc k) lt e = none k (omega arith) e
 
--- no bytes have no SOH
+-- the empty list contains no SOH
 no_soh-nil : NoSoh []
 no_soh-nil k lt e = omega (arith, lt)
 
--- nor have two lists without it
+-- nor do two lists without it
 no_soh-append : (a b : List ℕ) → NoSoh a → NoSoh b → NoSoh (a ++ b)
 no_soh-append [] b p q = q
 no_soh-append (c ∷ cs) b p q = no_soh-cons c (cs ++ b) (p zero (omega arith)) (no_soh-append cs b (λ k lt. p (suc k) (omega arith)) q)
 
--- nor have digits
+-- nor do digits
 no_soh-decimal : (n : ℕ) → n < 2 ^ 64 → NoSoh (decimal n)
 no_soh-decimal n small k lt e =
     let digit = digit_at (decimal n) k (decimal_is_IsNumeral n small).0.1 lt in
     omega (arith, digit.0, e)
 
--- nor has a field that is written as it is read
+-- nor does a field that is read back as written
 no_soh-part : (f : TagValue) → IsSound f → NoSoh (part_of f)
 no_soh-part f is =
     no_soh-append (decimal f.tag) (equals ∷ f.value) (no_soh-decimal f.tag (omega (arith, is.most))) (no_soh-cons equals f.value (λ e. omega (arith, e)) is.no_soh)
 
--- which is read as that field
+-- it is read as that field
 is_field-part : (f : TagValue) → IsSound f → IsField f (part_of f)
 is_field-part f is =
     let numeral = decimal_is_IsNumeral f.tag (omega (arith, is.most)) in
@@ -72,11 +72,11 @@ is_field-part f is =
     } in
     record { has_tag = record { text = decimal f.tag; is_tag = is_tag; parts = refl }; some = is.some }
 
--- fields that are written as they are read
+-- fields that are read back as written
 abbrev pub AreSound : List TagValue → Type 0
 AreSound fields = AllByRecursion IsSound fields
 
--- none of their parts has SOH
+-- none of their parts contains SOH
 no_soh-parts : (fields : List TagValue) → AreSound fields → AllByRecursion NoSoh (map part_of fields)
 no_soh-parts [] are = tt
 no_soh-parts (f ∷ fs) are = (no_soh-part f are.0, no_soh-parts fs are.1)
@@ -144,7 +144,7 @@ message_as_fields fs =
 
 -- ---- fields without a fault
 
--- where there is no fault, none of the four tests found one
+-- if there is no fault, none of the four tests found one
 no_fault_parts : (a b c d : Bool) → (if not a then Some BadTag else (if b then Some EmptyValue else (if c then Some SohInValue else (if d then Some TooLong else None)))) ≡ None → (a ≡ true) × (b ≡ false) × (c ≡ false) × (d ≡ false)
 no_fault_parts false b c d e = absurd cc
 no_fault_parts true true c d e = absurd cc
@@ -152,24 +152,24 @@ no_fault_parts true false true d e = absurd cc
 no_fault_parts true false false true e = absurd cc
 no_fault_parts true false false false e = (refl, refl, refl, refl)
 
--- a value without SOH, by the test for it
+-- a value without SOH, from the test for it
 no_soh_from : (value : List ℕ) → has_soh value ≡ false → NoSoh value
 no_soh_from [] h = no_soh-nil
 no_soh_from (c ∷ cs) h =
     let parts = or_parts (c == soh) (has_soh cs) h in
     no_soh-cons c cs (λ e. (let found = eq-eqb c soh e in cc (found, parts.0))) (no_soh_from cs parts.1)
 
--- a value with a byte, by the test for it
+-- a non-empty value, from the test for it
 some_from : (value : List ℕ) → is_empty value ≡ false → 0 < length value
 some_from [] h = absurd cc
 some_from (c ∷ cs) h = omega arith
 
--- the range of a tag, by the test for it
+-- the range of a tag, from the test for it
 body_tag_from : (tag : ℕ) → is_body_tag tag ≡ true → (0 < tag) × (tag ≤ 999999999)
 body_tag_from zero h = absurd cc
 body_tag_from (suc n) h = (omega arith, leb-true (suc n) 999999999 (and_parts _ _ h).1)
 
--- fields that pass the tests are written as they are read
+-- fields that pass the tests are read back as written
 sound_from : (fs : List TagValue) → list_all (λ f. is_body_tag f.tag) fs ≡ true → list_any (λ f. is_empty f.value) fs ≡ false → list_any (λ f. has_soh f.value) fs ≡ false → AreSound fs
 sound_from [] tags some no_soh = tt
 sound_from (f ∷ fs) tags some no_soh =
@@ -179,7 +179,7 @@ sound_from (f ∷ fs) tags some no_soh =
     let range = body_tag_from f.tag tag.0 in
     (record { least = range.0; most = range.1; some = some_from f.value value.0; no_soh = no_soh_from f.value bytes.0 }, sound_from fs tag.1 value.1 bytes.1)
 
--- one more at the end
+-- one more field at the end
 are_sound-push : (fs : List TagValue) (f : TagValue) → AreSound fs → IsSound f → AreSound (fs ++ f ∷ [])
 are_sound-push [] f are is = (is, tt)
 are_sound-push (g ∷ gs) f are is = (are.0, are_sound-push gs f are.1 is)
@@ -207,7 +207,7 @@ check_sum_sound n =
       no_soh = no_soh-cons (48 + n / 100) ((48 + n / 10 % 10) ∷ last) (λ e. omega (arith, e)) two;
     }
 
--- the fields of an encoded message are those given, between BeginString and BodyLength in front and CheckSum after
+-- the fields of an encoded message are those given, after BeginString and BodyLength and before CheckSum
 pub read_back : (fields : List TagValue) → fault_of fields ≡ None → HasFields (message_of fields) (fields_of_message fields) None
 unfolding fault_of
 read_back fields sound =

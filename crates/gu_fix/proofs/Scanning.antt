@@ -12,18 +12,18 @@ use Rattle.gu_fix.proofs.Places.{open_in_opening}
 pub open_at_end : IsOpen []
 open_at_end = open_in_opening [] opening (omega (arith, length-opening)) refl
 
--- a garbled place isn't the end
+-- a garbled position isn't the end
 pub garbled_some : (bytes : List ℕ) → IsGarbled bytes → 0 < length bytes
 garbled_some [] garbled = absurd (garbled.1 open_at_end)
 garbled_some (b ∷ bs) garbled = omega arith
 
--- places without an `8` after a garbled place are garbled
+-- positions without an `8` after a garbled position are garbled
 pub garbled_without_first : (bytes : List ℕ) (n : ℕ) → n ≤ length bytes → IsGarbled bytes → ((k : ℕ) → 0 < k → k < n → get_or bytes k 0 ≡ 56 → ⊥) → GarbledBefore bytes n
 garbled_without_first bytes n room garbled other zero lt = garbled
 garbled_without_first bytes n room garbled other (suc k) lt =
     garbled_unless_first (drop (suc k) bytes) (omega (arith, length-drop (suc k) bytes)) (λ e. other (suc k) (omega arith) lt (sym (get_or-drop (suc k) bytes 0 0 ∙ ap (λ i. get_or bytes i 0) (omega arith)) ∙ e))
 
--- a message stands at the place
+-- there is a message at the position
 pub leads_on_whole : (bytes : List ℕ) (given : List (List ℕ)) (at n : ℕ) → LeadsOn bytes given (drop at bytes) → n ≤ length (drop at bytes) → IsWhole (take n (drop at bytes))
     → LeadsOn bytes (given ++ take n (drop at bytes) ∷ []) (drop (at + n) bytes)
 leads_on_whole bytes given at n leads room w more later h =
@@ -34,7 +34,7 @@ leads_on_whole bytes given at n leads room w more later h =
     let same : m ++ (drop n rest ++ more) ≡ rest ++ more = sym (append_assoc m (drop n rest) more) ∙ ap (λ (t : List ℕ). t ++ more) (take-append-drop n rest) in
     subst (λ fs. AreFrames (bytes ++ more) fs) (sym (append_assoc given (m ∷ []) later)) (leads more (m ∷ later) (subst (λ (t : List ℕ). AreFrames t (m ∷ later)) same next))
 
--- places are garbled
+-- positions are garbled
 pub leads_on_garbled : (bytes : List ℕ) (given : List (List ℕ)) (at n : ℕ) → LeadsOn bytes given (drop at bytes) → n ≤ length (drop at bytes) → GarbledBefore (drop at bytes) n
     → LeadsOn bytes given (drop (at + n) bytes)
 leads_on_garbled bytes given at n leads room garbled more later h =
@@ -44,7 +44,7 @@ leads_on_garbled bytes given at n leads room garbled more later h =
 
 -- ---- what comes next
 
--- garbled places, and then more of them
+-- garbled positions, followed by more of them
 pub garbled_further : (s : List ℕ) (from at n : ℕ) → IsGarbledTo s from at → n ≤ length (drop at s) → GarbledBefore (drop at s) n → IsGarbledTo s from (at + n)
 garbled_further s from at n passed room garbled =
     let there : from + (at - from) ≡ at = omega (arith, passed.low) in
@@ -56,7 +56,7 @@ garbled_further s from at n passed room garbled =
       between = subst (GarbledBefore (drop from s)) count (garbled_before-then (drop from s) (at - from) n passed.between (subst (λ (t : List ℕ). GarbledBefore t n) (sym behind) garbled));
     }
 
--- after garbled places a message is the first frame
+-- after garbled positions a message is the first frame
 pub first_from : (s : List ℕ) (start end : ℕ) → IsGarbledTo s 0 start → IsMessageAt s start end → IsFirstFrame s (take (end - start) (drop start s)) (drop end s)
 first_from s start end passed message =
     let there : start + (end - start) ≡ end = omega (arith, message.low) in
@@ -68,13 +68,13 @@ first_from s start end passed message =
       parts = sym (take-append-drop (end - start) (drop start s)) ∙ ap (λ (t : List ℕ). take (end - start) (drop start s) ++ t) (drop-drop (end - start) start s ∙ ap (λ i. drop i s) there);
     }
 
--- garbled places lead on to what comes after them
+-- garbled positions lead on to what comes after them
 pub leads_on_passed : (s : List ℕ) (given : List (List ℕ)) (from at : ℕ) → LeadsOn s given (drop from s) → IsGarbledTo s from at → LeadsOn s given (drop at s)
 leads_on_passed s given from at leads passed =
     let there : from + (at - from) ≡ at = omega (arith, passed.low) in
     subst (λ i. LeadsOn s given (drop i s)) there (leads_on_garbled s given from (at - from) leads (omega (arith, passed.low, passed.high, length-drop from s)) passed.between)
 
--- and so does a message after them
+-- so does a message after them
 pub leads_on_next : (s : List ℕ) (given : List (List ℕ)) (from start end : ℕ) → LeadsOn s given (drop from s) → IsGarbledTo s from start → IsMessageAt s start end
     → LeadsOn s (given ++ take (end - start) (drop start s) ∷ []) (drop end s)
 leads_on_next s given from start end leads passed message =

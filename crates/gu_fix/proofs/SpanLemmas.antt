@@ -9,7 +9,7 @@ use Rattle.gu_fix.specs.WholeMessage.{soh}
 use Rattle.gu_fix.specs.Spans.{AreSpelled, IsWithin, LiesBefore, field_in, AreWithin, fields_in}
 use Rattle.gu_fix.specs.declared.field.Span.{Span}
 
--- what is appended changes no value
+-- appending changes no value
 pub field_in-append : (bytes more : List ℕ) (span : Span) → IsWithin bytes span → field_in (bytes ++ more) span ≡ field_in bytes span
 field_in-append bytes more span within =
     ap (λ (t : List ℕ). tag_value span.tag t) (
@@ -17,7 +17,7 @@ field_in-append bytes more span within =
     ∙ take-append-le span.len (drop span.start bytes) more (omega (arith, length-drop span.start bytes))
     )
 
--- nor any of several
+-- nor several values
 pub fields_in-append : (bytes more : List ℕ) (spans : List Span) → AreWithin bytes spans → fields_in (bytes ++ more) spans ≡ fields_in bytes spans
 fields_in-append bytes more [] within = refl
 fields_in-append bytes more (span ∷ spans) within =
@@ -25,7 +25,7 @@ fields_in-append bytes more (span ∷ spans) within =
     let others = fields_in-append bytes more spans within.1 in
     cc
 
--- and each lies within it still
+-- and each still lies within the buffer
 pub within-append : (bytes more : List ℕ) (spans : List Span) → AreWithin bytes spans → AreWithin (bytes ++ more) spans
 within-append bytes more [] within = tt
 within-append bytes more (span ∷ spans) within = (omega (arith, within.0, length-append bytes more), within-append bytes more spans within.1)
@@ -43,13 +43,13 @@ fields_in-push bytes value spans span within start len =
     ∙ ap (λ (t : List TagValue). t ++ field_in (bytes ++ value) span ∷ []) (fields_in-append bytes value spans within)
     ∙ ap (λ (f : TagValue). fields_in bytes spans ++ f ∷ []) (field_in-end bytes value span start len)
 
--- ---- bytes that no value has
+-- ---- bytes that no value contains
 
 neither : (a b : Bool) → (a || b) ≡ false → (a ≡ false) × (b ≡ false)
 neither true b none = cc
 neither false b none = (refl, none)
 
--- what isn't among bytes isn't among some of them
+-- a byte not in a list isn't in a part of it
 dropped_without : (test : ℕ → Bool) (n : ℕ) (bytes : List ℕ) → list_any test bytes ≡ false → list_any test (drop n bytes) ≡ false
 dropped_without test zero bytes none = none
 dropped_without test (suc n) [] none = none
@@ -62,7 +62,7 @@ taken_without test (suc n) (b ∷ bytes) none =
     let parts = neither (test b) (list_any test bytes) none in
     rw (parts.0, taken_without test n bytes parts.1) refl
 
--- nor in any value that lies among them
+-- nor in any value in these bytes
 pub values_without : (bytes : List ℕ) (spans : List Span) → has_soh bytes ≡ false → list_any (λ f. has_soh f.value) (fields_in bytes spans) ≡ false
 values_without bytes [] none = refl
 values_without bytes (span ∷ spans) none =
@@ -70,9 +70,9 @@ values_without bytes (span ∷ spans) none =
     let first = taken_without test span.len (drop span.start bytes) (dropped_without test span.start bytes none) in
     rw (first, values_without bytes spans none) refl
 
--- ---- values in the buffer that is read
+-- ---- values in the buffer being read
 
--- of bytes that end in a value, its SOH and others, this is where the value lies
+-- if the bytes end in a value, its SOH and others, this is the place of the value
 pub value_lies : (bytes rest front value after : List ℕ) (tag : ℕ) (span : Span) → length rest ≤ length bytes → rest ≡ drop (length bytes - length rest) bytes
     → rest ≡ (front ++ value) ++ soh ∷ after → LiesBefore span bytes tag (length value) (length after)
     → IsWithin bytes span × (field_in bytes span ≡ tag_value tag value)
@@ -101,7 +101,7 @@ pub fields_in-one_more : (bytes : List ℕ) (spans : List Span) (span : Span) (f
 fields_in-one_more bytes spans span field is =
     map-append (field_in bytes) spans (span ∷ []) ∙ ap (λ (f : TagValue). fields_in bytes spans ++ f ∷ []) is
 
--- what is left stays a rest of the bytes
+-- what is left remains a rest of the bytes
 pub left_on : (bytes rest : List ℕ) (n : ℕ) → length rest ≤ length bytes → rest ≡ drop (length bytes - length rest) bytes → n ≤ length rest
     → drop n rest ≡ drop (length bytes - length (drop n rest)) bytes
 left_on bytes rest n short left within =
@@ -109,9 +109,9 @@ left_on bytes rest n short left within =
     let place : k + n ≡ length bytes - length (drop n rest) = omega (arith, length-drop n rest) in
     ap (drop n) left ∙ drop-drop n k bytes ∙ ap (λ i. drop i bytes) place
 
--- ---- values in a text that is written
+-- ---- values in a text being written
 
--- where the value of a field lies, whose text is at the end of the buffer
+-- the place of a field's value, if its text is at the end of the buffer
 pub record LiesAfter (bytes value : List ℕ) (tag : ℕ) (span : Span) : Type 0 where
   pub tagged : span.tag ≡ tag
   pub begins : span.start ≡ length bytes + length (decimal tag) + 1
@@ -139,7 +139,7 @@ fields_in-text bytes value tag spans span within lies =
     fields_in-one_more (bytes ++ text) spans span (tag_value tag value) (field_in-text bytes value tag span lies)
     ∙ ap (λ (t : List TagValue). t ++ tag_value tag value ∷ []) (fields_in-append bytes text spans within)
 
--- the buffer is the text of all of them still
+-- the buffer is still the text of all of them
 pub spelled-text : (bytes value : List ℕ) (tag : ℕ) (spans : List Span) (span : Span) → AreSpelled bytes spans → LiesAfter bytes value tag span
     → AreSpelled (bytes ++ field_text (tag_value tag value)) (spans ++ span ∷ [])
 spelled-text bytes value tag spans span spelled lies =

@@ -1,5 +1,5 @@
--- Laws of the frames of a stream, for the crates above: there is one list of them, and it exists; what a feed gives and
--- keeps, piece after piece, are the frames of the joined stream.
+-- Laws of the frames of a stream, for the crates above: the list of frames exists and is unique; the frames that a feed gives, piece after
+-- piece, are those of the joined stream.
 use Rattle.std.proofs.Common.{◌≡◌, ℕ, zero, suc, ◌<◌, ◌≤◌, List, [], ◌∷◌, ◌++◌, length, take, drop, refl, sym, ap, subst, ◌∙◌, append_assoc, arith, inl, inr}
 use Rattle.std.specs.List.{concat}
 use Rattle.std.proofs.lemmas.List.{length-take-le, take-append-drop, length-drop, nil_from_length, append-nil, length-append}
@@ -15,7 +15,7 @@ use Rattle.gu_fix.proofs.StreamLemmas.{frames_whole, frames_after, stands_at}
 use Rattle.gu_fix.proofs.Scanning.{garbled_some, open_at_end}
 use Rattle.gu_fix.proofs.Existence.{place_of}
 
--- a stream doesn't have a first frame and none yet
+-- a stream doesn't both have a first frame and none yet
 first_or_none : (s m rest : List ℕ) → IsFirstFrame s m rest → HasNoFrameYet s → ⊥
 first_or_none s m rest first none =
     let stands = stands_at (drop first.place s) m rest first.is_whole first.parts in
@@ -25,7 +25,7 @@ first_or_none s m rest first none =
       | inr (inr lt) ↦ (none.before first.place lt).0 stands
     ]
 
--- a stream has one list of frames
+-- a stream has at most one list of frames
 pub one_list : (a b : List (List ℕ)) (s : List ℕ) → AreFrames s a → AreFrames s b → a ≡ b
 one_list [] [] s p q = refl
 one_list [] (m ∷ ms) s none (rest, first, others) = absurd (first_or_none s m rest first none)
@@ -42,31 +42,31 @@ one_list (m ∷ ms) (n ∷ ns) s (rest, p, h) (more, q, g) =
       | inr (inr lt) ↦ absurd ((p.before q.place lt).0 (stands_at (drop q.place s) n more q.is_whole q.parts))
     ]
 
--- what is open has no frames yet
+-- open bytes have no frames yet
 pub none_yet : (kept : List ℕ) → IsOpen kept → AreFrames kept []
 none_yet kept is = record { place = 0; before = λ k lt. absurd (omega arith); is_open = is }
 
--- what leads on to open bytes are the frames so far
+-- if bytes lead on to open bytes, the given frames are those so far
 pub given_from : (bytes : List ℕ) (given : List (List ℕ)) (kept : List ℕ) → LeadsOn bytes given kept → IsOpen kept → AreFrames bytes given
 given_from bytes given kept leads is =
     let at_once = leads [] [] (subst (λ (t : List ℕ). AreFrames t []) (sym (append-nil kept)) (none_yet kept is)) in
     subst (λ fs. AreFrames bytes fs) (append-nil given) (subst (λ (t : List ℕ). AreFrames t (given ++ [])) (append-nil bytes) at_once)
 
--- a stream without a byte has none
+-- the empty stream has none
 pub none_at_start : AreFrames [] []
 none_at_start = none_yet [] open_at_end
 
--- a message in front is the first frame, and those of the rest come after
+-- a message at the start is the first frame, followed by those of the rest
 pub message_first : (message rest : List ℕ) (frames : List (List ℕ)) → IsWhole message → AreFrames rest frames → AreFrames (message ++ rest) (message ∷ frames)
 message_first message rest frames is are = frames_whole message rest frames is are
 
--- an open rest is fewer bytes than the longest message
+-- an open rest is shorter than the longest message
 pub open_is_short : (kept : List ℕ) → IsOpen kept → length kept < 65536
 open_is_short kept is = omega (arith, is.is_whole.most, is.some, length-append kept is.more)
 
 -- ---- each stream has frames
 
--- the frames of a stream, by what stands at its front
+-- the frames of a stream, from what is at its start
 frames_step : (left : ℕ) (s : List ℕ) → length s ≤ suc left → ((t : List ℕ) → length t ≤ left → (fs : List (List ℕ)) × AreFrames t fs) → ((p : Prefix) × StandsAs p s) → (fs : List (List ℕ)) × AreFrames s fs
 frames_step left s l shorter (place.Whole n, (room, w)) =
     let some = long_enough (take n s) w in
@@ -80,7 +80,7 @@ frames_step left s l shorter (place.Garbled, garbled) =
     let only : GarbledBefore s 1 = λ k lt. (let first : 0 ≡ k = omega arith in subst (λ i. IsGarbled (drop i s)) first garbled) in
     (later.0, frames_after s 1 later.0 only later.1)
 
--- the frames of a stream of at most so many bytes
+-- the frames of a stream of at most this many bytes
 frames_within : (left : ℕ) (s : List ℕ) → length s ≤ left → (fs : List (List ℕ)) × AreFrames s fs
 frames_within zero s l = ([], none_yet s (subst IsOpen (sym (nil_from_length s (omega arith))) open_at_end))
 frames_within (suc left) s l = frames_step left s l (frames_within left) (place_of s)
@@ -103,7 +103,7 @@ leads_on_then read kept piece next frames given first second more later h =
     subst (λ (fs : List (List ℕ)). AreFrames ((read ++ piece) ++ more) fs) (sym (append_assoc frames given later))
     (subst (λ (t : List ℕ). AreFrames t (frames ++ (given ++ later))) (sym (append_assoc read piece more)) outer)
 
--- the pieces that come, after those that were read
+-- the pieces that come after those that were read
 pub pieces_lead_on : (pieces : List (List ℕ)) (read kept last : List ℕ) (frames given : List (List ℕ)) → AreFrames read frames → LeadsOn read frames kept → TakesPieces kept pieces given last
     → AreFrames (read ++ concat pieces) (frames ++ given) × LeadsOn (read ++ concat pieces) (frames ++ given) last
 pieces_lead_on [] read kept last frames given are leads (none, same) =
@@ -120,6 +120,6 @@ pieces_lead_on (piece ∷ pieces) read kept last frames given are leads (now, ne
       subst (λ (t : List ℕ). LeadsOn t (frames ++ given) last) joined (subst (λ (fs : List (List ℕ)). LeadsOn ((read ++ piece) ++ concat pieces) fs last) all after.1),
     )
 
--- over any list of pieces the frames given are those of the joined stream, and what is kept leads on from there
+-- for any list of pieces the frames given are those of the joined stream, and what is kept leads on from there
 pub frames_of_pieces : (pieces : List (List ℕ)) (given : List (List ℕ)) (last : List ℕ) → TakesPieces [] pieces given last → AreFrames (concat pieces) given × LeadsOn (concat pieces) given last
 frames_of_pieces pieces given last takes = pieces_lead_on pieces [] [] last [] given none_at_start (leads_on_start []) takes

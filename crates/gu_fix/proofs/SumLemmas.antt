@@ -20,7 +20,7 @@ pub running-append : (base : ℕ) (xs ys : List ℕ) → running_sums base (xs +
 running-append base [] ys = refl
 running-append base (x ∷ xs) ys = ap (λ (t : List ℕ). (base + x) % 256 ∷ t) (running-append ((base + x) % 256) xs ys)
 
--- the running sum at a place
+-- the running sum at an index
 pub running-at : (base i : ℕ) (bs : List ℕ) → i < length bs → get_or (running_sums base bs) i 0 ≡ sum_after base (take (suc i) bs)
 running-at base i [] l = absurd (omega arith)
 running-at base zero (b ∷ bs) l = refl

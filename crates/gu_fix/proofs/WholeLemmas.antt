@@ -8,7 +8,7 @@ use Rattle.gu_fix.specs.WholeMessage.{soh, opening, type_tag, body_of, trailer_o
 use Rattle.gu_fix.specs.Stream.{Stands, IsOpen, IsGarbled}
 use Rattle.gu_fix.proofs.Lists.{same_fronts, front_of_front}
 
--- SOH is no digit
+-- SOH isn't a digit
 pub soh_no_digit : (c : ℕ) → digit_value c < 10 → c ≡ soh → ⊥
 soh_no_digit c h e =
     let P : ℕ → Type 0 = λ n. digit_value n < 10 in
@@ -26,7 +26,7 @@ digits_end (c ∷ cs) (d ∷ ds) x y p q e =
     let r = digits_end cs ds x y p.1 q.1 tails in
     (cc, r.1)
 
--- a message from its length's text and its body
+-- a message made from its length's text and its body
 abbrev pub spelling : List ℕ → List ℕ → List ℕ
 spelling digits body = front_of digits body ++ trailer_after (front_of digits body)
 
@@ -53,7 +53,7 @@ length-trailer n = refl
 pub length-spelling : (digits body : List ℕ) → length (spelling digits body) ≡ 21 + length digits + length body
 length-spelling digits body = simp (length-append, length-opening, length-trailer) (omega arith)
 
--- two messages at the front of one list are one message
+-- two messages at the start of one list are the same message
 pub one_message : (m n x y : List ℕ) → IsWhole m → IsWhole n → m ++ x ≡ n ++ y → m ≡ n
 one_message m n x y p q e =
     let a = body_of p.inner in
@@ -66,7 +66,7 @@ one_message m n x y p q e =
     let bodies = (same_fronts a b _ _ long parts.1).0 in
     p.spelled ∙ ap (λ (t : List ℕ). spelling t a) parts.0 ∙ ap (spelling q.digits) bodies ∙ sym q.spelled
 
--- a place where a message stands isn't open
+-- a position with a message isn't open
 pub stands_closed : (s : List ℕ) → Stands s → IsOpen s → ⊥
 stands_closed s a o =
     let e : a.message ++ (a.rest ++ o.more) ≡ (s ++ o.more) ++ [] =
@@ -77,18 +77,18 @@ stands_closed s a o =
     let l2 = ap length a.parts in
     omega (arith, length-append s o.more, length-append a.message a.rest, l1, l2)
 
--- no message stands here in any continuation
+-- no continuation has a message here
 abbrev pub NoneCanStand : List ℕ → Type 0
 NoneCanStand bytes = (m more rest : List ℕ) → IsWhole m → bytes ++ more ≡ m ++ rest → ⊥
 
--- a place where no message can stand is garbled
+-- a position that can have no message is garbled
 pub garbled_from : (bytes : List ℕ) → NoneCanStand bytes → IsGarbled bytes
 garbled_from bytes h = (
   λ s. h s.message [] s.rest s.is_whole (append-nil bytes ∙ s.parts),
   λ o. h (bytes ++ o.more) o.more [] o.is_whole (sym (append-nil (bytes ++ o.more))),
 )
 
--- at a garbled place no message can stand
+-- a garbled position can have no message
 pub none_can_stand : (bytes : List ℕ) → IsGarbled bytes → NoneCanStand bytes
 none_can_stand bytes garbled m more rest w e =
     elim (cases_lt (length bytes) (length m)) [
@@ -99,7 +99,7 @@ none_can_stand bytes garbled m more rest w e =
           garbled.0 (record { message = m; rest = drop (length m) bytes; is_whole = w; parts = front_of_front bytes m more rest e le })
     ]
 
--- more bytes leave a garbled place garbled
+-- more bytes leave a garbled position garbled
 pub garbled-append : (bytes more : List ℕ) → IsGarbled bytes → IsGarbled (bytes ++ more)
 garbled-append bytes more garbled =
     garbled_from (bytes ++ more) (λ m later rest w e. none_can_stand bytes garbled m (more ++ later) rest w (sym (append_assoc bytes more later) ∙ e))
@@ -112,6 +112,6 @@ garbled_unless_first (b ∷ bs) some other = garbled_from (b ∷ bs) (λ m more 
     let same : b ∷ (bs ++ more) ≡ spelling w.digits (body_of w.inner) ++ rest = e ∙ ap (λ (t : List ℕ). t ++ rest) w.spelled in
     other (ap (λ (t : List ℕ). get_or t 0 0) same))
 
--- a message has 25 bytes at least
+-- a message has at least 25 bytes
 pub long_enough : (m : List ℕ) → IsWhole m → 0 < length m
 long_enough m w = omega (arith, ap length w.spelled, length-spelling w.digits (body_of w.inner))

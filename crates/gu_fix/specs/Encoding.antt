@@ -13,7 +13,7 @@ use Rattle.gu_fix.specs.declared.error.EncodeError.TheVariants.{BadTag, EmptyVal
 abbrev pub field_text : TagValue → List ℕ
 field_text field = decimal field.tag ++ equals ∷ field.value ++ soh ∷ []
 
--- fields one after another
+-- fields in order
 abbrev pub fields_text : List TagValue → List ℕ
 fields_text fields = flat_map field_text fields
 
@@ -32,7 +32,7 @@ fields_of_message fields =
     tag_value BEGIN_STRING (codes "FIXT.1.1") ∷ tag_value BODY_LENGTH (decimal (length body))
     ∷ (fields ++ tag_value CHECK_SUM (three_digits (sum front % 256)) ∷ [])
 
--- a tag that a field of a body may have: at most nine digits, and none of those that the encoding itself writes
+-- a tag allowed in a body: 1 to nine digits, other than those that the encoding itself writes
 abbrev pub is_body_tag : ℕ → Bool
 is_body_tag tag = not (tag == 0 || tag == BEGIN_STRING || tag == BODY_LENGTH || tag == CHECK_SUM) && nat_le tag 999999999
 
@@ -41,15 +41,15 @@ abbrev pub begins_with_type : List TagValue → Bool
 begins_with_type [] = false
 begins_with_type (field ∷ fields) = field.tag == MSG_TYPE
 
--- a value without a byte
+-- a value is empty
 abbrev pub is_empty : List ℕ → Bool
 is_empty value = length value == 0
 
--- a value with SOH in it
+-- a value contains SOH
 abbrev pub has_soh : List ℕ → Bool
 has_soh value = list_any (λ b. b == soh) value
 
--- the first fault of the fields; each is looked for over all of them before the next one
+-- the first fault of the fields; each is looked for over all of them before the next
 unfoldable pub fault_of : List TagValue → Option EncodeError
 fault_of fields =
     if not (begins_with_type fields && list_all (λ f. is_body_tag f.tag) fields) then Some BadTag

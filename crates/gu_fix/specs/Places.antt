@@ -1,4 +1,4 @@
--- Machinery: what is at one place of a stream, as it is read part by part. No other crate names this file.
+-- Machinery: what is at a position of a stream, as it is read part by part. No other crate names this file.
 use Rattle.std.specs.Prelude.{◌≡◌, ℕ, ◌+◌, ◌<◌, ◌≤◌, List, ◌∷◌, ◌++◌, length, take}
 use Rattle.gu_fix.specs.WholeMessage.{IsLengthText, body_of, IsWhole, soh}
 use Rattle.gu_fix.specs.Stream.{IsOpen, IsGarbled}
@@ -9,7 +9,7 @@ use Rattle.gu_fix.specs.declared.prefix.LengthText.TheVariants as length_text
 use Rattle.gu_fix.specs.declared.prefix.Prefix.{Prefix}
 use Rattle.gu_fix.specs.declared.prefix.Prefix.TheVariants as place
 
--- how bytes meet a text with which they are to begin
+-- the result of comparing bytes with a text that they should begin with
 abbrev pub Meets : Meeting → List ℕ → List ℕ → Type 0
 Meets Begins bytes text = (rest : List ℕ) × (bytes ≡ text ++ rest)
 Meets Within bytes text = (rest : List ℕ) × (0 < length rest) × (bytes ++ rest ≡ text)
@@ -21,8 +21,8 @@ pub record IsLength (digits : List ℕ) (n : ℕ) : Type 0 where
   pub least : 4 ≤ n
   pub most : 21 + length digits + n ≤ 65536
 
--- what bytes say of the length with which they are to begin: so many digits with this value, digits that can go on
--- to such a length, or neither
+-- the result of reading the length that bytes should begin with: this many digits with this value, digits that can be continued to such a
+-- length, or neither
 abbrev pub ReadsLength : LengthText → List ℕ → Type 0
 ReadsLength (length_text.Read count n) bytes =
     (digits : List ℕ) × (rest : List ℕ) × (length digits ≡ count) × IsLength digits n × (bytes ≡ digits ++ soh ∷ rest)
@@ -30,13 +30,13 @@ ReadsLength length_text.Open bytes = (more : List ℕ) × (n : ℕ) × IsLength 
 ReadsLength length_text.Apart bytes =
     (digits more rest : List ℕ) (n : ℕ) → IsLength digits n → bytes ++ more ≡ digits ++ soh ∷ rest → ⊥
 
--- how bytes meet a body of n bytes with which they are to begin
+-- the result of comparing bytes with a body of n bytes that they should begin with
 abbrev pub MeetsBody : Meeting → List ℕ → ℕ → Type 0
 MeetsBody Begins bytes n = (inner : List ℕ) × (rest : List ℕ) × (length (body_of inner) ≡ n) × (bytes ≡ body_of inner ++ rest)
 MeetsBody Within bytes n = (inner : List ℕ) × (more : List ℕ) × (length (body_of inner) ≡ n) × (bytes ++ more ≡ body_of inner)
 MeetsBody Apart bytes n = (inner more rest : List ℕ) → length (body_of inner) ≡ n → bytes ++ more ≡ body_of inner ++ rest → ⊥
 
--- what is at a place of a stream
+-- what is at a position of a stream
 abbrev pub StandsAs : Prefix → List ℕ → Type 0
 StandsAs (place.Whole n) bytes = (n ≤ length bytes) × IsWhole (take n bytes)
 StandsAs place.Open bytes = IsOpen bytes

@@ -1,4 +1,4 @@
--- A field as messages speak of it: a tag, and the bytes of its value.
+-- A field as messages have it: a tag, and the bytes of its value.
 use Rattle.std.specs.Prelude.{ℕ, List}
 
 -- a tag and its value

@@ -1,5 +1,4 @@
--- A whole message: BeginString, BodyLength, the body from MsgType on, and CheckSum (FIXT 1.1, Standard Header and
--- Standard Trailer).
+-- A whole message: BeginString, BodyLength, the body starting with MsgType, and CheckSum (FIXT 1.1, Standard Header and Standard Trailer).
 use Rattle.std.specs.Prelude.{◌≡◌, ℕ, ◌+◌, ◌/◌, ◌%◌, ◌≤◌, List, [], ◌∷◌, ◌++◌, length, sum, codes}
 use Rattle.std.specs.Str.Parse.{AllDigits, digits_value}
 
@@ -7,7 +6,7 @@ use Rattle.std.specs.Str.Parse.{AllDigits, digits_value}
 abbrev pub soh : ℕ
 soh = 1
 
--- what each message begins with: BeginString and the tag of BodyLength, `8=FIXT.1.1`, SOH, `9=`
+-- the start of each message: BeginString and the tag of BodyLength, `8=FIXT.1.1`, SOH, `9=`
 unfoldable pub opening : List ℕ
 opening = codes "8=FIXT.1.1" ++ soh ∷ codes "9="
 
@@ -26,7 +25,7 @@ type_tag = codes "35="
 abbrev pub body_of : List ℕ → List ℕ
 body_of inner = type_tag ++ inner ++ soh ∷ []
 
--- a number below 1,000 in three digits
+-- a number below 1,000 as three digits
 abbrev pub three_digits : ℕ → List ℕ
 three_digits n = (48 + n / 100) ∷ (48 + n / 10 % 10) ∷ (48 + n % 10) ∷ []
 
@@ -38,7 +37,7 @@ trailer_of n = codes "10=" ++ three_digits n ++ soh ∷ []
 abbrev pub trailer_after : List ℕ → List ℕ
 trailer_after before = trailer_of (sum before % 256)
 
--- all of a message before its CheckSum
+-- everything in a message before its CheckSum
 abbrev pub front_of : List ℕ → List ℕ → List ℕ
 front_of digits body = opening ++ digits ++ soh ∷ body
 

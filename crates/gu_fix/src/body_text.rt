@@ -1,4 +1,4 @@
-//! The body of a message that is being written: its fields, as a message has them.
+//! The body of a message being written: its fields as text.
 ghost use Rattle.std.specs.Prelude.{◌≡◌, ◌+◌, List, ℕ, [], ◌∷◌, ◌++◌, ◌≤◌, length, vec_len, vec_capacity, IfOk, OnOk, OnErr};
 ghost use Rattle.std.specs.Fmt.{decimal};
 ghost use Rattle.std.specs.List.{flat_map};
@@ -12,7 +12,7 @@ use std::alloc::{AllocError, Global};
 use std::marker::Model;
 use std::mem::replace;
 
-/// Appends parts, one after another.
+/// Appends parts in order.
 #[inline(always)]
 fn extend_by_each(bytes: &mut Vec<u8>, parts: &[&[u8]]) -> Result<(), AllocError>
     ensures ok { OnOk result (bytes.new.items ≡ bytes.old.items ++ flat_map (λ part. part.now) parts.now) }
@@ -24,7 +24,7 @@ fn extend_by_each(bytes: &mut Vec<u8>, parts: &[&[u8]]) -> Result<(), AllocError
     Ok(())
 }
 
-/// Appends the text of a field whose value is these parts, one after another, and returns where the value begins.
+/// Appends the text of a field whose value is these parts joined, and returns the position of the value.
 #[inline(always)]
 fn push_parts(text: &mut Vec<u8>, tag: u32, parts: &[&[u8]]) -> Result<usize, AllocError>
     ensures ok { OnOk result (text.new.items ≡ text.old.items ++ field_text (tag_value tag (flat_map (λ part. part.now) parts.now))) }
@@ -34,17 +34,17 @@ fn push_parts(text: &mut Vec<u8>, tag: u32, parts: &[&[u8]]) -> Result<usize, Al
     push_tag(text, tag)?;
     let start = text.len();
     extend_by_each(text, parts)?;
-    // Room by itself: `push` would be a call for each field.
+    // Reserves room here: `push` would be a call for each field.
     text.reserve(1)?;
     text.push_reserved(SOH);
     Ok(start)
 }
 
-/// A value of at most so many bytes is copied byte by byte.
+/// The most bytes in a value that is copied byte by byte.
 const SHORT: usize = 32;
 
-/// The text with one more field, for which it has room, and where the value begins. It comes by value, so that its length isn't
-/// written and read again for each byte.
+/// Returns the text with one more field, for which it has room, and the position of the value. The text is passed by value, so that its
+/// length isn't written and read again for each byte.
 #[inline(always)]
 fn with_field(mut text: Vec<u8>, tag: u32, value: &[u8]) -> (Vec<u8>, usize)
     requires { vec_len text + TAG_ROOM + length value.now + 1 ≤ vec_capacity text }
@@ -58,11 +58,11 @@ fn with_field(mut text: Vec<u8>, tag: u32, value: &[u8]) -> (Vec<u8>, usize)
     (text, start)
 }
 
-/// The fields of a body, which are kept as their text in a message. To a contract they are the list of their tags and values.
+/// The fields of a body, stored as their text in a message. To a contract they are the list of their tags and values.
 #[derive(Drop)]
 pub struct BodyText {
     text: Vec<u8>,
-    /// Where the values lie in the text.
+    /// The positions of the values in the text.
     spans: Vec<Span>,
 }
 
@@ -80,7 +80,7 @@ impl Model for BodyText {
 }
 
 impl BodyText {
-    /// No fields.
+    /// Returns no fields.
     pub fn new(alloc: Global) -> Self
         ensures { result ≡ [] }
     {
@@ -90,7 +90,7 @@ impl BodyText {
         }
     }
 
-    /// No fields yet, with room for a text of so many bytes, sixteen bytes to a field.
+    /// Returns no fields, with room for this many bytes of text, at sixteen bytes a field.
     pub fn with_room(alloc: Global, bytes: usize) -> Result<Self, AllocError>
         ensures { IfOk result (λ body. body ≡ []) }
     {
@@ -100,7 +100,7 @@ impl BodyText {
         })
     }
 
-    /// Takes all fields away. Their room stays.
+    /// Removes all fields. Their room stays.
     pub fn clear(&mut self)
         ensures { self.new ≡ [] }
     {
@@ -108,7 +108,7 @@ impl BodyText {
         self.spans.clear();
     }
 
-    /// Appends a field whose value is these parts, one after another.
+    /// Appends a field whose value is these parts joined.
     #[inline(always)]
     pub fn push_joined(&mut self, tag: u32, parts: &[&[u8]]) -> Result<(), AllocError>
         ensures ok { OnOk result (self.new ≡ self.old ++ tag_value tag (flat_map (λ part. part.now) parts.now) ∷ []) }
@@ -143,7 +143,7 @@ impl BodyText {
         Ok(())
     }
 
-    /// Appends a field whose value isn't short.
+    /// Appends a field whose value is long.
     #[inline(never)]
     fn push_long(&mut self, tag: u32, value: &[u8]) -> Result<(), AllocError>
         ensures ok { OnOk result (self.new ≡ self.old ++ tag_value tag value.now ∷ []) }
@@ -152,14 +152,14 @@ impl BodyText {
         self.push_joined(tag, &[value])
     }
 
-    /// Their text in a message.
+    /// Returns their text in a message.
     pub(crate) fn text(&self) -> &[u8]
         ensures { result.now ≡ fields_text self.now }
     {
         &self.text
     }
 
-    /// The same fields, to be looked at one by one.
+    /// Returns the same fields as `Fields`.
     pub fn into_fields(self) -> Fields
         ensures { result ≡ self }
     {

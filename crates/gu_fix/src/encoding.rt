@@ -1,4 +1,4 @@
-//! Messages from fields.
+//! Encoding fields as a message.
 ghost use Rattle.std.specs.Prelude.{◌≡◌, ◌==◌, ◌≤◌, ◌<◌, ◌+◌, ◌++◌, ◌↔◌, List, ℕ, [], ◌∷◌, length, drop, sum, ◌%◌, Some, None, IfOk, OnOk, OnErr, IsErrOf, MatchOption, MatchResult, IsTrue, not, ◌&&◌, vec_len, vec_capacity};
 ghost use Rattle.std.specs.List.{list_any, list_all};
 ghost use Rattle.std.specs.Fmt.{decimal};
@@ -15,7 +15,7 @@ use crate::tag::{BEGIN_STRING, BODY_LENGTH, CHECK_SUM, MSG_TYPE};
 use itoa::Buffer;
 use std::alloc::{AllocError, Global};
 
-/// Whether a field of a body may have this tag.
+/// Returns whether a field of a body may have this tag.
 fn is_free_tag(tag: u32) -> bool
     ensures { result ≡ is_body_tag tag }
 {
@@ -73,7 +73,7 @@ fn contains_soh(value: &[u8]) -> bool
 fn has_soh_in_value(fields: &Fields) -> bool
     ensures { result ≡ list_any (λ f. has_soh f.value) fields.now }
 {
-    // The values lie in one buffer, which mostly has none.
+    // The values are in one buffer, which usually has no SOH.
     if !fields.lie_with_soh() {
         return false;
     }
@@ -85,7 +85,7 @@ fn has_soh_in_value(fields: &Fields) -> bool
     false
 }
 
-/// The digits of a tag that has two, and `=`.
+/// Returns the two digits of a tag, followed by `=`.
 #[inline(always)]
 fn two_digits(tag: u32) -> [u8; 3]
     requires { (10 ≤ tag) × (tag < 100) }
@@ -94,7 +94,7 @@ fn two_digits(tag: u32) -> [u8; 3]
     [b'0' + (tag / 10) as u8, b'0' + (tag % 10) as u8, b'=']
 }
 
-/// The digits of a tag that has three, and `=`.
+/// Returns the three digits of a tag, followed by `=`.
 #[inline(always)]
 fn three_digits(tag: u32) -> [u8; 4]
     requires { (100 ≤ tag) × (tag < 1000) }
@@ -108,10 +108,10 @@ fn three_digits(tag: u32) -> [u8; 4]
     ]
 }
 
-/// The bytes that a tag and `=` take at most.
+/// The most bytes in a tag and `=`.
 pub(crate) const TAG_ROOM: usize = 11;
 
-/// Appends bytes, for which there is room, one by one.
+/// Appends bytes one by one. There is room for them.
 #[inline(always)]
 pub(crate) fn extend_reserved(out: &mut Vec<u8>, bytes: &[u8])
     requires { vec_len out.old + length bytes.now ≤ vec_capacity out.old }
@@ -124,7 +124,7 @@ pub(crate) fn extend_reserved(out: &mut Vec<u8>, bytes: &[u8])
     }
 }
 
-/// Appends a tag, of which most have two or three digits, and `=`, for which there is room.
+/// Appends a tag, usually of two or three digits, and `=`. There is room for them.
 #[inline(always)]
 pub(crate) fn push_tag_reserved(out: &mut Vec<u8>, tag: u32)
     requires { vec_len out.old + TAG_ROOM ≤ vec_capacity out.old }
@@ -176,7 +176,7 @@ fn push_fields(out: &mut Vec<u8>, fields: &Fields) -> Result<(), AllocError>
     Ok(())
 }
 
-/// How many digits a number has.
+/// Returns the number of digits in a number.
 fn digits_of(number: u32) -> usize
     ensures digits { result ≡ length (decimal number) }
     ensures most { result ≤ 10 }
@@ -194,7 +194,7 @@ fn digits_of(number: u32) -> usize
     digits.format(number).len()
 }
 
-/// The length of the fields' text, unless it is above a message's.
+/// Returns the length of the fields' text, unless it is above the most in a message.
 fn body_length(fields: &Fields) -> Option<usize>
     ensures { MatchOption result (65536 < length (fields_text fields.now))
         (λ n. (n ≡ length (fields_text fields.now)) × (n ≤ 65536)) }
@@ -209,7 +209,7 @@ fn body_length(fields: &Fields) -> Option<usize>
     Some(total)
 }
 
-/// The sum of the bytes from a place on, modulo 256.
+/// Returns the sum of the bytes from a position on, modulo 256.
 fn checksum_from(bytes: &[u8], start: usize) -> u8
     requires { start ≤ length bytes.now }
     ensures { result ≡ sum (drop start bytes.now) % 256 }
@@ -217,7 +217,7 @@ fn checksum_from(bytes: &[u8], start: usize) -> u8
     checksum(&bytes[start..])
 }
 
-/// Appends the message of fields with this text, whose length has these digits.
+/// Appends the message with this text of fields, whose length has these digits.
 fn push_message(out: &mut Vec<u8>, digits: &[u8], text: &[u8]) -> Result<(), AllocError>
     requires { FIXED_LENGTH + length digits.now + length text.now ≤ LONGEST }
     ensures ok { OnOk result (let front = front_of digits.now text.now in out.new.items ≡ out.old.items ++ front ++ trailer_after front) }
@@ -234,7 +234,7 @@ fn push_message(out: &mut Vec<u8>, digits: &[u8], text: &[u8]) -> Result<(), All
     Ok(())
 }
 
-/// The message of these fields, the length of whose text has these digits.
+/// Returns the message with these fields, whose text has a length with these digits.
 fn message(alloc: Global, digits: &[u8], fields: &Fields) -> Result<Vec<u8>, AllocError>
     requires { FIXED_LENGTH + length digits.now + length (fields_text fields.now) ≤ LONGEST }
     ensures { IfOk result (λ v. let front = front_of digits.now (fields_text fields.now) in v.items ≡ front ++ trailer_after front) }
@@ -246,7 +246,7 @@ fn message(alloc: Global, digits: &[u8], fields: &Fields) -> Result<Vec<u8>, All
     Ok(out)
 }
 
-/// The length of the fields' text, or their first fault.
+/// Returns the length of the fields' text, or their first fault.
 fn sound_length(fields: &Fields) -> Result<usize, EncodeError>
     ensures { MatchResult result (IsSound fields.now) (IsFirstFault fields.now) }
 {
@@ -269,13 +269,13 @@ fn sound_length(fields: &Fields) -> Result<usize, EncodeError>
     Ok(len)
 }
 
-/// The message of the fields. Each fault is looked for before any growth.
+/// Returns the message with these fields. Every fault is looked for before anything is allocated.
 pub fn encode(alloc: Global, fields: &Fields) -> Result<Vec<u8>, EncodeError>
     ensures message { IfOk result (λ v. v.items ≡ message_of fields.now) }
     ensures whole { IfOk result (λ v. IsWhole v.items) }
     ensures sound { OnOk result (fault_of fields.now ≡ None) }
 
-    // Each fault, exactly where it is the first one, and want of memory only where there is none.
+    // Each fault, exactly if it is the first, and Memory only if there is none.
     ensures bad_tag { IsErrOf result EncodeError.BadTag ↔ (fault_of fields.now ≡ Some EncodeError.BadTag) }
     ensures empty_value { IsErrOf result EncodeError.EmptyValue ↔ (fault_of fields.now ≡ Some EncodeError.EmptyValue) }
     ensures soh_in_value { IsErrOf result EncodeError.SohInValue ↔ (fault_of fields.now ≡ Some EncodeError.SohInValue) }
@@ -293,7 +293,7 @@ pub fn encode(alloc: Global, fields: &Fields) -> Result<Vec<u8>, EncodeError>
     }
 }
 
-/// Appends the message of fields that have no fault, so that none is looked for.
+/// Appends the message with these fields, which have no fault, so that none is looked for.
 pub fn encode_onto(output: &mut Vec<u8>, fields: &BodyText) -> Result<(), AllocError>
     requires { fault_of fields.now ≡ None }
     ensures message { OnOk result (output.new.items ≡ output.old.items ++ message_of fields.now) }

@@ -1,14 +1,14 @@
-//! Why a call of this crate is refused, and what is wrong with a field.
+//! Errors of this crate's calls, and faults of fields.
 ghost use Rattle.std.specs.Prelude.{◌≡◌};
 ghost use Rattle.gu_fix.specs.RejectReason.{number_of};
 
 use std::alloc::AllocError;
 use thiserror::Error;
 
-/// Why a feed takes no piece.
+/// The reason that a feed doesn't take a piece.
 #[derive(Clone, Copy, Debug, Error, PartialEq, Eq)]
 pub enum FeedError {
-    /// An allocation failed. The feed is as it was, and the piece may be fed again.
+    /// An allocation failed. The feed is unchanged, and the piece may be fed again.
     #[error("Memory")]
     Memory,
 }
@@ -24,7 +24,7 @@ impl From<AllocError> for FeedError {
     }
 }
 
-/// Why fields make no message, in the order in which it is looked for over all of them.
+/// The reason that fields can't be encoded, in the order in which they are tested for over all fields.
 #[derive(Clone, Copy, Debug, Error, PartialEq, Eq)]
 pub enum EncodeError {
     /// An allocation failed.
@@ -36,7 +36,7 @@ pub enum EncodeError {
     /// A value is empty.
     #[error("EmptyValue")]
     EmptyValue,
-    /// A value has SOH in it.
+    /// A value contains SOH.
     #[error("SohInValue")]
     SohInValue,
     /// The message would have more than 65,536 bytes.
@@ -44,7 +44,7 @@ pub enum EncodeError {
     TooLong,
 }
 
-/// Why a field or a message is rejected (SessionRejectReason, tag 373).
+/// The reason that a field or a message is rejected (SessionRejectReason, tag 373).
 #[derive(Clone, Copy, Debug, PartialEq, Eq)]
 pub enum SessionRejectReason {
     InvalidTagNumber,
@@ -52,7 +52,7 @@ pub enum SessionRejectReason {
 }
 
 impl SessionRejectReason {
-    /// Its value on the wire.
+    /// Returns its value on the wire.
     pub fn number(self) -> u32
         ensures { result ≡ number_of self }
     {
@@ -63,7 +63,7 @@ impl SessionRejectReason {
     }
 }
 
-/// What is wrong with a part of a message, and at which tag: 0 where none can be read.
+/// The fault of a part of a message, and its tag: 0 if no tag can be read.
 #[derive(Clone, Copy, Debug, PartialEq, Eq)]
 pub struct FieldFault {
     pub tag: u32,

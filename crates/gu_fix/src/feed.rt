@@ -9,9 +9,9 @@ use crate::window::Window;
 use std::alloc::Global;
 use std::marker::Model;
 
-/// What keeps the bytes of a stream that are not decided yet. To a contract it is those bytes.
+/// A feed: stores the bytes of a stream that aren't decided yet. To a contract it is those bytes.
 ///
-/// The program takes its frames one at a time, by an `Intake`.
+/// The program takes its frames one at a time, with an `Intake`.
 #[derive(Drop)]
 pub struct Feed {
     alloc: Global,
@@ -27,7 +27,7 @@ impl Model for Feed {
 }
 
 impl Feed {
-    /// A feed that keeps no bytes.
+    /// Returns an empty feed.
     pub fn new(alloc: Global) -> Self
         ensures { result ≡ [] }
     {
@@ -37,7 +37,7 @@ impl Feed {
         }
     }
 
-    /// Takes the next piece of the stream, and gives the frames that are whole with it.
+    /// Takes the next piece of the stream, and returns the frames that it completes.
     pub fn push(&mut self, piece: &[u8]) -> Result<Vec<Frame>, FeedError>
         ensures given { IfOk result (λ given. AreFrames (self.old ++ piece.now) given.items) }
         ensures leads_on { IfOk result (λ given. LeadsOn (self.old ++ piece.now) given.items self.new) }

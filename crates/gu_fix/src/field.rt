@@ -1,4 +1,4 @@
-//! Fields in order: tags with their values, which lie in one buffer.
+//! Fields in order: tags and their values, which are stored in one buffer.
 ghost use Rattle.std.specs.Prelude.{◌≡◌, false, ◌+◌, ◌≤◌, ◌<◌, [], ◌∷◌, ◌++◌, length, take, drop, slice_get, Some, IfOk, OnOk, OnErr, IsTrue, ◌↔◌};
 ghost use Rattle.std.specs.Iterator.{YieldsFirstBy, item_count};
 ghost use Rattle.std.specs.List.{list_any};
@@ -11,14 +11,14 @@ use std::alloc::{AllocError, Global};
 use std::marker::Model;
 use std::mem::replace;
 
-/// A field that lies in a message or among others.
+/// A field of a message or of a list of fields.
 #[derive(Clone, Copy, Debug, PartialEq, Eq)]
 pub struct Field<'a> {
     pub tag: u32,
     pub value: &'a [u8],
 }
 
-/// A tag, and where its value lies.
+/// A tag, and the place of its value.
 #[derive(Clone, Copy)]
 pub struct Span {
     tag: u32,
@@ -27,7 +27,7 @@ pub struct Span {
 }
 
 impl Span {
-    /// A tag whose value lies there.
+    /// Returns a span for this tag and place.
     pub(crate) fn new(tag: u32, start: usize, len: usize) -> Self
         ensures tag { result.tag ≡ tag }
         ensures start { result.start ≡ start }
@@ -36,7 +36,7 @@ impl Span {
         Span { tag, start, len }
     }
 
-    /// The field whose value lies there.
+    /// Returns the field with its value in these bytes.
     fn field_in(self, bytes: &[u8]) -> Field<'_>
         requires { self.start + self.len ≤ length bytes.now }
         ensures tag { result.tag ≡ self.tag }
@@ -49,7 +49,7 @@ impl Span {
     }
 }
 
-/// Fields in order. To a contract they are the list of their tags and values.
+/// A list of fields. To a contract it is the list of their tags and values.
 #[derive(Drop)]
 pub struct Fields {
     bytes: Vec<u8>,
@@ -70,7 +70,7 @@ impl Model for Fields {
 }
 
 impl Fields {
-    /// No fields.
+    /// Returns no fields.
     pub fn new(alloc: Global) -> Self
         ensures { result ≡ [] }
     {
@@ -80,7 +80,7 @@ impl Fields {
         }
     }
 
-    /// The fields whose values lie there in a buffer.
+    /// Returns the fields with their values at these places in a buffer.
     pub(crate) fn lying_in(bytes: Vec<u8>, spans: Vec<Span>) -> Self
         requires { AreWithin bytes.items spans.items }
         ensures { result ≡ fields_in bytes.items spans.items }
@@ -88,14 +88,14 @@ impl Fields {
         Fields { bytes, spans }
     }
 
-    /// Whether SOH is in the buffer in which the values lie.
+    /// Returns whether the buffer of values contains SOH.
     pub(crate) fn lie_with_soh(&self) -> bool
         ensures { result ≡ false → list_any (λ f. has_soh f.value) self.now ≡ false }
     {
         self.bytes.contains(&SOH)
     }
 
-    /// Takes the room of the list of them, and leaves none.
+    /// Takes the storage of their list, and leaves no fields.
     pub(crate) fn take_room(&mut self, alloc: Global) -> Vec<Span>
         ensures room { result.items ≡ [] }
         ensures none { self.new ≡ [] }
@@ -105,21 +105,21 @@ impl Fields {
         room
     }
 
-    /// How many fields there are.
+    /// Returns the number of fields.
     pub fn len(&self) -> usize
         ensures { result ≡ length self.now }
     {
         self.spans.len()
     }
 
-    /// Whether there are none.
+    /// Returns whether there are no fields.
     pub fn is_empty(&self) -> bool
         ensures { IsTrue result ↔ (self.now ≡ []) }
     {
         self.spans.is_empty()
     }
 
-    /// The field at a place, counted from 0.
+    /// Returns the field at an index, counted from 0.
     pub fn get(&self, index: usize) -> Field<'_>
         requires { index < length self.now }
         ensures { slice_get self.now index ≡ Some (tag_value result.tag result.value.now) }
@@ -127,7 +127,7 @@ impl Fields {
         self.spans[index].field_in(&self.bytes)
     }
 
-    /// The fields in order.
+    /// Returns the fields in order.
     pub fn iter(&self) -> Iter<'_>
         ensures { result ≡ self.now }
     {
@@ -154,7 +154,7 @@ impl Fields {
         Ok(())
     }
 
-    /// The same fields in a buffer of their own.
+    /// Returns the same fields in a separate buffer.
     pub fn copy(&self, alloc: Global) -> Result<Fields, AllocError>
         ensures { IfOk result (λ copy. copy ≡ self.now) }
     {
@@ -164,7 +164,7 @@ impl Fields {
     }
 }
 
-/// The fields that are left of a walk over them.
+/// An iterator over the remaining fields.
 #[derive(Drop)]
 pub struct Iter<'a> {
     bytes: &'a [u8],

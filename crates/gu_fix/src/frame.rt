@@ -20,7 +20,7 @@ impl Model for Frame {
 }
 
 impl Frame {
-    /// A copy of a whole message.
+    /// Returns a copy of a whole message.
     pub(crate) fn new(alloc: Global, message: &[u8]) -> Result<Self, AllocError>
         requires { IsWhole message.now }
         ensures { IfOk result (λ f. f ≡ message.now) }
@@ -29,7 +29,7 @@ impl Frame {
         Ok(Frame { bytes })
     }
 
-    /// The message.
+    /// Returns the message.
     pub fn bytes(&self) -> &[u8]
         ensures value { result.now ≡ self.now }
         ensures whole { IsWhole self.now }
@@ -37,7 +37,7 @@ impl Frame {
         &self.bytes
     }
 
-    /// The message's bytes themselves.
+    /// Returns the message's bytes by value.
     pub(crate) fn into_bytes(self) -> Vec<u8>
         ensures value { result.items ≡ self }
         ensures whole { IsWhole self }

@@ -9,7 +9,7 @@ use crate::window::Window;
 use std::alloc::Global;
 use std::marker::Model;
 
-/// What keeps the bytes of a stream whose frames weren't taken yet. To a contract it is those bytes.
+/// An intake: stores the bytes of a stream whose frames weren't taken yet. To a contract it is those bytes.
 #[derive(Drop)]
 pub struct Intake {
     alloc: Global,
@@ -23,7 +23,7 @@ impl Model for Intake {
 }
 
 impl Intake {
-    /// An intake that keeps no bytes.
+    /// Returns an empty intake.
     pub fn new(alloc: Global) -> Self
         ensures { result ≡ [] }
     {
@@ -42,11 +42,11 @@ impl Intake {
         Ok(())
     }
 
-    /// Takes the first frame, which is copied only now; or finds that there is none yet.
+    /// Takes the first frame, which is copied only now, or returns None if there is none yet.
     pub fn next_frame(&mut self) -> Result<Option<Frame>, FeedError>
         ensures first { IfOk result (λ next. IfSome next (λ frame. IsFirstFrame self.old frame self.new)) }
 
-        // Where there is none yet, what is kept leads on, and is fewer bytes than the longest message.
+        // If there is none yet, what is stored leads on, and is shorter than the longest message.
         ensures none { IfOk result (λ next. IfNone next (AreFrames self.old [])) }
         ensures stays_open { IfOk result (λ next. IfNone next (IsOpen self.new)) }
         ensures leads_on { IfOk result (λ next. IfNone next (LeadsOn self.old [] self.new)) }

@@ -1,4 +1,4 @@
-//! What stands at one place of a stream.
+//! Whether a message begins at a position of a stream.
 ghost use Rattle.std.specs.Prelude.{◌≡◌, ℕ, ◌+◌, ◌%◌, ◌<◌, ◌≤◌, length, drop, sum};
 ghost use Rattle.gu_fix.specs.WholeMessage.{trailer_of};
 ghost use Rattle.gu_fix.specs.Places.{Meets, ReadsLength, MeetsBody, StandsAs};
@@ -8,51 +8,51 @@ use crate::window::Window;
 /// `8=FIXT.1.1`, SOH, `9=`.
 pub const OPENING: &[u8] = b"8=FIXT.1.1\x019=";
 
-/// What a body begins with.
+/// The start of a body.
 const TYPE_TAG: &[u8] = b"35=";
 
 pub const SOH: u8 = 1;
 
-/// The bytes that a message has at most.
+/// The most bytes in a message.
 pub const LONGEST: usize = 65_536;
 
-/// The bytes of a message apart from its body and the digits of its length.
+/// The length of a message apart from its body and the digits of its length.
 pub const FIXED_LENGTH: usize = 21;
 
-/// How bytes meet a text that is to stand at their front.
+/// The result of comparing bytes with a text that they should begin with.
 #[derive(Clone, Copy)]
 pub enum Meeting {
-    /// They begin with it.
+    /// The bytes begin with the text.
     Begins,
-    /// They end within it.
+    /// The bytes are a proper prefix of the text.
     Within,
-    /// They differ from it.
+    /// The bytes differ from the text.
     Apart,
 }
 
-/// How bytes begin as the text of a message's length.
+/// The result of reading the text of a message's length.
 #[derive(Clone, Copy)]
 pub enum LengthText {
-    /// So many digits, with this value, and SOH.
+    /// This many digits, with this value, and SOH.
     Read(usize, usize),
-    /// They end within such a text.
+    /// A proper prefix of such a text.
     Open,
-    /// They can't be continued to one.
+    /// Nothing that can be continued to one.
     Apart,
 }
 
-/// What stands at a place.
+/// What is at a position of a stream.
 #[derive(Clone, Copy)]
 pub enum Prefix {
     /// A whole message of this many bytes.
     Whole(usize),
-    /// What can be continued to one.
+    /// Bytes that can be continued to a whole message.
     Open,
     /// Neither, whatever follows.
     Garbled,
 }
 
-/// How the bytes meet the text.
+/// Compares the bytes with the text.
 pub fn meet(bytes: &[u8], text: &[u8]) -> Meeting
     ensures { Meets result bytes.now text.now }
 {
@@ -65,7 +65,7 @@ pub fn meet(bytes: &[u8], text: &[u8]) -> Meeting
     }
 }
 
-/// The text of a message's length, read at the front.
+/// Returns the text of a message's length, read at the start.
 pub fn read_length(bytes: &[u8]) -> LengthText
     ensures { ReadsLength result bytes.now }
 {
@@ -96,7 +96,7 @@ pub fn read_length(bytes: &[u8]) -> LengthText
     }
 }
 
-/// How the bytes meet a body of `len` bytes.
+/// Compares the bytes with a body of `len` bytes.
 pub fn meet_body(bytes: &[u8], len: usize) -> Meeting
     requires { 4 ≤ len }
     ensures { MeetsBody result bytes.now len }
@@ -116,7 +116,7 @@ pub fn meet_body(bytes: &[u8], len: usize) -> Meeting
     }
 }
 
-/// The sum of the bytes, modulo 256.
+/// Returns the sum of the bytes, modulo 256.
 pub fn checksum(bytes: &[u8]) -> u8
     ensures { result ≡ sum bytes.now % 256 }
 {
@@ -127,7 +127,7 @@ pub fn checksum(bytes: &[u8]) -> u8
     total
 }
 
-/// The end of a message with this checksum.
+/// Returns the trailer with this checksum.
 #[tactic(auto, unfolding(crate::specs::WholeMessage::trailer_of))]
 pub fn trailer(checksum: u8) -> [u8; 7]
     ensures { result ≡ trailer_of checksum }
@@ -143,7 +143,7 @@ pub fn trailer(checksum: u8) -> [u8; 7]
     ]
 }
 
-/// What stands at the front of the bytes, which are those of the window from a place on.
+/// Returns what is at the start of the bytes, which are those of the window from `place` on.
 pub fn place_at(bytes: &[u8], window: &Window, place: usize) -> Prefix
     requires { bytes.now ≡ drop place window.now }
     ensures { StandsAs result bytes.now }

@@ -1,4 +1,4 @@
-//! The frames of bytes that lie together.
+//! Finding the frames in contiguous bytes.
 ghost use Rattle.std.specs.Prelude.{◌≡◌, ◌<◌, ◌≤◌, IfOk, length, drop};
 ghost use Rattle.gu_fix.specs.Stream.{AreFrames, GarbledBefore, IsGarbled, IsOpen, LeadsOn};
 ghost use Rattle.gu_fix.specs.Scans.{ComesNext};
@@ -9,16 +9,16 @@ use crate::window::Window;
 use memchr::memchr;
 use std::alloc::{AllocError, Global};
 
-/// What comes next of a window.
+/// What comes next in a window.
 #[derive(Clone, Copy)]
 pub enum Next {
-    /// A whole message, from one place up to another.
+    /// A whole message, from the first position up to the second.
     Whole(usize, usize),
-    /// A place from which a message may still come.
+    /// A position at which a message may still begin.
     Open(usize),
 }
 
-/// The next place after a garbled one at which a message may begin, or the end.
+/// Returns the next position after a garbled one at which a message may begin, or the end.
 fn next_start(bytes: &[u8]) -> usize
     requires some { 0 < length bytes.now }
     requires garbled { IsGarbled bytes.now }
@@ -32,7 +32,7 @@ fn next_start(bytes: &[u8]) -> usize
     }
 }
 
-/// What comes next of the window from a place on, where garbled places are passed over.
+/// Returns what comes next in the window from a position on, skipping garbled bytes.
 pub fn next_from(window: &mut Window, from: usize) -> Result<Next, AllocError>
     requires within { from ≤ length window.old }
     ensures next { IfOk result (λ next. ComesNext next window.old from) }
@@ -52,7 +52,7 @@ pub fn next_from(window: &mut Window, from: usize) -> Result<Next, AllocError>
     }
 }
 
-/// The frames of the window, and how many bytes lie before the place that stays open.
+/// Returns the frames of the window, and the number of bytes before the position that stays open.
 pub fn scan(alloc: Global, window: &mut Window) -> Result<(Vec<Frame>, usize), AllocError>
     ensures within { IfOk result (λ r. r.1 ≤ length window.old) }
     ensures given { IfOk result (λ r. AreFrames window.old r.0.items) }

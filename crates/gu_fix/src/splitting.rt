@@ -1,4 +1,4 @@
-//! A message into its fields.
+//! Splitting a message into its fields.
 ghost use Rattle.std.specs.Prelude.{◌≡◌, ◌+◌, ◌≤◌, [], MatchOption, MatchResult, IfOk, OnErr, is_some, if◌then◌else◌, length, take, drop, Some};
 ghost use Rattle.gu_fix.specs.WholeMessage.{IsWhole};
 ghost use Rattle.gu_fix.specs.TagValue.{tag_value};
@@ -12,7 +12,7 @@ use crate::prefix::SOH;
 use std::alloc::{AllocError, Global};
 use std::simd::prelude::*;
 
-/// The number in front of a part's first `=`, of at most nine digits, and where that stands.
+/// Returns the number before a part's first `=`, which has at most nine digits, and the position of the `=`.
 fn number_in_front(part: &[u8]) -> Option<(u32, usize)>
     ensures { MatchOption result (HasNoTag part.now) (λ r. HasNumber part.now r.0 r.1) }
 {
@@ -32,17 +32,17 @@ fn number_in_front(part: &[u8]) -> Option<(u32, usize)>
     None
 }
 
-/// What the digits `00` count as bytes.
+/// The sum of the bytes of the digits `00`.
 const TWO_ZEROS: u32 = 11 * b'0' as u32;
 
-/// What the digits `000` count as bytes.
+/// The sum of the bytes of the digits `000`.
 const THREE_ZEROS: u32 = 111 * b'0' as u32;
 
-/// The tag in front of a part's first `=`, and where that stands.
+/// Returns the tag before a part's first `=`, and the position of the `=`.
 fn tag_in_front(part: &[u8]) -> Option<(u32, usize)>
     ensures { MatchOption result (HasNoTag part.now) (λ r. IsTag (take r.1 part.now) r.0 × StandsAt equals r.1 part.now) }
 {
-    // Most tags have two digits or three.
+    // Most tags have two or three digits.
     if let [tens @ b'1'..=b'9', ones @ b'0'..=b'9', b'=', ..] = part {
         return Some((10 * u32::from(*tens) + u32::from(*ones) - TWO_ZEROS, 2));
     }
@@ -72,13 +72,13 @@ fn tag_in_front(part: &[u8]) -> Option<(u32, usize)>
     Some((number, end))
 }
 
-/// A part in which no tag can be read.
+/// The fault of a part in which no tag can be read.
 const WITHOUT_TAG: FieldFault = FieldFault {
     tag: 0,
     reason: SessionRejectReason::InvalidTagNumber,
 };
 
-/// A part as a field, or what is wrong with it.
+/// Returns a part as a field, or its fault.
 fn read_part(part: &[u8]) -> Result<Field<'_>, FieldFault>
     ensures { MatchResult result (λ f. IsField (tag_value f.tag f.value.now) part.now) (λ f. IsFault f part.now) }
 {
@@ -95,7 +95,7 @@ fn read_part(part: &[u8]) -> Result<Field<'_>, FieldFault>
     Ok(Field { tag, value })
 }
 
-/// The earlier fault.
+/// Returns the earlier fault.
 fn first_of(fault: Option<FieldFault>, found: FieldFault) -> Option<FieldFault>
     ensures { result ≡ (if is_some fault then fault else Some found) }
 {
@@ -105,7 +105,7 @@ fn first_of(fault: Option<FieldFault>, found: FieldFault) -> Option<FieldFault>
     }
 }
 
-/// Where a field's value lies among the bytes, where so many of them follow its SOH.
+/// Returns the place of a field's value among the bytes, given how many bytes follow its SOH.
 fn span_of(bytes: &[u8], field: Field<'_>, left: usize) -> Span
     requires { length field.value.now + 1 + left ≤ length bytes.now }
     ensures { LiesBefore result bytes.now field.entry.tag (length field.entry.value.now) left }
@@ -114,7 +114,7 @@ fn span_of(bytes: &[u8], field: Field<'_>, left: usize) -> Span
     Span::new(field.tag, bytes.len() - left - 1 - len, len)
 }
 
-/// The marks of the SOHs among sixteen bytes.
+/// Returns a bit mask of the SOHs among sixteen bytes.
 #[inline(always)]
 fn marks_at(bytes: &[u8], place: usize) -> u64
     requires { place + 16 ≤ length bytes.now }
@@ -125,7 +125,7 @@ fn marks_at(bytes: &[u8], place: usize) -> u64
         .to_bitmask()
 }
 
-/// The marks of the SOHs among the next sixteen bytes, where fewer may be left.
+/// Returns a bit mask of the SOHs among the next sixteen bytes, or fewer at the end.
 #[inline(always)]
 fn next_marks(bytes: &[u8], start: usize) -> u64
     requires { (16 ≤ length bytes.now) × (start ≤ length bytes.now) }
@@ -139,7 +139,7 @@ fn next_marks(bytes: &[u8], start: usize) -> u64
     }
 }
 
-/// How long the part is that begins at a place: up to the next SOH. Most are short.
+/// Returns the length of the part that begins at a position: up to the next SOH. Most parts are short.
 #[inline(always)]
 fn part_len(bytes: &[u8], start: usize) -> Option<usize>
     requires { (16 ≤ length bytes.now) × (start ≤ length bytes.now) }
@@ -160,7 +160,7 @@ fn part_len(bytes: &[u8], start: usize) -> Option<usize>
     None
 }
 
-/// Where the next SOH is, from a place on.
+/// Returns the position of the next SOH at or after a position.
 #[inline(always)]
 fn next_soh(bytes: &[u8], start: usize) -> Option<usize>
     requires { (16 ≤ length bytes.now) × (start ≤ length bytes.now) }
@@ -172,7 +172,7 @@ fn next_soh(bytes: &[u8], start: usize) -> Option<usize>
     }
 }
 
-/// Where the values of a message's fields lie, in a list that has none yet, and the first part that is none.
+/// Writes the places of the values of a message's fields to an empty list, and returns the first malformed part's fault.
 fn spans_of(
     mut spans: Vec<Span>,
     bytes: &[u8],
@@ -182,7 +182,7 @@ fn spans_of(
     ensures within { IfOk result (λ r. AreWithin bytes.now r.0.items) }
     ensures fields { IfOk result (λ r. HasFields bytes.now (fields_in bytes.now r.0.items) r.1) }
 {
-    // A field takes four bytes at least, so that the list doesn't grow any more.
+    // A field takes at least four bytes, so the list doesn't grow again.
     spans.reserve(bytes.len() / 4)?;
     let mut fault = None;
     let mut start = 0;
@@ -202,7 +202,7 @@ fn spans_of(
     Ok((spans, fault))
 }
 
-/// The fields of a message, whose values lie in its own bytes, and the first part that is none.
+/// Returns the fields of a message, with their values in its own bytes, and the first malformed part's fault.
 fn fields_of(room: Vec<Span>, bytes: Vec<u8>) -> Result<(Fields, Option<FieldFault>), AllocError>
     requires whole { IsWhole bytes.items }
     requires none { room.items ≡ [] }
@@ -212,21 +212,21 @@ fn fields_of(room: Vec<Span>, bytes: Vec<u8>) -> Result<(Fields, Option<FieldFau
     Ok((Fields::lying_in(bytes, spans), fault))
 }
 
-/// The well-formed fields of a message in order, and the first malformed one.
+/// Returns the well-formed fields of a message in order, and the first malformed part's fault.
 pub fn fields(alloc: Global, frame: &Frame) -> Result<(Fields, Option<FieldFault>), AllocError>
     ensures { IfOk result (λ r. HasFields frame.now r.0 r.1) }
 {
     fields_of(Vec::new(alloc), Vec::from_slice(alloc, frame.bytes())?)
 }
 
-/// The same of a message that isn't used any more: its bytes hold the fields.
+/// Returns the same for a message that is no longer used: its bytes hold the values.
 pub fn into_fields(alloc: Global, frame: Frame) -> Result<(Fields, Option<FieldFault>), AllocError>
     ensures { IfOk result (λ r. HasFields frame r.0 r.1) }
 {
     fields_of(Vec::new(alloc), frame.into_bytes())
 }
 
-/// The same, in the place of earlier fields, in the room of whose list these are listed. Where an allocation fails, none are left.
+/// Replaces earlier fields by those of a message, reusing the storage of their list. If an allocation fails, no fields are left.
 pub fn fields_over(
     alloc: Global,
     earlier: &mut Fields,

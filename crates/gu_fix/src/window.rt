@@ -1,4 +1,4 @@
-//! The bytes that are looked at, and the checksum of any stretch of them.
+//! A window of bytes, with the checksum of any part of it.
 ghost use Rattle.std.specs.Prelude.{◌≡◌, ◌+◌, ◌-◌, ◌%◌, ◌≤◌, List, ℕ, [], ◌++◌, length, take, drop, sum, vec_len, vec_capacity, OnOk, OnErr};
 ghost use Rattle.gu_fix.specs.Sums.{IsWindow, running_sums, sum_after};
 
@@ -6,17 +6,17 @@ use crate::prefix::checksum;
 use std::alloc::{AllocError, Global};
 use std::marker::Model;
 
-/// A stretch of a stream. To a contract it is its bytes; no more bytes are kept that are done with.
+/// A part of a stream. To a contract it is its bytes; it holds at most as many consumed bytes as others.
 ///
-/// Where messages follow one another each checksum is summed up by itself. Where bytes are garbled the same bytes may be summed up
-/// again and again, so running sums are kept there.
+/// As long as messages follow one another, each checksum is computed separately. In garbled bytes the same bytes may be summed many times,
+/// so running sums are kept there.
 #[derive(Drop)]
 pub struct Window {
     bytes: Vec<u8>,
-    /// Where sums are kept, the sum up to and with each byte, modulo 256.
+    /// If sums are kept, the sum up to and including each byte, modulo 256.
     sums: Vec<u8>,
     keeps_sums: bool,
-    /// The bytes before this place are done with.
+    /// The bytes before this position are consumed.
     start: usize,
 }
 
@@ -28,7 +28,7 @@ impl Model for Window {
     ghost invariant = { λ w. IsWindow w.bytes.items w.sums.items w.keeps_sums w.start };
 }
 
-/// Puts the sum after each byte in its place.
+/// Replaces each byte by the running sum after it.
 fn sum_up(base: u8, bytes: &mut [u8])
     ensures { bytes.new ≡ running_sums base bytes.old }
 {
@@ -39,7 +39,7 @@ fn sum_up(base: u8, bytes: &mut [u8])
     }
 }
 
-/// Appends the sum after each byte.
+/// Appends the running sum after each byte.
 fn push_sums(sums: &mut Vec<u8>, base: u8, bytes: &[u8])
     requires { vec_len sums.old + length bytes.now ≤ vec_capacity sums.old }
     ensures { sums.new.items ≡ sums.old.items ++ running_sums base bytes.now }
@@ -51,7 +51,7 @@ fn push_sums(sums: &mut Vec<u8>, base: u8, bytes: &[u8])
     sum_up(base, &mut sums[start..]);
 }
 
-/// The sum before a place.
+/// Returns the running sum before a position.
 fn sum_before(sums: &[u8], place: usize) -> u8
     requires { place ≤ length sums.now }
     ensures { (bytes : List ℕ) → sums.now ≡ running_sums 0 bytes → result ≡ sum_after 0 (take place bytes) }
@@ -59,7 +59,7 @@ fn sum_before(sums: &[u8], place: usize) -> u8
     if place == 0 { 0 } else { sums[place - 1] }
 }
 
-/// The sums of bytes.
+/// Computes the running sums of bytes.
 fn sums_of(sums: &mut Vec<u8>, bytes: &[u8]) -> Result<(), AllocError>
     ensures { OnOk result (sums.new.items ≡ running_sums 0 bytes.now) }
 {
@@ -69,7 +69,7 @@ fn sums_of(sums: &mut Vec<u8>, bytes: &[u8]) -> Result<(), AllocError>
     Ok(())
 }
 
-/// Takes items away from the front.
+/// Removes items from the front.
 fn drop_front(items: &mut Vec<u8>, count: usize)
     requires { count ≤ vec_len items.old }
     ensures { items.new.items ≡ drop count items.old.items }
@@ -79,7 +79,7 @@ fn drop_front(items: &mut Vec<u8>, count: usize)
     items.truncate(left);
 }
 
-/// Takes items away from the front, half of them at least.
+/// Removes items from the front, at least half of them.
 fn drop_half(items: &mut Vec<u8>, count: usize)
     requires within { count ≤ vec_len items.old }
     requires half { vec_len items.old ≤ count + count }
@@ -92,7 +92,7 @@ fn drop_half(items: &mut Vec<u8>, count: usize)
 }
 
 impl Window {
-    /// A window with no bytes.
+    /// Returns an empty window.
     pub fn new(alloc: Global) -> Self
         ensures { result ≡ [] }
     {
@@ -104,14 +104,14 @@ impl Window {
         }
     }
 
-    /// The bytes.
+    /// Returns the bytes.
     pub fn bytes(&self) -> &[u8]
         ensures { result.now ≡ self.now }
     {
         &self.bytes[self.start..]
     }
 
-    /// The sum of `len` bytes from a place on, modulo 256.
+    /// Returns the sum of `len` bytes from a position on, modulo 256.
     pub fn checksum(&self, place: usize, len: usize) -> u8
         requires { place + len ≤ length self.now }
         ensures { result ≡ sum (take len (drop place self.now)) % 256 }
@@ -151,7 +151,7 @@ impl Window {
         Ok(())
     }
 
-    /// Takes bytes away from the end.
+    /// Removes bytes from the end.
     pub fn truncate(&mut self, len: usize)
         requires { len ≤ length self.old }
         ensures { self.new ≡ take len self.old }
@@ -162,13 +162,13 @@ impl Window {
         self.keeps_sums = false;
     }
 
-    /// Takes bytes away from the front.
+    /// Removes bytes from the front.
     pub fn consume(&mut self, len: usize)
         requires { len ≤ length self.old }
         ensures { self.new ≡ drop len self.old }
     {
         self.start += len;
-        // Half of the bytes at most are moved, and their sums made anew, so that each byte that is done with pays for one.
+        // At most half of the bytes are moved and their sums recomputed, so each consumed byte pays for one.
         if self.start >= self.bytes.len() - self.start {
             drop_half(&mut self.bytes, self.start);
             self.start = 0;

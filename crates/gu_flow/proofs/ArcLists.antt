@@ -1,4 +1,4 @@
--- Lists of arcs that are laid out one room after another.
+-- Lists of arcs, laid out one room after another.
 use Rattle.std.proofs.Common.{◌≡◌, ◌≢◌, ℕ, zero, suc, slice_get, ◌+◌, ◌^◌, ◌<◌, ◌≤◌, ◌==◌, ◌⊎◌, min, cond, List, [], ◌∷◌, ◌++◌, map, length, arith, refl, inl, inr}
 use Rattle.std.specs.Prelude.{All}
 use Rattle.std.specs.List.{AllByRecursion}
@@ -17,7 +17,7 @@ use Rattle.gu_terms.specs.declared.limit_key.LimitKey.TheVariants.{Exec, Agr, Ac
 use Rattle.gu_view.specs.declared.view.ViewOffer.{ViewOffer}
 use Rattle.gu_flow.proofs.RoomPlaces.{roomed}
 
--- each arc is that of the room at its place
+-- each arc is that of the room at its index
 pub record IsLaidOut (view : GroupView) (arcs : List Arc) : Type 0 where
   pub each : (k : ℕ) → k < length arcs → IsArcOf view k (arc_at arcs k)
 
@@ -40,7 +40,7 @@ node_within : (n : ℕ) (way : List ℕ) (i : ℕ) → AllByRecursion (λ p. p <
 node_within n way i each =
     cond_both (i == 0) 0 (node_or_sink (slice_get way (cond (i == 1) 0 i))) (λ node. node < n + 2) (λ _. omega arith) (λ _. place_within n way (cond (i == 1) 0 i) each)
 
--- the places of a path's keys are small where each key's is
+-- the indexes of a path's keys are small if each key's is
 pub places_within : (n : ℕ) (f : LimitKey → ℕ) (path : List LimitKey) → AllByRecursion (λ k. f k < n) path → AllByRecursion (λ p. p < n) (map f path)
 places_within n f [] each = tt
 places_within n f (k ∷ path) each = (each.0, places_within n f path each.1)
@@ -54,13 +54,13 @@ arcs_join view arcs sound long laid = All-from_get_or (λ a. (a.from < length vi
     let within : (i : ℕ) → node_at way i < n + 2 = λ i. node_within n way i each in
     (rw h.from (within _), rw h.to (within _)))
 
--- an agreement's arc can carry its room, and no more than its offers have
+-- the capacity of an agreement's arc is its room, but at most what its offers have
 pub record IsAgreement (offers : List ViewOffer) (room capacity : ℕ) (key : LimitKey) : Type 0 where
   pub agreement : AgreementId
   pub is : key ≡ Agr agreement
   pub capacity_is : capacity ≡ min room (lots_with offers key)
 
--- and any other its room; only an agreement's is at the middle step
+-- the capacity of any other arc is its room; only an agreement's is at the middle step
 pub kind_of : (offers : List ViewOffer) (room capacity : ℕ) (key : LimitKey) → capacity ≡ capacity_of offers room key → IsAgreement offers room capacity key ⊎ ((capacity ≡ room) × (step_of key ≢ 1))
 kind_of offers room capacity (Agr agreement) is = inl (record { agreement = agreement; is = refl; capacity_is = is })
 kind_of offers room capacity (Exec firm) is = inr (is, omega arith)
@@ -71,7 +71,7 @@ kind_of offers room capacity (Guar firm) is = inr (is, omega arith)
 pub capacity-le : (offers : List ViewOffer) (room capacity : ℕ) (key : LimitKey) → capacity ≡ capacity_of offers room key → capacity ≤ room
 capacity-le offers room capacity key is = elim (kind_of offers room capacity key is) [ inl a ↦ omega (arith, a.capacity_is) | inr other ↦ omega (arith, other.0) ]
 
--- what all arcs can carry fits a number of 64 bits
+-- the total capacity of the arcs is below 2^64
 pub arcs_fit : (view : GroupView) (arcs : List Arc) → IsView view → length arcs ≡ length view.rooms → IsLaidOut view arcs → capacities arcs < 2 ^ 64
 arcs_fit view arcs sound long laid =
     let small : All (λ a. a.capacity ≤ 1000000000) arcs = All-from_get_or (λ a. a.capacity ≤ 1000000000) arcs no_arc (λ k k_in.

@@ -1,4 +1,4 @@
--- Lots are brought back along a way, arc by arc.
+-- Lots are pushed back along a path, arc by arc.
 use Rattle.std.proofs.Common.{◌≡◌, ◌≢◌, ℕ, ◌+◌, ◌-◌, ◌/◌, ◌<◌, ◌≤◌, ◌==◌, cond, List, length, sym, ◌∙◌, ap, arith, inl, inr, get_or, min}
 use Rattle.std.proofs.lemmas.Bool.{cases_eq, cases_lt, ne_eqb, cond-false}
 use Rattle.gu_flow.specs.declared.network.Arc.{Arc}
@@ -7,17 +7,17 @@ use Rattle.gu_flow.specs.Flows.{inflow, outflow, value_of, IsWithin, Pushes}
 use Rattle.gu_flow.specs.Ways.{stand, IsWhole, IsNarrow}
 use Rattle.gu_flow.proofs.EndLemmas.{other_end-arc, near-other_end, far-other_end, residual_out-other_end}
 
--- the node at which the way stands lacks the lots, all others are balanced, and the steps ahead have room
+-- the node that the path has reached lacks the lots, all others are balanced, and the remaining steps have room
 pub record Augmenting (arcs : List Arc) (start flow way : List ℕ) (lots i : ℕ) : Type 0 where
   pub within : IsWithin arcs flow
   pub kept : (n : ℕ) → n ≢ 0 → inflow arcs flow n + cond (stand arcs way i == n) lots 0 ≡ outflow arcs flow n + cond (1 == n) (value_of arcs start + lots) 0
   pub ahead : (j : ℕ) → i ≤ j → j < length way → lots ≤ residual_in arcs flow (get_or way j 0)
 
--- after one more step a way stands at the far end
+-- after one more step a path is at the far end
 pub stand-more : (arcs : List Arc) (way : List ℕ) (i : ℕ) → stand arcs way (i + 1) ≡ far arcs (get_or way i 0)
 stand-more arcs way i = cond-false (i + 1 == 0) 1 (far arcs (get_or way (i + 1 - 1) 0)) (ne_eqb (i + 1) 0 (omega arith)) ∙ ap (λ k. far arcs (get_or way k 0)) (omega arith)
 
--- one more step, of which the least room is known
+-- one more step, with the least room so far
 pub narrow_more : (arcs : List Arc) (flow way : List ℕ) (i least here next : ℕ) → (0 < i → IsNarrow arcs flow way i least) → (i ≡ 0 → here ≤ least) → here ≡ residual_in arcs flow (get_or way i 0) → next ≡ min least here
     → IsNarrow arcs flow way (i + 1) next
 narrow_more arcs flow way i least here next before first here_is next_is =
@@ -30,7 +30,7 @@ narrow_more arcs flow way i least here next before first here_is next_is =
     ]
 
 module _ (arcs : List Arc) (start flow way : List ℕ) (lots i : ℕ) (is_whole : IsWhole arcs way) (b : Augmenting arcs start flow way lots i) where
-  -- the next step has room, and when the lots are carried over it the way goes on at its far end
+  -- the next step has room, and once the lots are pushed over it the path continues at its far end
   pub step_room : i < length way → lots ≤ residual_out arcs flow (other_end (get_or way i 0))
   step_room i_in = omega (arith, residual_out-other_end arcs flow (get_or way i 0), b.ahead i (omega arith) i_in)
 

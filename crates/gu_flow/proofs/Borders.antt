@@ -1,4 +1,4 @@
--- Flows of one value agree at the border of what a search above the floors has reached.
+-- Flows of the same value agree at the border of the nodes that a search above the floors has reached.
 use Rattle.std.proofs.Common.{◌≡◌, ◌≢◌, ℕ, ◌+◌, ◌*◌, ◌/◌, ◌%◌, ◌<◌, ◌≤◌, ◌==◌, ◌-◌, Bool, true, false, cond, List, [], length, get_or, refl, sym, ◌∙◌, ap, arith, inl, inr}
 use Rattle.std.specs.List.{sum_by}
 use Rattle.std.proofs.lemmas.Bool.{cases_Bool, cases_eq, cases_lt, eq-eqb, ne_eqb}
@@ -10,7 +10,7 @@ use Rattle.gu_flow.specs.Flows.{places, sum_over, inflow, outflow, value_of, IsF
 use Rattle.gu_terms.proofs.Lists.{sum_by-add, sum_by-agree, sum_by-swap}
 use Rattle.gu_flow.proofs.SumLemmas.{sum_places_by, sum_places_set, cond-sum, cond-swap, sum_one_place, same_terms}
 
--- what comes to the nodes of a set, arc by arc, and what leaves them
+-- the flow into the nodes of a set, arc by arc, and out of them
 module _ (arcs : List Arc) (nodes : ℕ) (end : Arc → ℕ) (ends_in : (k : ℕ) → k < length arcs → end (arc_at arcs k) < nodes) (inside : ℕ → Bool) (term : ℕ → ℕ) where
   pub by_nodes : sum_by (λ n. cond (inside n) (sum_over arcs (λ a. end a == n) term) 0) (places nodes) ≡ sum_by (λ k. cond (inside (end (arc_at arcs k))) (term k) 0) (places (length arcs))
   unfolding sum_over
@@ -35,7 +35,7 @@ module _ (arcs : List Arc) (nodes : ℕ) (joins : JoinsNodes arcs nodes) (some :
   heads_in : (k : ℕ) → k < length arcs → (arc_at arcs k).to < nodes
   heads_in k k_in = (joins k no_arc k_in).1
 
-  -- what comes to a node in one and leaves it in the other
+  -- the flow into a node in one and out of it in the other
   abbrev one : ℕ → ℕ
   one n = inflow arcs others n + outflow arcs flow n
 
@@ -54,7 +54,7 @@ module _ (arcs : List Arc) (nodes : ℕ) (joins : JoinsNodes arcs nodes) (some :
         ∙ sum_by-add (λ n. cond (inside n) (inflow arcs f n) 0) (λ n. cond (inside n) (outflow arcs g n) 0) (places nodes)
         ∙ omega (arith, ins, outs, sum_by-add (λ k. cond (inside (arc_at arcs k).to) (get_or f k 0) 0) (λ k. cond (inside (arc_at arcs k).from) (get_or g k 0) 0) (places (length arcs)))
 
-  -- they are balanced alike, at the source too
+  -- they are balanced alike, even at the source
   kept : (n : ℕ) → n ≢ 0 → one n ≡ other n
   kept n not_source = elim (cases_eq n 1) [
     | inl sink ↦ rw sink (omega (arith, alike.value, alike.is_flow.taken, is_flow.taken))
@@ -86,7 +86,7 @@ module _ (arcs : List Arc) (nodes : ℕ) (joins : JoinsNodes arcs nodes) (some :
         ∙ sum_by-agree (λ n. cond (reached n) (other n) 0) (λ n. cond (reached n) (one n) 0) (places nodes) (λ n. ap (λ m. cond (reached n) m 0) (sym (balanced n)))
         ∙ both reached others flow
 
-    -- out of what was reached each arc is full, and into it each is at its floor
+    -- each arc out of the reached nodes is full, and each arc into them is at its floor
     full : (k : ℕ) → k < length arcs → reached (arc_at arcs k).from ≡ true → reached (arc_at arcs k).to ≡ false → get_or others k 0 ≤ get_or flow k 0
     full k k_in from to =
         let tail : (2 * k) % 2 == 0 ≡ true = eq-eqb ((2 * k) % 2) 0 (omega arith) in
@@ -117,7 +117,7 @@ module _ (arcs : List Arc) (nodes : ℕ) (joins : JoinsNodes arcs nodes) (some :
       ]
     ]
 
-    -- so at the border they agree
+    -- so they agree at the border
     pub border_out : (k : ℕ) → k < length arcs → reached (arc_at arcs k).from ≡ true → reached (arc_at arcs k).to ≡ false → get_or others k 0 ≡ get_or flow k 0
     border_out k k_in from to =
         let same = same_terms (crossed reached flow others) (crossed reached others flow) (length arcs) less crossings k k_in in
@@ -131,7 +131,7 @@ module _ (arcs : List Arc) (nodes : ℕ) (joins : JoinsNodes arcs nodes) (some :
         omega arith
 
 module _ (arcs : List Arc) (nodes : ℕ) (joins : JoinsNodes arcs nodes) (some : 0 < nodes) (floors flow regions : List ℕ) (is_flow : IsFlow arcs flow) (fixed : AreFixed arcs floors flow regions) where
-  -- where floors rise, and lots are brought round, what was fixed stays so
+  -- what was fixed stays fixed when floors rise and lots are pushed round
   pub fixed_stays : (floors' flow' : List ℕ) → IsAlike arcs floors flow flow' → ((k : ℕ) → get_or floors k 0 ≤ get_or floors' k 0) → AreFixed arcs floors' flow' regions
   fixed_stays floors' flow' now rise = record {
     each = λ others alike k k_in apart.
@@ -140,8 +140,8 @@ module _ (arcs : List Arc) (nodes : ℕ) (joins : JoinsNodes arcs nodes) (some :
   }
 
   module _ (reached : ℕ → Bool) (closed : IsClosedInside arcs floors flow regions reached) where
-    -- what a search that ended has reached is a region of its own: where the new regions differ at nodes that both were reached, or
-    -- both weren't, the old ones did
+    -- the nodes reached by a search that ended are a region: if the new regions differ at nodes that both were reached, or both weren't,
+    -- the old ones did
     pub fixed_more : (regions' : List ℕ) → ((n m : ℕ) → reached n ≡ reached m → get_or regions n 0 ≡ get_or regions m 0 → get_or regions' n 0 ≡ get_or regions' m 0) → AreFixed arcs floors flow regions'
     fixed_more regions' now = record {
       each = λ others alike k k_in apart.
@@ -159,7 +159,7 @@ module _ (arcs : List Arc) (nodes : ℕ) (joins : JoinsNodes arcs nodes) (some :
           ];
     }
 
-  -- no flow that keeps the floors of the other arcs carries more, if an arc carries its floor and its ends are apart
+  -- no flow that keeps the floors of the other arcs carries more, if an arc carries its floor and its ends are separated
   module _ (place : ℕ) (place_in : place < length arcs) (here : get_or floors place 0 ≡ get_or flow place 0) where
     risen : (older others : List ℕ) → ((k : ℕ) → k ≢ place → get_or floors k 0 ≡ get_or older k 0) → IsAlike arcs older flow others → get_or flow place 0 < get_or others place 0 → IsAlike arcs floors flow others
     risen older others same alike more = record {
@@ -184,11 +184,11 @@ module _ (arcs : List Arc) (nodes : ℕ) (joins : JoinsNodes arcs nodes) (some :
       ];
     }
 
--- at first all is one region
+-- initially everything is one region
 pub all_one : (arcs : List Arc) (floors flow regions : List ℕ) → ((n : ℕ) → get_or regions n 0 ≡ 0) → AreFixed arcs floors flow regions
 all_one arcs floors flow regions zero = record { each = λ others alike k k_in apart. absurd (apart (zero (arc_at arcs k).from ∙ sym (zero (arc_at arcs k).to))) }
 
--- a closed set stays closed in each greatest flow, so the cut is the same
+-- a closed set stays closed in each maximum flow, so the cut is the same
 pub closed_stays : (arcs : List Arc) (nodes : ℕ) → JoinsNodes arcs nodes → 0 < nodes → (flow flow' : List ℕ) (reached : ℕ → Bool) → IsFlow arcs flow → IsFlow arcs flow' → value_of arcs flow' ≡ value_of arcs flow → IsClosed arcs flow reached → IsClosed arcs flow' reached
 closed_stays arcs nodes joins some flow flow' reached is is' value closed =
     let alike : IsAlike arcs [] flow flow' = record { is_flow = is'; value = value; keeps = record { each = λ k. omega arith } } in

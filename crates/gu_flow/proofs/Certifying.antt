@@ -1,4 +1,4 @@
--- The shares of a greatest flow and the cut where its last search stops: right takes, a right cut, and no takes are greater.
+-- The shares of a maximum flow and the cut at which its last search stops: right takes, a right cut, and no greater takes.
 use Rattle.std.proofs.Common.{◌≡◌, ◌≢◌, ℕ, ◌+◌, ◌<◌, ◌≤◌, ◌==◌, ◌⊎◌, ◌&&◌, not, Bool, true, false, cond, List, [], ◌∷◌, suc, length, get_or, refl, sym, ◌∙◌, ap, subst, arith, inl, inr}
 use Rattle.std.specs.Prelude.{IsTrue, nat_lt, sum_by}
 use Rattle.std.specs.List.{AllByRecursion, list_any}
@@ -75,21 +75,21 @@ module _ (view : GroupView) (sound : IsView view) (nested : IsNested view) (arcs
   abbrev each : AllByRecursion (Walking arcs way 0 1) view.offers
   each = all_walk view sound nested arcs are
 
-  -- sums under an agreement, by the places of the offers' agreements
+  -- sums under an agreement, by the indexes of the offers' agreements
   under_agreement : (f : ViewOffer → ℕ) (k : ℕ) → k < length view.rooms → (agreement : AgreementId) → (room_at view.rooms k).key ≡ Agr agreement
       → sum_by (λ o. cond (has_key o.path (room_at view.rooms k).key) (f o) 0) view.offers ≡ sum_by (λ o. cond (agreement_place view.rooms o == k) (f o) 0) view.offers
   under_agreement f k k_in agreement is =
       sum_by-by (IsOfferOf view) (λ o. cond (has_key o.path (room_at view.rooms k).key) (f o) 0) (λ o. cond (agreement_place view.rooms o == k) (f o) 0) view.offers
       (λ o h. ap (λ b. cond b (f o) 0) (under_own view sound nested o h k k_in agreement is)) (each_offer view sound nested arcs are)
 
-  -- an arc of the middle step is an agreement's, and so is one that can carry less than its room
+  -- an arc of the middle step is an agreement's, and so is one with less capacity than its room
   agreement_of : (k : ℕ) (k_in : k < length arcs) → (step k ≡ 1) ⊎ ((arc_at arcs k).capacity ≢ (room_at view.rooms k).lots) → IsAgreement view.offers (room_at view.rooms k).lots (arc_at arcs k).capacity (room_at view.rooms k).key
   agreement_of k k_in either = elim (kind_of view.offers (room_at view.rooms k).lots (arc_at arcs k).capacity (room_at view.rooms k).key (are.each k k_in).capacity) [
     | inl agreement ↦ agreement
     | inr other ↦ elim either [ inl is ↦ absurd (other.1 is) | inr less ↦ absurd (less other.0) ]
   ]
 
-  -- through an agreement's arc flows what its offers take
+  -- the flow through an agreement's arc is what its offers take
   middle : (k : ℕ) → k < length arcs → step k ≡ 1 → get_or flow k 0 ≡ load arcs view.offers way lots 0 1 each k
   middle k k_in is =
       let k_room : k < length view.rooms = omega (arith, are.all) in
@@ -140,7 +140,7 @@ module _ (view : GroupView) (sound : IsView view) (nested : IsNested view) (arcs
       cut_is.offers.exact h.place h.within ∙ ap (λ b. b && cuts_offers reached arcs view.rooms (agreement_place view.rooms (offer_at view.offers h.place))) (lt-ltb h.place (length view.offers) h.within) in
       subst (λ (x : ViewOffer). has_number cut.offers x.number ≡ cuts_offers reached arcs view.rooms (agreement_place view.rooms x)) (sym h.is) told
 
-  -- where an offer's way leads out, its key is cut, or the offer itself
+  -- if an offer's way leads out, its key is cut, or the offer itself
   covered : (o : ViewOffer) → IsOfferOf view o → is_covered cut o ≡ true
   covered o h =
       let out = walk_leads_out arcs reached (way o) 0 1 (walking view sound nested arcs are o h).walk from_source not_to_sink in
@@ -161,7 +161,7 @@ module _ (view : GroupView) (sound : IsView view) (nested : IsNested view) (arcs
   pub covers : Covers view cut
   covers i d inside = covered (get_or view.offers i d) (offer_here view sound nested arcs are i d inside)
 
-  -- what an arc that leads out can carry counts as its key's room or as its offers' lots
+  -- the capacity of an arc that leads out counts as its key's room or as its offers' lots
   part : (k : ℕ) → k < length arcs → cond (leads_out reached (arc_at arcs k)) (arc_at arcs k).capacity 0
       ≡ cond (cuts_key reached arcs view.rooms k) (room_at view.rooms k).lots 0 + cond (cuts_offers reached arcs view.rooms k) (agreement_lots view.rooms view.offers k) 0
   part k k_in =
@@ -194,7 +194,7 @@ module _ (view : GroupView) (sound : IsView view) (nested : IsNested view) (arcs
       (λ k. sum_by-agree (λ (o : ViewOffer). cond (at o == k) (cond (w k) o.lots 0) 0) (λ (o : ViewOffer). cond (w k) (cond (at o == k) o.lots 0) 0) view.offers (λ o. cond-swap (at o == k) (w k) o.lots)
       ∙ sym (cond-sum (w k) (λ (o : ViewOffer). cond (at o == k) o.lots 0) view.offers))
 
-  -- so the cut's room is the lots taken
+  -- so the cut's room equals the lots taken
   pub room_is_total : room_of view cut ≡ total view.offers (lots_of takes)
   unfolding sum_over
   room_is_total =
@@ -238,7 +238,7 @@ module _ (view : GroupView) (sound : IsView view) (nested : IsNested view) (arcs
     room = right.room;
   }
 
-  -- the whole: takes and cut are right, and the takes are greatest
+  -- altogether: takes and cut are right, and the takes are greatest
   pub certified : (named : List Take) → named ≡ above_zero takes → (n : ℕ) → n ≡ total view.offers (lots_of takes) → IsOldestGreatest view (lots_of takes) → IsLeastCut view cut → IsSound (record { view = view; takes = named; cut = cut; lots = n })
   certified named are n is oldest least =
       rw (are, is) (record {

@@ -20,7 +20,7 @@ use Rattle.gu_flow.specs.Networks.{no_offer, offer_at, no_room, room_at}
 use Rattle.gu_flow.specs.Shares.{agreement_place}
 use Rattle.gu_flow.specs.declared.network.Arc.{Arc}
 
--- what is cut before the next place
+-- what is cut before the next index
 next_place : (n i : ℕ) (cuts old new : ℕ → Bool) → ((k : ℕ) → k < n → old k ≡ (nat_lt k i && cuts k)) → ((k : ℕ) → k < n → new k ≡ (old k || ((i == k) && cuts i)))
     → (k : ℕ) → k < n → new k ≡ (nat_lt k (i + 1) && cuts k)
 next_place n i cuts old new before adds k k_in = elim (cases_eq i k) [
@@ -38,7 +38,7 @@ none_added true c none = refl
 none_added false c none = sym none
 
 module _ {X : Type 0} (eq : X → X → Bool) (same : (a b : X) → eq a b ≡ true → a ≡ b) where
-  -- a member that is added where it is new is there in any case
+  -- after a new member is added, it is there in any case
   added_member : (xs new : List X) (x : X) (added : Bool) → added ≡ not (list_any (λ y. eq y x) xs) → new ≡ cond added (xs ++ x ∷ []) xs → (y : X) → list_any (λ z. eq z y) new ≡ (list_any (λ z. eq z y) xs || eq x y)
   added_member xs new x true told is y = ap (list_any (λ z. eq z y)) is ∙ list_any-append (λ z. eq z y) xs (x ∷ []) ∙ ap (λ b. list_any (λ z. eq z y) xs || b) (or-false (eq x y))
   added_member xs new x false told is y =
@@ -49,14 +49,14 @@ module _ {X : Type 0} (eq : X → X → Bool) (same : (a b : X) → eq a b ≡ t
       ]
 
 module _ {X : Type 0} {eq : X → X → Bool} {is_known : X → Bool} {name : ℕ → X} {cuts : ℕ → Bool} {names : ℕ} {members : List X} {i : ℕ} (h : AreCut eq is_known name cuts names members i) where
-  -- where the next isn't cut, nothing is added
+  -- if the next isn't cut, nothing is added
   pub none_cut : cuts i ≡ false → AreCut eq is_known name cuts names members (i + 1)
   none_cut none = record {
     exact = next_place names i cuts (λ k. list_any (λ x. eq x (name k)) members) (λ k. list_any (λ x. eq x (name k)) members) h.exact (λ k k_in. none_added _ ((i == k) && cuts i) (and_right (i == k) (cuts i) none));
     known = h.known;
   }
 
-  -- where it is cut, it is added, if it wasn't there
+  -- if it is cut, it is added unless it was there
   one_cut : ((a b : X) → eq a b ≡ true → a ≡ b) → ((k : ℕ) → k < names → eq (name i) (name k) ≡ (i == k)) → is_known (name i) ≡ true → cuts i ≡ true
       → (new : List X) (added : Bool) → added ≡ not (list_any (λ x. eq x (name i)) members) → new ≡ cond added (members ++ name i ∷ []) members → AreCut eq is_known name cuts names new (i + 1)
   one_cut same own known_here cut new added told is = record {
@@ -93,14 +93,14 @@ module _ (view : GroupView) (sound : IsView view) (reached : ℕ → Bool) (arcs
   key_cut keys new i added inside h cut =
       one_cut h key_eq-same (λ k. own_key i k inside) (list_any_at (λ r. key_eq r.key (room_at view.rooms i).key) view.rooms i no_room inside (key_eq-refl (room_at view.rooms i).key)) cut new added
 
-  -- and the number of the next offer
+  -- the number of the next offer
   pub offer_cut : (numbers new : List ℕ) (i : ℕ) (added : Bool) → i < length view.offers → AreOffersCut view reached arcs numbers i
       → cuts_offers reached arcs view.rooms (agreement_place view.rooms (offer_at view.offers i)) ≡ true
       → added ≡ not (has_number numbers (offer_at view.offers i).number) → new ≡ cond added (numbers ++ (offer_at view.offers i).number ∷ []) numbers → AreOffersCut view reached arcs new (i + 1)
   offer_cut numbers new i added inside h cut =
       one_cut h eqb-true (λ k. own_number i k inside) (list_any_at (λ o. o.number == (offer_at view.offers i).number) view.offers i no_offer inside (eq-eqb (offer_at view.offers i).number (offer_at view.offers i).number refl)) cut new added
 
--- where no offers were cut and none are at the next place, none are
+-- if no offers were cut and none are at the next index, none are
 pub none_more : (reached : ℕ → Bool) (arcs : List Arc) (rooms : List Room) (i : ℕ) (more cut : Bool) → (more ≡ false → AreNoOffersCut reached arcs rooms i) → cut ≡ cuts_offers reached arcs rooms i
     → (more || cut) ≡ false → AreNoOffersCut reached arcs rooms (i + 1)
 none_more reached arcs rooms i false cut before is none k k_in = elim (cases_lt k i) [
@@ -109,7 +109,7 @@ none_more reached arcs rooms i false cut before is none k k_in = elim (cases_lt 
 ]
 none_more reached arcs rooms i true cut before is none k k_in = cc
 
--- nor are they where the key there is cut
+-- nor are they if the key there is cut
 one_way : (out whole : Bool) → (out && whole) ≡ true → (out && not whole) ≡ false
 one_way true true cut = refl
 one_way true false cut = cc
@@ -118,7 +118,7 @@ one_way false whole cut = refl
 pub none_by_key : (reached : ℕ → Bool) (arcs : List Arc) (rooms : List Room) (i : ℕ) → cuts_key reached arcs rooms i ≡ true → cuts_offers reached arcs rooms i ≡ false
 none_by_key reached arcs rooms i = one_way (leads_out reached (arc_at arcs i)) ((arc_at arcs i).capacity == (room_at rooms i).lots)
 
--- and where none are cut in all, none are members
+-- if none are cut in all, none are members
 pub none_at_all : (view : GroupView) (reached : ℕ → Bool) (arcs : List Arc) → length arcs ≡ length view.rooms → AreNoOffersCut reached arcs view.rooms (length view.rooms) → AreOffersCut view reached arcs [] (length view.offers)
 none_at_all view reached arcs all none = record {
   exact = λ k k_in.

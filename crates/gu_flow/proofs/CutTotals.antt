@@ -1,4 +1,4 @@
--- What many walks bring together is what the arcs out of a closed set of nodes can carry.
+-- The total brought by many walks is the capacity of the arcs out of a closed set of nodes.
 use Rattle.std.proofs.Common.{◌≡◌, ℕ, ◌+◌, ◌*◌, ◌/◌, ◌%◌, ◌<◌, ◌==◌, ◌&&◌, not, Bool, true, false, cond, List, [], ◌∷◌, length, get_or, refl, sym, ◌∙◌, ap, arith, inl, inr}
 use Rattle.std.specs.List.{sum_by, AllByRecursion}
 use Rattle.std.proofs.lemmas.Bool.{cond-false, cond-true, and_parts, and_from, cases_Bool, not-true, not_from_false, or_left, or_right, eq-eqb, ne_eqb}
@@ -10,7 +10,7 @@ use Rattle.gu_terms.proofs.Lists.{sum_by-add, sum_by-zeros}
 use Rattle.gu_flow.proofs.SumLemmas.{sum_by-by, sum_places_by, at_test, cond_same}
 use Rattle.gu_flow.proofs.Walks.{Walks, has_place, Walking, way_sum, along_walk, load, by_walks}
 
--- an arc leads back into what was reached
+-- an arc leads back into the reached nodes
 abbrev pub leads_back : (ℕ → Bool) → Arc → Bool
 leads_back reached a = not (reached a.from) && reached a.to
 
@@ -27,14 +27,14 @@ walk_leaves arcs reached s t way x from_s not_t walk =
     along_walk arcs (leads_back reached) (leads_out reached) reached x (λ a. leaves (reached a.from) (reached a.to) x) way s t walk in
     omega (arith, cond-true (reached s) x 0 from_s, cond-false (reached t) x 0 not_t)
 
--- a place of the way at which an arc leads out
+-- an index of the way at which an arc leads out
 pub record LeadsOut (arcs : List Arc) (reached : ℕ → Bool) (way : List ℕ) : Type 0 where
   pub place : ℕ
   pub place_in : place < length arcs
   pub on_way : has_place way place ≡ true
   pub out : leads_out reached (arc_at arcs place) ≡ true
 
--- a walk from what was reached to what wasn't leads out somewhere
+-- a walk from a reached node to one that isn't leads out somewhere
 pub walk_leads_out : (arcs : List Arc) (reached : ℕ → Bool) (way : List ℕ) (a b : ℕ) → Walks arcs a way b → reached a ≡ true → reached b ≡ false → LeadsOut arcs reached way
 walk_leads_out arcs reached [] a b walk from to = let same : reached a ≡ reached b = ap reached walk in cc
 walk_leads_out arcs reached (k ∷ way) a b (k_in, from, walk) here there = elim (cases_Bool (reached (arc_at arcs k).to)) [
@@ -49,7 +49,7 @@ walk_leads_out arcs reached (k ∷ way) a b (k_in, from, walk) here there = elim
   }
 ]
 
--- an arc out of what was reached is full, and one back is empty
+-- an arc out of the reached nodes is full, and one back is empty
 module _ (arcs : List Arc) (flow : List ℕ) (reached : ℕ → Bool) (w : IsWithin arcs flow) (closed : IsClosed arcs flow reached) (k : ℕ) (k_in : k < length arcs) where
   full : reached (arc_at arcs k).from ≡ true → reached (arc_at arcs k).to ≡ false → get_or flow k 0 ≡ (arc_at arcs k).capacity
   full from to =
@@ -65,7 +65,7 @@ module _ (arcs : List Arc) (flow : List ℕ) (reached : ℕ → Bool) (w : IsWit
 
 module _ {X : Type 0} (arcs : List Arc) (walkers : List X) (way : X → List ℕ) (lots : X → ℕ) (s t : ℕ) (each : AllByRecursion (Walking arcs way s t) walkers)
     (reached : ℕ → Bool) (from_s : reached s ≡ true) (not_t : reached t ≡ false) where
-  -- what is brought is what goes out less what comes back
+  -- the total brought is what goes out less what comes back
   total_leaves : sum_over arcs (leads_out reached) (load arcs walkers way lots s t each) ≡ sum_over arcs (leads_back reached) (load arcs walkers way lots s t each) + sum_by lots walkers
   total_leaves =
       by_walks arcs walkers way lots s t each (leads_out reached)
@@ -74,7 +74,7 @@ module _ {X : Type 0} (arcs : List Arc) (walkers : List X) (way : X → List ℕ
       ∙ sum_by-add (λ x. way_sum arcs (leads_back reached) (way x) (lots x)) lots walkers
       ∙ ap (λ n. n + sum_by lots walkers) (sym (by_walks arcs walkers way lots s t each (leads_back reached)))
 
-  -- where the loads are a flow and the nodes are closed, the total is what the arcs that lead out can carry
+  -- if the loads are a flow and the nodes are closed, the total is the capacity of the arcs that lead out
   pub total_is_cut : (flow : List ℕ) → ((k : ℕ) → k < length arcs → get_or flow k 0 ≡ load arcs walkers way lots s t each k) → IsWithin arcs flow → IsClosed arcs flow reached → sum_by lots walkers ≡ sum_over arcs (leads_out reached) (λ k. (arc_at arcs k).capacity)
   unfolding sum_over
   total_is_cut flow same within closed =

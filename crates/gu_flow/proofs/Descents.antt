@@ -1,4 +1,4 @@
--- Ways that fall a level at each step, and are augmented one after another.
+-- Paths that go down a level at each step, augmented one after another.
 use Rattle.std.proofs.Common.{◌≡◌, ◌≢◌, ℕ, ◌+◌, ◌-◌, ◌*◌, ◌/◌, ◌<◌, ◌≤◌, ◌==◌, cond, List, zero, suc, length, refl, sym, ◌∙◌, ap, subst, arith, inl, inr, get_or, get_or-set_other, get_or-set_same, get_or-take, take}
 use Rattle.std.proofs.Math.ListN.{set, length-set}
 use Rattle.std.proofs.lemmas.Bool.{cases_Bool, cases_eq}
@@ -15,7 +15,7 @@ use Rattle.gu_flow.proofs.Linking.{last_is_before, last_is_at}
 use Rattle.gu_flow.proofs.SumLemmas.{at_set}
 use Rattle.gu_flow.proofs.Augmenting.{stand-more}
 
--- a way's steps before a place tell where it stands there
+-- a path's earlier steps determine the node that it has reached
 stand_by : (arcs : List Arc) (way other : List ℕ) (i : ℕ) → (0 < i → get_or other (i - 1) 0 ≡ get_or way (i - 1) 0) → stand arcs other i ≡ stand arcs way i
 stand_by arcs way other i same = elim (cases_eq i 0) [ inl none ↦ rw none refl | inr some ↦ ap (λ e. cond (i == 0) 1 (far arcs e)) (same (omega arith)) ]
 
@@ -30,7 +30,7 @@ module _ (arcs : List Arc) (flow : List ℕ) (entries : List Label) (way : List 
   both_levels : (i : ℕ) → i < steps → level_at entries (near arcs (get_or way i 0)) + level_at entries (far arcs (get_or way i 0)) + 2 * i + 1 ≡ 2 * level_at entries 1
   both_levels i i_in = let s = d.each i i_in in omega (arith, ap (level_at entries) s.here, s.falls, stand_level i (omega arith))
 
-  -- so no arc is taken twice
+  -- so no arc is used twice
   pub falling_once : TakesEachOnce way steps
   falling_once i j i_in j_in same =
       omega (arith, both_levels i i_in, both_levels j j_in, both_ends (get_or way i 0), both_ends (get_or way j 0), ap (λ k. level_at entries (arc_at arcs k).from + level_at entries (arc_at arcs k).to) same)
@@ -38,11 +38,11 @@ module _ (arcs : List Arc) (flow : List ℕ) (entries : List Label) (way : List 
       both_ends : (e : ℕ) → level_at entries (near arcs e) + level_at entries (far arcs e) ≡ level_at entries (arc_at arcs (e / 2)).from + level_at entries (arc_at arcs (e / 2)).to
       both_ends e = elim (cases_Bool (is_tail e)) [ inl tail ↦ rw tail refl | inr head ↦ rw head (omega arith) ]
 
-  -- the front of a way is one
+  -- a prefix of a path is a path
   pub front : (few : ℕ) → few ≤ steps → IsDescent arcs flow entries way few
   front few fewer = record { each = λ i i_in. d.each i (omega arith) }
 
-  -- also by itself; one that comes to the source is whole, and has room
+  -- also by itself; one that reaches the source is whole, and has room
   taken : steps ≤ length way → IsDescent arcs flow entries (take steps way) (length (take steps way))
   taken within = rw (length-take-le steps way within) (record {
     each = λ i i_in. subst (λ n. IsStep arcs flow entries n (level_at entries n) (get_or (take steps way) i 0)) (sym (stand_by arcs way (take steps way) i (λ some. get_or-take steps way (i - 1) 0 (omega arith))))
@@ -61,13 +61,13 @@ front_whole arcs flow entries way steps within d source =
       λ i i_in. (t.each i i_in).room,
     )
 
--- a way stands at a node
+-- a path has reached a node
 pub record Standing (arcs : List Arc) (flow : List ℕ) (entries : List Label) (way : List ℕ) (steps node : ℕ) : Type 0 where
   pub descent : IsDescent arcs flow entries way steps
   pub stands : stand arcs way steps ≡ node
   pub within : steps ≤ length way
 
--- a step more
+-- one more step
 module _ (arcs : List Arc) (flow : List ℕ) (entries : List Label) (way : List ℕ) (steps node end : ℕ) (top : level_at entries 1 ≤ length way)
     (s : Standing arcs flow entries way steps node) (step : IsStep arcs flow entries node (level_at entries node) end) where
   pub room_ahead : steps < length way
@@ -87,7 +87,7 @@ module _ (arcs : List Arc) (flow : List ℕ) (entries : List Label) (way : List 
   ahead_on : (current : List ℕ) → IsAhead arcs current way steps → end < get_or current node 0 → IsAhead arcs current (set way steps end) (steps + 1)
   ahead_on current before now = at_set (λ i e. i < steps + 1 → e < get_or current (near arcs e) 0) way steps end 0 room_ahead (λ _. rw step.here now) (λ i other i_in. before i (omega arith))
 
--- the way on which a search came to the sink is followed back
+-- the path on which a search reached the sink is followed back
 pub record Tracing (arcs : List Arc) (flow : List ℕ) (entries : List Label) (way : List ℕ) (steps node : ℕ) : Type 0 where
   pub standing : Standing arcs flow entries way steps node
   pub reached : 0 < level_at entries node
@@ -102,7 +102,7 @@ module _ (arcs : List Arc) (flow : List ℕ) (entries : List Label) (way : List 
   pub traces : Tracing arcs flow entries (set way steps (entry_at entries node).via) (steps + 1) (far arcs (entry_at entries node).via)
   traces = record { standing = stands_on arcs flow entries way steps node (entry_at entries node).via top t.standing entered; reached = omega (arith, entered.falls, tree.above node on_way t.reached) }
 
--- a search for ways goes on from where a way stands
+-- a search for paths continues from the node that a path has reached
 pub record Descending (arcs : List Arc) (flow : List ℕ) (entries : List Label) (current way : List ℕ) (steps node : ℕ) : Type 0 where
   pub standing : Standing arcs flow entries way steps node
   pub node_in : node < length entries
@@ -124,7 +124,7 @@ sum_set_less xs i x i_in less = omega (arith, sum_by-set (λ (y : ℕ). y) xs i 
 
 module _ (arcs : List Arc) (flow : List ℕ) (entries : List Label) (current way : List ℕ) (steps node : ℕ) (top : level_at entries 1 ≤ length way) (d : Descending arcs flow entries current way steps node)
     (current' : List ℕ) (is : IsCurrent arcs current') (others : (n : ℕ) → n ≢ node → get_or current' n 0 ≡ get_or current n 0) where
-  -- where a way stands, no step has been before, and elsewhere each node's place in the search stays
+  -- the search hasn't passed the path's ends, and at other nodes it is unchanged
   ahead_still : IsAhead arcs current' way steps
   ahead_still i i_in =
       let standing = d.standing in
@@ -145,7 +145,7 @@ module _ (arcs : List Arc) (flow : List ℕ) (entries : List Label) (current way
       ahead = ahead_on arcs flow entries way steps node end top d.standing down.step current' ahead_still down.ahead;
     }
 
-  -- one step back, and past its end
+  -- one step back, past its end
   module _ (some : 0 < steps) where
     abbrev end : ℕ
     end = get_or way (steps - 1) 0
@@ -176,7 +176,7 @@ module _ (arcs : List Arc) (flow : List ℕ) (entries : List Label) (current way
               omega (arith, get_or-set_other current' (near arcs end) (near arcs (get_or way i 0)) (last_before arcs end (near arcs end)) 0 apart, ahead_still i (omega arith));
         }
 
--- more flows than at the start, and the steps that are kept have room
+-- more flow than at the start, and the steps that are kept have room
 pub record Blocking (arcs : List Arc) (start flow : List ℕ) (entries : List Label) (current way : List ℕ) (kept : ℕ) : Type 0 where
   pub flow_is : IsFlow arcs flow
   pub more : value_of arcs start < value_of arcs flow
@@ -185,7 +185,7 @@ pub record Blocking (arcs : List Arc) (start flow : List ℕ) (entries : List La
   pub ahead : IsAhead arcs current way kept
   pub within : kept ≤ length way
 
--- the first way is brought
+-- lots are pushed along the first path
 pub block_begins : (arcs : List Arc) (start flow : List ℕ) (entries : List Label) (current way : List ℕ) → IsFlow arcs flow → value_of arcs start < value_of arcs flow → IsCurrent arcs current → Blocking arcs start flow entries current way 0
 block_begins arcs start flow entries current way is more current_is = record {
   flow_is = is;
@@ -196,7 +196,7 @@ block_begins arcs start flow entries current way is more current_is = record {
   within = omega arith;
 }
 
--- one more way is brought, and the steps before the first without room are kept
+-- lots are pushed along one more path, and the steps before the first without room are kept
 pub block_goes_on : (arcs : List Arc) (start old flow : List ℕ) (entries : List Label) (current way : List ℕ) (steps kept : ℕ) → value_of arcs start < value_of arcs old → IsFlow arcs flow → value_of arcs old < value_of arcs flow
     → IsDescent arcs old entries way steps → IsCurrent arcs current → IsAhead arcs current way steps → steps ≤ length way → kept ≤ steps → HasRoom arcs flow (take steps way) kept 1 → Blocking arcs start flow entries current way kept
 block_goes_on arcs start old flow entries current way steps kept more is rises d current_is ahead within fewer room = record {

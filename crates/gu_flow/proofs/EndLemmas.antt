@@ -37,7 +37,7 @@ turned : {X : Type 0} (b : Bool) (x y : X) → cond (not b) x y ≡ cond b y x
 turned true x y = refl
 turned false x y = refl
 
--- what stands at the other end
+-- the node at the other end
 pub near-other_end : (arcs : List Arc) (e : ℕ) → near arcs (other_end e) ≡ far arcs e
 near-other_end arcs e = rw (other_end-tail e, other_end-arc e) (turned (is_tail e) (arc_at arcs (e / 2)).from (arc_at arcs (e / 2)).to)
 

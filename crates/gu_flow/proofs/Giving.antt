@@ -1,4 +1,4 @@
--- One offer after another is given as much as it can be.
+-- Each offer in turn is given as much as possible.
 use Rattle.std.proofs.Common.{◌≡◌, ◌≢◌, ℕ, ◌+◌, ◌<◌, ◌≤◌, ◌==◌, min, cond, List, length, take, set, get_or, refl, sym, ◌∙◌, ap, subst, arith, inl, inr}
 use Rattle.std.proofs.Math.ListN.{length-set}
 use Rattle.std.proofs.lemmas.Bool.{cases_eq, eq-eqb, ne_eqb, cond-true, cond-false}
@@ -19,7 +19,7 @@ use Rattle.gu_flow.specs.Shares.{agreement_place, agreement_lots}
 use Rattle.gu_flow.proofs.OldestPass.{more, stays, one_more}
 use Rattle.gu_flow.proofs.SumLemmas.{at_set}
 
--- the floors are what the offers so far got, and the goals what they have
+-- the floors are what the offers so far got, and the goals are what they have
 pub record Giving (view : GroupView) (arcs : List Arc) (nodes : ℕ) (start : List ℕ) (a : Allotment) (goals : List ℕ) (i : ℕ) : Type 0 where
   pub is : IsAllotment arcs nodes a
   pub value : value_of arcs a.flow.items ≡ value_of arcs start
@@ -39,7 +39,7 @@ give_begins view arcs nodes a goals is no_floors no_goals size = record {
   oldest = record { each = λ j j_in. absurd (omega arith) };
 }
 
--- the lots of some offers fit
+-- the lots of some offers don't overflow
 pub lots_small : (view : GroupView) → IsView view → (n p : ℕ) → agreement_lots view.rooms (take n view.offers) p ≤ 4096000000
 lots_small view sound n p =
     let f : ViewOffer → ℕ = λ o. cond (agreement_place view.rooms o == p) o.lots 0 in

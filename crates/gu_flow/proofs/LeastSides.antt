@@ -1,4 +1,4 @@
--- What a search from the source has reached is within each side of the source from which no more can be brought.
+-- The nodes that a search from the source has reached lie within each source side from which nothing more can be pushed.
 use Rattle.std.proofs.Common.{◌≡◌, ℕ, zero, suc, ◌<◌, ◌≤◌, Bool, true, false, List, length, sym, ◌∙◌, ap, arith, inl, inr}
 use Rattle.std.proofs.lemmas.Bool.{cases_Bool, cases_eq, ltb-true}
 use Rattle.gu_flow.specs.declared.levels.Label.{Label}
@@ -30,7 +30,7 @@ module _ (arcs : List Arc) (flow : List ℕ) (entries : List Label) (tree : IsTr
   pub reached_within : (n : ℕ) → is_reached entries n ≡ true → others n ≡ true
   reached_within n reached = up_to (level_at entries n) n (omega arith) (ltb-true 0 (level_at entries n) reached)
 
--- so it is the least such side in each flow of this value
+-- so they are the least such side in each flow of this value
 pub least_side : (arcs : List Arc) (nodes : ℕ) → JoinsNodes arcs nodes → 0 < nodes → (flow : List ℕ) (entries : List Label) → IsFlow arcs flow → IsTree arcs flow entries → is_reached entries 0 ≡ true → is_reached entries 1 ≡ false
     → IsClosed arcs flow (is_reached entries) → IsLeastSide arcs flow (is_reached entries)
 least_side arcs nodes joins some flow entries is tree source sink closed = record {

@@ -1,4 +1,4 @@
--- Where a flow and the loads of walks agree in the middle of a network, they agree everywhere.
+-- If a flow and the loads of walks agree in the middle of a network, they agree everywhere.
 use Rattle.std.proofs.Common.{◌≡◌, ◌≢◌, ℕ, ◌<◌, ◌==◌, ◌⊎◌, cond, List, zero, suc, length, sym, ◌∙◌, ap, arith, inl, inr}
 use Rattle.std.specs.List.{AllByRecursion}
 use Rattle.std.proofs.lemmas.Bool.{eqb-true, eq-eqb}
@@ -8,14 +8,14 @@ use Rattle.gu_flow.specs.Flows.{sum_over}
 use Rattle.gu_flow.proofs.SumLemmas.{sum_places_by, sum_one_place, same_test, at_test}
 use Rattle.gu_flow.proofs.Walks.{Walking, load, loads_kept}
 
--- a place whose arc alone comes here to its node, where the arcs that come there from the other side are of earlier layers
+-- an index whose arc is the only one here at its node, and the arcs there from the other side are of earlier layers
 pub record IsAlone (arcs : List Arc) (here there : Arc → ℕ) (s t : ℕ) (layer : ℕ → ℕ) (k : ℕ) : Type 0 where
   pub not_s : here (arc_at arcs k) ≢ s
   pub not_t : here (arc_at arcs k) ≢ t
   pub alone : (j : ℕ) → j < length arcs → here (arc_at arcs j) ≡ here (arc_at arcs k) → j ≡ k
   pub earlier : (j : ℕ) → j < length arcs → there (arc_at arcs j) ≡ here (arc_at arcs k) → layer j < layer k
 
--- the terms of one place alone
+-- only the terms of one index
 over_alone : (arcs : List Arc) (end : Arc → ℕ) (k : ℕ) (h : ℕ → ℕ) → k < length arcs → ((j : ℕ) → j < length arcs → end (arc_at arcs j) ≡ end (arc_at arcs k) → j ≡ k) → sum_over arcs (λ a. end a == end (arc_at arcs k)) h ≡ h k
 unfolding sum_over
 over_alone arcs end k h k_in alone =
@@ -39,7 +39,7 @@ module _ {X : Type 0} (arcs : List Arc) (flow : ℕ → ℕ) (walkers : List X) 
   abbrev loads : ℕ → ℕ
   loads = load arcs walkers way lots s t each
 
-  -- what is kept at its node tells what flows there, where it is known of the other side
+  -- conservation at its node gives the flow there, if it is known on the other side
   alone_agrees : (here there : Arc → ℕ) → ((f : ℕ → ℕ) (n : ℕ) → IsKept f n → sum_over arcs (λ a. here a == n) f ≡ sum_over arcs (λ a. there a == n) f) → (k : ℕ) → k < length arcs
       → IsAlone arcs here there s t layer k → ((j : ℕ) → j < length arcs → there (arc_at arcs j) ≡ here (arc_at arcs k) → flow j ≡ loads j) → flow k ≡ loads k
   alone_agrees here there balance k k_in it same =
@@ -50,11 +50,11 @@ module _ {X : Type 0} (arcs : List Arc) (flow : ℕ → ℕ) (walkers : List X) 
       ∙ sym (balance loads n (loads_kept arcs walkers way lots s t each n it.not_s it.not_t))
       ∙ over_alone arcs here k loads k_in it.alone
 
-  -- each place is in the middle, where flow and load agree, or on one side
+  -- each index is in the middle, where flow and load agree, or on one side
   abbrev pub Sided : ℕ → Type 0
   Sided k = (flow k ≡ loads k) ⊎ (IsAlone arcs (λ a. a.to) (λ a. a.from) s t layer k ⊎ IsAlone arcs (λ a. a.from) (λ a. a.to) s t layer k)
 
-  -- so they agree at each layer
+  -- so they agree in each layer
   pub agree : ((k : ℕ) → k < length arcs → Sided k) → (n k : ℕ) → k < length arcs → layer k < n → flow k ≡ loads k
   agree sided zero k k_in below = absurd (omega arith)
   agree sided (suc n) k k_in below = elim (sided k k_in) [

@@ -10,7 +10,7 @@ use Rattle.gu_flow.specs.Searches.{mark_at, depth_at, is_marked, IsMarkQueue, Is
 use Rattle.gu_flow.proofs.Linking.{last_is_before, last_is_at, none_after}
 use Rattle.gu_flow.proofs.Marks.{count_one}
 
--- the first node is reached, and none of its ends is looked at
+-- the first node is reached, and none of its ends has been looked at
 pub search_begins : (arcs : List Arc) (room : ℕ → ℕ) (s : Search) → s.from < length s.marks.items → ((n : ℕ) → n ≢ s.from → depth_at s.marks.items n ≡ 0) → depth_at s.marks.items s.from ≡ 1 → 0 < (mark_at s.marks.items s.from).lots
     → get_or s.queue.items 0 0 ≡ s.from → s.count ≡ 1 → s.done ≡ 0 → s.ends ≡ last_before arcs (2 * length arcs) s.from → IsSearch arcs room s
 search_begins arcs room s inside others here some at one none ends =
@@ -39,7 +39,7 @@ search_begins arcs room s inside others here some at one none ends =
     }
 
 module _ (arcs : List Arc) (room : ℕ → ℕ) (s : Search) (is : IsSearch arcs room s) (on : s.done < s.count) where
-  -- all ends of a node are looked at
+  -- all ends of a node have been looked at
   pub search_turns : (ends : ℕ) → s.ends ≡ 0 → ends ≤ 2 * length arcs → (s.done + 1 < s.count → ends ≡ last_before arcs (2 * length arcs) (get_or s.queue.items (s.done + 1) 0))
       → IsSearch arcs room (record s { done = s.done + 1; ends = ends })
   search_turns ends none ends_in next = record {
@@ -55,7 +55,7 @@ module _ (arcs : List Arc) (room : ℕ → ℕ) (s : Search) (is : IsSearch arcs
     half = λ more e from e_in at. absurd (none_after arcs (2 * length arcs) (get_or s.queue.items (s.done + 1) 0) e (omega (arith, next more, from)) e_in at);
   }
 
-  -- one end more is looked at
+  -- one more end is looked at
   module _ (left : 0 < s.ends) where
     pub end_here : near arcs (s.ends - 1) ≡ get_or s.queue.items s.done 0
     end_here = is.ends_at on left
@@ -87,7 +87,7 @@ module _ (arcs : List Arc) (room : ℕ → ℕ) (s : Search) (is : IsSearch arcs
           ];
         }
 
--- where all are looked through, no more can be brought
+-- once all are looked through, nothing more can be pushed
 pub search_done : (arcs : List Arc) (room : ℕ → ℕ) (s : Search) → IsSearch arcs room s → s.count ≤ s.done → IsShut arcs room (is_marked s.marks.items)
 search_done arcs room s is all = record {
   each = λ e e_in from to. elim (cases_eq (room e) 0) [
@@ -99,7 +99,7 @@ search_done arcs room s is all = record {
   ];
 }
 
--- each node that was reached has lots to bring on
+-- each reached node has lots to push on
 pub some_lots : (arcs : List Arc) (room : ℕ → ℕ) (source : ℕ) (marks : List Mark) (n : ℕ) → IsMarkTree arcs room source marks → 0 < depth_at marks n → 0 < (mark_at marks n).lots
 some_lots arcs room source marks n tree reached = elim (cases_eq n source) [ inl here ↦ rw here tree.some | inr other ↦ (tree.entered n other reached).some ]
 

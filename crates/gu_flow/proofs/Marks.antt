@@ -19,14 +19,14 @@ pub count_one_more : (marks : List Mark) (n : ℕ) (e : Mark) → n < length mar
 count_one_more marks n e n_in new some =
     count_step (nat_lt 0 (depth_at marks n)) _ _ e.level (rw new refl) some (sum_by-set (λ (x : Mark). cond (nat_lt 0 x.level) 1 0) marks n e no_mark n_in)
 
--- where a node isn't reached, fewer are than there are nodes
+-- if a node isn't reached, fewer are than there are nodes
 pub reached_fewer : (marks : List Mark) (n : ℕ) → n < length marks → depth_at marks n ≡ 0 → marked_count marks < length marks
 reached_fewer marks n n_in new =
     let e : Mark = record { via = 0; level = 1; lots = 0 } in
     let all : marked_count (set marks n e) ≤ length (set marks n e) = count_by-le-length (λ (x : Mark). nat_lt 0 x.level) (set marks n e) in
     omega (arith, count_one_more marks n e n_in new (omega arith), length-set marks n e)
 
--- where one node alone is reached, one is
+-- if only one node is reached, the count is one
 pub count_one : (marks : List Mark) (source : ℕ) → source < length marks → ((n : ℕ) → n ≢ source → depth_at marks n ≡ 0) → depth_at marks source ≡ 1 → marked_count marks ≡ 1
 count_one marks source inside others here =
     let f : Mark → ℕ = λ x. cond (nat_lt 0 x.level) 1 0 in

@@ -1,4 +1,4 @@
--- The ways of a nested view's offers: executing firm, agreement, account, carrying firm, and its guarantor, where it has one.
+-- The ways of a nested view's offers: executing firm, agreement, account, carrying firm, and its guarantor if it has one.
 use Rattle.std.proofs.Common.{◌≡◌, ℕ, ◌+◌, ◌<◌, ◌==◌, true, List, [], ◌∷◌, Option, Some, None, suc, length, map, get_or, slice_get, refl, sym, ◌∙◌, ap, subst, arith, inl, inr, one-add}
 use Rattle.std.specs.List.{AllByRecursion, position_or_len}
 use Rattle.std.specs.Option.{option_map}
@@ -23,11 +23,11 @@ use Rattle.gu_flow.specs.Shares.{agreement_place}
 use Rattle.gu_flow.proofs.RoomPlaces.{place_of_room, at_place, roomed}
 use Rattle.gu_flow.proofs.Sides.{AreStepped}
 
--- the step at which ways go by a room's place
+-- the step at which ways pass a room's index
 abbrev pub step_at : List Room → ℕ → ℕ
 step_at rooms place = step_of (room_at rooms place).key
 
--- on a whole path each key stands at its step, after the last nothing comes, and its way ends at the sink
+-- on a whole path each key is at its step, nothing follows the last, and its way ends at the sink
 keys_stepped : (e : FirmId) (a : AgreementId) (c : AccountId) (d : FirmId) (g : Option FirmId) → AreStepped step_of 0 (path_through e a c d g)
 keys_stepped e a c d None = (refl, (refl, (refl, (refl, tt))))
 keys_stepped e a c d (Some g) = (refl, (refl, (refl, (refl, (refl, tt)))))
@@ -45,12 +45,12 @@ agreement_on : (e : FirmId) (a : AgreementId) (c : AccountId) (d : FirmId) (g : 
 agreement_on e a c d None own = or-false (key_eq (Agr a) (Agr own))
 agreement_on e a c d (Some g) own = or-false (key_eq (Agr a) (Agr own))
 
--- the places of keys that have rooms stand at their steps
+-- the indexes of keys with rooms are at their steps
 places_stepped : (rooms : List Room) (n : ℕ) (path : List LimitKey) → AllByRecursion (λ k. place_of rooms k < length rooms) path → AreStepped step_of n path → AreStepped (step_at rooms) n (map (place_of rooms) path)
 places_stepped rooms n [] r s = tt
 places_stepped rooms n (k ∷ path) r s = (ap step_of (key_at_place rooms k no_room r.0) ∙ s.0, places_stepped rooms (suc n) path r.1 s.1)
 
--- where a key stands on a path
+-- the step of a key on a path
 abbrev step_on : List LimitKey → LimitKey → ℕ
 step_on path key = position_or_len (λ k. key_eq k key) path
 
@@ -81,7 +81,7 @@ module _ (view : GroupView) (sound : IsView view) (nested : IsNested view) where
   pub way_ends : (o : ViewOffer) → IsOfferOf view o → node_at (way_of view.rooms o) (length (way_of view.rooms o)) ≡ 1
   way_ends o h = let p = path_at o h in subst (λ path. node_at (map at path) (length (map at path)) ≡ 1) (sym p.4) (whole_ends at p.0 o.agreement p.1 p.2 p.3)
 
-  -- a key on a path stands at its step, and after it the next
+  -- a key on a path is at its step, and the next follows it
   on_step : (o : ViewOffer) → IsOfferOf view o → (key : LimitKey) → has_key o.path key ≡ true → slice_get o.path (step_of key) ≡ Some key
   on_step o h key on = let s = key_stands 0 o.path key (stepped o h) on in ap (slice_get o.path) (omega (arith, s.step)) ∙ s.at
 
@@ -92,7 +92,7 @@ module _ (view : GroupView) (sound : IsView view) (nested : IsNested view) where
   way_on o h k k_in on =
       slice_get-map at o.path (step_at view.rooms k) ∙ ap (option_map at) (on_step o h (room_at view.rooms k).key on) ∙ ap Some (place_of_room view sound k k_in)
 
-  -- an offer is under an agreement where the agreement is its own
+  -- an offer is under an agreement if that is its own
   pub own_in : (o : ViewOffer) → IsOfferOf view o → agreement_place view.rooms o < length view.rooms
   own_in o h = (rw (path_at o h).4 at (roomed view sound o h)).1.0
 
@@ -102,7 +102,7 @@ module _ (view : GroupView) (sound : IsView view) (nested : IsNested view) where
       let p = path_at o h in
       ap (has_key o.path) is ∙ ap (λ path. has_key path (Agr agreement)) p.4 ∙ agreement_on p.0 o.agreement p.1 p.2 p.3 agreement ∙ ap (key_eq (Agr o.agreement)) (sym is) ∙ sym (at_place view sound k (Agr o.agreement) k_in (own_in o h))
 
-  -- offers of one agreement have one path
+  -- offers under one agreement have one path
   one_path_at : (o p : ViewOffer) → IsOfferOf view o → IsOfferOf view p → o.agreement ≡ p.agreement → o.path ≡ p.path
   one_path_at o p h g same = elim (cases_order h.place g.place) [
     | inl one ↦ ap (λ (x : ViewOffer). x.path) (h.is ∙ ap (λ i. get_or view.offers i no_offer) one ∙ sym g.is)
@@ -116,7 +116,7 @@ module _ (view : GroupView) (sound : IsView view) (nested : IsNested view) where
   same_node : (o p : ViewOffer) (i : ℕ) → slice_get o.path i ≡ slice_get p.path i → node_or_sink (slice_get (way_of view.rooms o) i) ≡ node_or_sink (slice_get (way_of view.rooms p) i)
   same_node o p i same = ap node_or_sink (slice_get-map at o.path i ∙ ap (option_map at) same ∙ sym (slice_get-map at p.path i))
 
-  -- so all ways that go by a place lay out one arc there
+  -- so all ways that pass an index lay out the same arc there
   pub alike : (o p : ViewOffer) → IsOfferOf view o → IsOfferOf view p → (key : LimitKey) → has_key o.path key ≡ true → has_key p.path key ≡ true
       → (node_at (way_of view.rooms o) (step_of key) ≡ node_at (way_of view.rooms p) (step_of key)) × (node_at (way_of view.rooms o) (step_of key + 1) ≡ node_at (way_of view.rooms p) (step_of key + 1))
   alike o p h g key on_o on_p = by_kind key (on_step o h key on_o) (on_step p g key on_p) on_o on_p

@@ -1,4 +1,4 @@
--- One offer after another: what older offers got stays, and one more has as much as it can.
+-- Each offer in turn: older offers keep what they got, and the next one gets as much as possible.
 use Rattle.std.proofs.Common.{◌≡◌, ℕ, ◌+◌, ◌-◌, ◌<◌, ◌≤◌, ◌==◌, cond, List, zero, suc, length, take, get_or, sym, ◌∙◌, ap, arith, inl, inr, add-one, subst}
 use Rattle.std.proofs.lemmas.Bool.{cases_eq, ne_eqb, cond-false}
 use Rattle.std.proofs.lemmas.List.Sums.{sum_by_more}
@@ -12,7 +12,7 @@ use Rattle.gu_flow.specs.declared.network.Arc.{Arc}
 
 module _ (view : GroupView) (arcs : List Arc) (flow after : List ℕ) (i : ℕ) (i_in : i < length view.offers) (oldest : IsOldestBefore view arcs flow i) (is_flow : IsFlow arcs after) (value : value_of arcs after ≡ value_of arcs flow)
     (keeps : (p : ℕ) → got_before view flow i p ≤ get_or after p 0) where
-  -- the lots of the offers before one, by the place of their agreement's room
+  -- the lots of the offers before one, by the index of their agreement's room
   abbrev lots : ℕ → ℕ → ℕ
   lots j p = agreement_lots view.rooms (take j view.offers) p
 
@@ -28,7 +28,7 @@ module _ (view : GroupView) (arcs : List Arc) (flow after : List ℕ) (i : ℕ) 
   upto : (j k p : ℕ) → j ≤ k → k ≤ length view.offers → lots j p ≤ lots k p
   upto j k p less inside = let d : j + (k - j) ≡ k = omega arith in omega (arith, rises (k - j) j p (omega arith), ap (λ m. lots m p) d)
 
-  -- what the offers before got stays
+  -- what the earlier offers got is unchanged
   pub stays : (j : ℕ) → j ≤ i → (p : ℕ) → got_before view after j p ≡ got_before view flow j p
   stays zero j_in p = omega arith
   stays (suc j) j_in p =

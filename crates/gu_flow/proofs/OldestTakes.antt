@@ -1,4 +1,4 @@
--- What the oldest flow gives is the one choice: greatest, and oldest first over the group.
+-- The oldest flow gives the unique choice: greatest, and oldest first over the group.
 use Rattle.std.proofs.Common.{◌≡◌, ℕ, ◌+◌, ◌<◌, ◌≤◌, ◌==◌, Bool, true, false, cond, List, zero, suc, length, take, get_or, refl, sym, ◌∙◌, ap, subst, arith, inl, inr, add-one}
 use Rattle.std.specs.Prelude.{sum_by}
 use Rattle.std.proofs.lemmas.Bool.{cases_Bool, cases_lt, eq-eqb, eqb-true, cond-true}
@@ -44,7 +44,7 @@ implied false c x h = omega arith
 
 module _ (view : GroupView) (sound : IsView view) (nested : IsNested view) (arcs : List Arc) (are : AreArcs view arcs) (flow : List ℕ) (takes : List Take) (shares : AreAllShares view flow takes)
     (flow_is_taken : (k : ℕ) → k < length arcs → get_or flow k 0 ≡ lots_under view.offers (room_at view.rooms k).key (lots_of takes)) (oldest_flow : IsOldestFlow view arcs flow) (best : IsGreatest view (lots_of takes)) where
-  -- the lots of an agreement's offers, by the place of its room
+  -- the lots of an agreement's offers, by the index of its room
   abbrev at : (ViewOffer → ℕ) → ℕ → ViewOffer → ℕ
   at f p o = cond (agreement_place view.rooms o == p) (f o) 0
 
@@ -79,7 +79,7 @@ module _ (view : GroupView) (sound : IsView view) (nested : IsNested view) (arcs
         let mine_is = value_is_total view sound nested arcs are (lots_of takes) flow (λ k k_in. flow_is_taken k k_in ∙ sym (brought_is view sound nested arcs are (lots_of takes) k (omega (arith, are.all)))) in
         omega (arith, theirs_is, mine_is, best.greatest others theirs.admissible, theirs.greatest (lots_of takes) best.admissible)
 
-    -- what an agreement's offers get is no more than what is brought through its arc
+    -- the lots that an agreement's offers get are at most the flow through its arc
     under : (p : ℕ) → p < length view.rooms → (n : ℕ) → sum_by (at yours p) (take n view.offers) ≤ get_or g p 0
     under p p_in n =
         let all : sum_by (at yours p) view.offers ≤ lots_under view.offers (room_at view.rooms p).key others =

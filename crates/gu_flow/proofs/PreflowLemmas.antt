@@ -9,7 +9,7 @@ use Rattle.gu_flow.specs.Preflows.{IsPreflow, AreSettled}
 use Rattle.gu_flow.proofs.PushLemmas.{inflow-le}
 use Rattle.gu_flow.proofs.SumLemmas.{sum_places_by, at_test, cond_same}
 
--- a node gives no more than it has too much
+-- a node gives at most its excess
 covered : (excess : List ℕ) (from n lots : ℕ) → lots ≤ get_or excess from 0 → cond (from == n) lots 0 ≤ get_or excess n 0
 covered excess from n lots h = elim (cases_eq from n) [
   | inl same ↦ rw (eq-eqb from n same) (subst (λ k. lots ≤ get_or excess k 0) same h)
@@ -20,7 +20,7 @@ module _ (arcs : List Arc) (flow new excess : List ℕ) (end lots : ℕ) (old : 
   none_from_sink : cond (near arcs end == 1) lots 0 ≡ 0
   none_from_sink = omega (arith, covered excess (near arcs end) 1 lots has, old.sink)
 
-  -- what a node has too much still fits a number of 64 bits
+  -- a node's excess stays below 2^64
   pub pushed_fits : capacities arcs < 2 ^ 64 → far arcs end ≢ 0 → far arcs end ≢ 1 → get_or excess (far arcs end) 0 - cond (near arcs end == far arcs end) lots 0 + lots < 2 ^ 64
   pushed_fits fits not_source not_sink =
       let to = far arcs end in
@@ -37,7 +37,7 @@ module _ (arcs : List Arc) (flow new excess : List ℕ) (end lots : ℕ) (old : 
     sink = omega (arith, at_sink, debit 1 (omega arith), old.sink);
   }
 
--- when no arc brings a node more than it has too much, nothing is too much
+-- when no arc brings lots to a node with an excess, there is no excess
 pub settled_flow : (arcs : List Arc) (flow excess : List ℕ) → IsPreflow arcs flow excess → AreSettled arcs flow excess (length arcs) → IsFlow arcs flow
 unfolding sum_over
 settled_flow arcs flow excess preflow settled = record {

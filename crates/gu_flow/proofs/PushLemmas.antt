@@ -1,4 +1,4 @@
--- Nothing is a flow, and lots are carried over an end of an arc.
+-- The zero flow is a flow, and pushing lots over an end of an arc.
 use Rattle.std.proofs.Common.{◌≡◌, ◌≢◌, ℕ, ◌+◌, ◌-◌, ◌*◌, ◌/◌, ◌<◌, ◌≤◌, ◌==◌, Bool, true, false, cond, List, length, sym, ap, arith, inl, inr, get_or, get_or-set_other, get_or-set_same, ◌∙◌}
 use Rattle.std.proofs.Math.ListN.{set, length-set}
 use Rattle.std.proofs.lemmas.Bool.{both_ways, cases_lt}
@@ -11,7 +11,7 @@ use Rattle.gu_flow.specs.Ends.{no_arc, arc_at, is_tail, capacities, residual_in,
 use Rattle.gu_flow.specs.Flows.{places, sum_over, inflow, outflow, value_of, IsWithin, IsFlow, Pushes}
 use Rattle.gu_flow.proofs.SumLemmas.{sum_by_place, sum_places_by, cond_same, sum_places_set, sum_places_le, at_set}
 
--- nothing is a flow
+-- the zero flow is a flow
 module _ (arcs : List Arc) (flow : List ℕ) (none : All (λ f. f ≡ 0) flow) where
   zero : (k : ℕ) → get_or flow k 0 ≡ 0
   zero k = elim (cases_lt k (length flow)) [ inl k_in ↦ none k 0 k_in | inr past ↦ get_or_past flow k 0 past ]
@@ -27,7 +27,7 @@ module _ (arcs : List Arc) (flow : List ℕ) (none : All (λ f. f ≡ 0) flow) w
     taken = omega (arith, over (λ a. a.from == 1));
   }
 
--- the terms of another arc stay
+-- the terms of another arc are unchanged
 over_set : (arcs : List Arc) (t : Arc → Bool) (flow : List ℕ) (k x : ℕ) → k < length arcs → k < length flow
     → sum_over arcs t (λ j. get_or (set flow k x) j 0) + cond (t (arc_at arcs k)) (get_or flow k 0) 0 ≡ sum_over arcs t (λ j. get_or flow j 0) + cond (t (arc_at arcs k)) x 0
 unfolding sum_over
@@ -40,7 +40,7 @@ over_set arcs t flow k x k_in in_flow =
           (λ j other. ap (λ y. cond (t (arc_at arcs j)) y 0) (get_or-set_other flow k j x 0 other)),
     )
 
--- lots more at one place come from one node, and to another
+-- more lots at one index come from one node and go to another
 moved : (b c : Bool) (f lots x i i' o o' : ℕ) → x ≡ f + lots → i' + cond c f 0 ≡ i + cond c x 0 → o' + cond b f 0 ≡ o + cond b x 0 → i' + o + cond b lots 0 ≡ i + o' + cond c lots 0
 moved true true f lots x i i' o o' is p q = omega arith
 moved true false f lots x i i' o o' is p q = omega arith
@@ -90,12 +90,12 @@ module _ (arcs : List Arc) (flow : List ℕ) (end lots x : ℕ) (w : IsWithin ar
         less = λ _. omega (arith, sum_by-set (λ (y : ℕ). y) flow place x 0 (omega (arith, place_in, w.all)), some);
       }
 
--- no more comes to a node than all arcs can carry
+-- no more flows into a node than the total capacity
 pub inflow-le : (arcs : List Arc) (flow : List ℕ) (n : ℕ) → IsWithin arcs flow → inflow arcs flow n ≤ capacities arcs
 unfolding sum_over
 inflow-le arcs flow n w =
     omega (arith, sum_places_le (λ k. cond ((arc_at arcs k).to == n) (get_or flow k 0) 0) (λ k. (arc_at arcs k).capacity) (length arcs) (λ k. omega (arith, part-le ((arc_at arcs k).to == n) (get_or flow k 0), w.each k)), sum_by_place (λ (a : Arc). a.capacity) arcs no_arc)
 
--- so what is left to be brought falls
+-- so what remains to be pushed decreases
 pub left_less : (arcs : List Arc) (old new : List ℕ) → IsWithin arcs new → value_of arcs old < value_of arcs new → capacities arcs - value_of arcs new < capacities arcs - value_of arcs old
 left_less arcs old new w more = omega (arith, inflow-le arcs new 1 w)

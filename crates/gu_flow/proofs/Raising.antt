@@ -1,4 +1,4 @@
--- What an agreement's arc carries is raised, round by round.
+-- The flow of an agreement's arc is raised, round by round.
 use Rattle.std.proofs.Common.{◌≡◌, ◌≢◌, ℕ, ◌+◌, ◌*◌, ◌/◌, ◌%◌, ◌<◌, ◌≤◌, ◌==◌, min, Bool, true, false, not, cond, List, length, get_or, refl, sym, ◌∙◌, ap, subst, arith, inl, inr}
 use Rattle.std.proofs.lemmas.Bool.{cases_Bool, cases_eq, eq-eqb, ltb-true, ltb-false}
 use Rattle.gu_flow.specs.declared.allotment.Allotment.{Allotment}
@@ -12,7 +12,7 @@ use Rattle.gu_flow.specs.Searches.{depth_at, is_marked, IsShut}
 use Rattle.gu_flow.proofs.Borders.{fixed_more, fixed_stays, most_reached}
 use Rattle.gu_flow.proofs.EndLemmas.{near-other_end, far-other_end, other_end-in, other_end-twice}
 
--- what was brought round is a flow again, of the same value
+-- after lots are pushed round it is again a flow of the same value
 pub round_is_flow : (arcs : List Arc) (old middle new : List ℕ) (tail head lots end : ℕ) → IsFlow arcs old → IsBrought arcs old middle head tail lots → near arcs end ≡ tail → far arcs end ≡ head → Pushes arcs middle new end lots
     → IsFlow arcs new × (value_of arcs new ≡ value_of arcs old)
 round_is_flow arcs old middle new tail head lots end is brought at_tail at_head pushed =
@@ -26,13 +26,13 @@ round_is_flow arcs old middle new tail head lots end is brought at_tail at_head 
       omega (arith, same 1, is.taken),
     )
 
--- what is pushed along the arc at a place is carried there
+-- lots pushed along the arc at an index are carried there
 pub carries : (old new : List ℕ) (place lots : ℕ) → ((2 * place) % 2 ≡ 0 → get_or new (2 * place / 2) 0 ≡ get_or old (2 * place / 2) 0 + lots) → get_or new place 0 ≡ get_or old place 0 + lots
 carries old new place lots h =
     let is : 2 * place / 2 ≡ place = omega arith in
     subst (λ k. get_or new k 0 ≡ get_or old k 0 + lots) is (h (omega arith))
 
--- what a search that went ahead has reached is closed, and of one that went back what it hasn't reached
+-- the nodes that a forward search has reached are closed, and so are those that a backward search hasn't
 shut_inside : (b : Bool) (r : ℕ) → b ≡ true → cond b r 0 ≡ 0 → r ≡ 0
 shut_inside true r is h = h
 shut_inside false r is h = absurd (cc)
@@ -77,7 +77,7 @@ head_of arcs place =
     rw (tail, is) refl
 
 module _ (arcs : List Arc) (nodes : ℕ) (joins : JoinsNodes arcs nodes) (some : 0 < nodes) (a now : Allotment) (is : IsAllotment arcs nodes a) (place : ℕ) where
-  -- lots are brought round, and the floor of the arc is what it carries then
+  -- lots are pushed round, and the floor of the arc is its new flow
   pub round_ends : IsFlow arcs now.flow.items → value_of arcs now.flow.items ≡ value_of arcs a.flow.items → KeepsFloors a.floors.items now.flow.items → get_or now.floors.items place 0 ≡ get_or now.flow.items place 0
       → ((k : ℕ) → k ≢ place → get_or now.floors.items k 0 ≡ get_or a.floors.items k 0) → length now.floors.items ≡ length a.floors.items → now.regions ≡ a.regions → IsAllotment arcs nodes now
   round_ends flow value keeps here others size regions =
@@ -91,7 +91,7 @@ module _ (arcs : List Arc) (nodes : ℕ) (joins : JoinsNodes arcs nodes) (some :
         fixed = subst (λ r. AreFixed arcs now.floors.items now.flow.items r.items) (sym regions) (fixed_stays arcs nodes joins some a.floors.items a.flow.items a.regions.items is.is_flow is.fixed now.floors.items now.flow.items alike rise);
       }
 
-  -- two regions are parted, and the arc between them carries as much as it ever can
+  -- two regions are separated, and the arc between them carries as much as it ever can
   module _ (reached : ℕ → Bool) (closed : IsClosedInside arcs a.floors.items a.flow.items a.regions.items reached) (flow : now.flow ≡ a.flow) (floors : now.floors ≡ a.floors) where
     pub parts : length now.regions.items ≡ length a.regions.items → ((n m : ℕ) → reached n ≡ reached m → get_or a.regions.items n 0 ≡ get_or a.regions.items m 0 → get_or now.regions.items n 0 ≡ get_or now.regions.items m 0) → IsAllotment arcs nodes now
     parts size regions = record {
@@ -107,7 +107,7 @@ module _ (arcs : List Arc) (nodes : ℕ) (joins : JoinsNodes arcs nodes) (some :
     parts_most place_in here from to = subst (λ f. CarriesMost arcs now.floors.items f.items place) (sym flow) (subst (λ f. CarriesMost arcs f.items a.flow.items place) (sym floors)
         (most_reached arcs nodes joins some a.floors.items a.flow.items a.regions.items is.is_flow is.fixed place place_in here reached closed from to))
 
--- an arc is raised towards a goal: its floor is what it carries of that, and the other floors are what they were
+-- an arc is raised towards a goal: its floor is its flow up to the goal, and the other floors are unchanged
 pub record Raising (arcs : List Arc) (nodes : ℕ) (start older : List ℕ) (a : Allotment) (place goal : ℕ) : Type 0 where
   pub is : IsAllotment arcs nodes a
   pub value : value_of arcs a.flow.items ≡ value_of arcs start
@@ -159,7 +159,7 @@ pub raised_most : (arcs : List Arc) (nodes : ℕ) (start older : List ℕ) (a : 
     → CarriesMost arcs a.floors.items a.flow.items place → (others : List ℕ) → IsAlike arcs older a.flow.items others → min (get_or others place 0) goal ≤ get_or a.floors.items place 0
 raised_most arcs nodes start older a place goal r here most others alike = omega (arith, here, most.each older others r.others alike)
 
--- what a search has reached is made a region
+-- the nodes that a search has reached are made a region
 pub set_apart_agrees : (marks : List Mark) (old new : List ℕ) (region : ℕ) → ((n : ℕ) → 0 < depth_at marks n → get_or new n 0 ≡ region) → ((n : ℕ) → depth_at marks n ≡ 0 → get_or new n 0 ≡ get_or old n 0)
     → (n m : ℕ) → is_marked marks n ≡ is_marked marks m → get_or old n 0 ≡ get_or old m 0 → get_or new n 0 ≡ get_or new m 0
 set_apart_agrees marks old new region inside outside n m same were = elim (cases_Bool (is_marked marks n)) [

@@ -20,14 +20,14 @@ pub count_one_more : (entries : List Label) (n : ℕ) (e : Label) → n < length
 count_one_more entries n e n_in new some =
     count_step (nat_lt 0 (level_at entries n)) _ _ e.level (rw new refl) some (sum_by-set (λ (x : Label). cond (nat_lt 0 x.level) 1 0) entries n e no_entry n_in)
 
--- where a node isn't reached, fewer are than there are nodes
+-- if a node isn't reached, fewer are than there are nodes
 pub reached_fewer : (entries : List Label) (n : ℕ) → n < length entries → level_at entries n ≡ 0 → reached_count entries < length entries
 reached_fewer entries n n_in new =
     let e : Label = record { via = 0; level = 1 } in
     let all : reached_count (set entries n e) ≤ length (set entries n e) = count_by-le-length (λ (x : Label). nat_lt 0 x.level) (set entries n e) in
     omega (arith, count_one_more entries n e n_in new (omega arith), length-set entries n e)
 
--- where the source alone is reached, one is
+-- if only the source is reached, the count is one
 pub count_one : (entries : List Label) → 0 < length entries → ((n : ℕ) → 0 < n → level_at entries n ≡ 0) → level_at entries 0 ≡ 1 → reached_count entries ≡ 1
 count_one [] some others source = absurd (omega arith)
 count_one (e ∷ entries) some others source =

@@ -1,4 +1,4 @@
--- The places of keys among the rooms of a view, and the ways that go by them.
+-- The indexes of keys among the rooms of a view, and the ways that pass them.
 use Rattle.std.proofs.Common.{◌≡◌, ℕ, ◌+◌, min, ◌<◌, ◌≤◌, ◌==◌, Bool, true, cond, List, [], ◌∷◌, suc, length, map, get_or, refl, sym, ◌∙◌, ap, subst, arith, inl, inr, add-zero, zero-add}
 use Rattle.std.specs.Prelude.{slice_get, sum_by, IfSome}
 use Rattle.std.specs.List.{AllByRecursion, list_any}
@@ -26,20 +26,20 @@ use Rattle.gu_flow.proofs.SumLemmas.{same_test}
 use Rattle.gu_flow.specs.Shares.{agreement_place}
 use Rattle.gu_flow.specs.Networks.{no_room, room_at, no_offer, offer_at, way_of, GoesBy, IsOfferOf, lots_with, capacity_of}
 
--- the lots at the places under a key are those of the offers with it
+-- the lots at the indexes under a key are those of the offers with it
 pub lots_under_places : (offers : List ViewOffer) (k : LimitKey) (places : List ℕ) → places ≡ places_under offers k → sum_by (λ p. (offer_at offers p).lots) places ≡ lots_with offers k
 lots_under_places offers k places are =
     ap (sum_by (λ p. (offer_at offers p).lots)) are
     ∙ sum_by-places (λ (o : ViewOffer). has_key o.path k) (λ (o : ViewOffer). o.lots) (λ p. (offer_at offers p).lots) 0 offers
     (λ i d inside. ap (λ p. (offer_at offers p).lots) (zero-add i) ∙ ap (λ (o : ViewOffer). o.lots) (get_or_default offers i no_offer d inside))
 
--- they fit a number of 64 bits
+-- they are below 2^64
 pub lots_fit : (view : GroupView) → IsView view → (k : LimitKey) → lots_with view.offers k ≤ 4096000000
 lots_fit view sound k =
     let all = sum_by-le (λ (o : ViewOffer). cond (has_key o.path k) o.lots 0) 1000000 view.offers (λ i d inside. omega (arith, part-le (has_key (get_or view.offers i d).path k) (get_or view.offers i d).lots, (sound.lots i d inside).most)) in
     omega (arith, all, sound.few)
 
--- the first place at which a list passes a test
+-- the first index at which a list passes a test
 pub record IsFirstPlace {X : Type 0} (test : X → Bool) (from : ℕ) (xs : List X) (d : X) : Type 0 where
   pub some : 0 < length (places_from test from xs)
   pub place : ℕ
@@ -75,7 +75,7 @@ room_named view sound place inside =
     let here : has_room view.rooms k ≡ true = list_any_at (λ r. key_eq r.key k) view.rooms place no_room inside (key_eq-refl k) in
     sym (has_key-keys_of view.offers k) ∙ ap (λ keys. has_key keys k) (sym sound.rooms) ∙ sym (has_room-keys view.rooms k) ∙ here
 
--- a room's key has its own place
+-- a room's key has its own index
 pub place_of_room : (view : GroupView) → IsView view → (place : ℕ) → place < length view.rooms → place_of view.rooms (room_at view.rooms place).key ≡ place
 place_of_room view sound place inside =
     let k = (room_at view.rooms place).key in
@@ -88,7 +88,7 @@ place_of_room view sound place inside =
           cc
     ]
 
--- a key with a room stands at a place where the room there is its own
+-- a key with a room has the index of its own room
 pub at_place : (view : GroupView) → IsView view → (place : ℕ) (k : LimitKey) → place < length view.rooms → place_of view.rooms k < length view.rooms → (place_of view.rooms k == place) ≡ key_eq k (room_at view.rooms place).key
 at_place view sound place k inside within = same_test (place_of view.rooms k == place) (key_eq k (room_at view.rooms place).key)
     (λ here. key_eq-from k (room_at view.rooms place).key (sym (key_at_place view.rooms k no_room within) ∙ ap (λ p. (room_at view.rooms p).key) (eqb-true (place_of view.rooms k) place here)))
@@ -98,7 +98,7 @@ at_place view sound place k inside within = same_test (place_of view.rooms k == 
 pub roomed : (view : GroupView) → IsView view → (o : ViewOffer) → IsOfferOf view o → AllByRecursion (λ k. place_of view.rooms k < length view.rooms) o.path
 roomed view sound o h = path_inside view sound h.place o h.within (h.is ∙ get_or_default view.offers h.place no_offer o h.within)
 
--- so a way goes by a place where the path has the key of its room
+-- so a way passes an index if the path has the key of its room
 pub goes_by_key : (view : GroupView) → IsView view → (place : ℕ) → place < length view.rooms → (path : List LimitKey) → AllByRecursion (λ k. place_of view.rooms k < length view.rooms) path
     → list_any (λ p. p == place) (map (place_of view.rooms) path) ≡ has_key path (room_at view.rooms place).key
 goes_by_key view sound place inside [] roomed = refl
@@ -129,28 +129,28 @@ first_offer view sound place members inside are = elim (slice_get_cases view.roo
   | inr past ↦ absurd (omega (arith, past.0))
 ]
 
--- the lots at the places of a room's offers are those with its key
+-- the lots at the indexes of a room's offers are those with its key
 pub lots_of_members : (view : GroupView) (place : ℕ) (members : List ℕ) → place < length view.rooms → IfSome (slice_get view.rooms place) (λ (r : Room). members ≡ places_under view.offers r.key)
     → sum_by (λ p. (offer_at view.offers p).lots) members ≡ lots_with view.offers (room_at view.rooms place).key
 lots_of_members view place members inside are =
     lots_under_places view.offers (room_at view.rooms place).key members
     (rw (slice_get-get_or view.rooms place no_room inside) at are)
 
--- the room that is read at a place
+-- the room read at an index
 pub own_room : (rooms : List Room) (place : ℕ) (r : Room) → place < length rooms → r ≡ get_or rooms place r → r ≡ room_at rooms place
 own_room rooms place r inside is = is ∙ get_or_default rooms place r no_room inside
 
--- an agreement's arc can carry its room, and no more than its offers have
+-- the capacity of an agreement's arc is its room, but at most what its offers have
 pub agreement_capacity : (offers : List ViewOffer) (r q : Room) (agreement : AgreementId) (lots n : ℕ) → r ≡ q → r.key ≡ Agr agreement → lots ≡ lots_with offers q.key → n ≡ min r.lots lots → n ≡ capacity_of offers q.lots q.key
 agreement_capacity offers r q agreement lots n same key all is =
     let named : q.key ≡ Agr agreement = ap (λ (r : Room). r.key) (sym same) ∙ key in
     is ∙ ap (λ m. min r.lots m) (all ∙ ap (lots_with offers) named) ∙ ap (λ (r : Room). min r.lots (lots_with offers (Agr agreement))) same ∙ ap (capacity_of offers q.lots) (sym named)
 
--- the way that is read of the offer at a place
+-- the way read from the offer at an index
 pub own_way : (view : GroupView) (number : ℕ) (way : List ℕ) → number < length view.offers → IfSome (slice_get view.offers number) (λ (o : ViewOffer). way ≡ map (place_of view.rooms) o.path) → way ≡ way_of view.rooms (offer_at view.offers number)
 own_way view number way inside are = rw (slice_get-get_or view.offers number no_offer inside) at are
 
--- the place of an offer's agreement
+-- the index of an offer's agreement
 pub agreement_read : (view : GroupView) (number place : ℕ) → number < length view.offers → IfSome (slice_get view.offers number) (λ (o : ViewOffer). place ≡ place_of view.rooms (Agr o.agreement))
     → place ≡ agreement_place view.rooms (offer_at view.offers number)
 agreement_read view number place inside at = rw (slice_get-get_or view.offers number no_offer inside) at at

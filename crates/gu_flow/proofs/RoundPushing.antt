@@ -1,4 +1,4 @@
--- A search is led on along the way of another, and lots are brought along its own.
+-- A search is extended along the path of another, and lots are pushed along its own.
 use Rattle.std.proofs.Common.{◌≡◌, ◌≢◌, ℕ, ◌+◌, ◌-◌, ◌*◌, ◌/◌, ◌%◌, ◌<◌, ◌≤◌, ◌==◌, Bool, true, false, cond, List, length, refl, sym, ◌∙◌, ap, subst, arith, inl, inr, get_or}
 use Rattle.std.proofs.lemmas.Bool.{cases_Bool, eq-eqb, eqb-true}
 use Rattle.gu_flow.specs.declared.allotment.Allotment.{Allotment}
@@ -25,7 +25,7 @@ keeps_on old now new first second = record {
 pub keeps_all : (s : Search) → KeepsReached s s
 keeps_all s = record { from = refl; back = refl; marks = λ n was. refl; places = λ k k_in. refl; grows = omega arith }
 
--- room inside a region is room
+-- room within a region is room
 under : (b : Bool) (n r : ℕ) → n ≤ cond b r 0 → n ≤ r
 under true n r h = h
 under false n r h = omega arith
@@ -37,7 +37,7 @@ some_inside : (b c : Bool) (r : ℕ) → (b ≡ true → c ≡ true) → 0 < con
 some_inside true c r same h = rw (same refl) h
 some_inside false c r same h = absurd (omega arith)
 
--- what a search can go back over, one that goes ahead can go over the other way
+-- an end over which a search can go back can be crossed forward the other way
 pub some_ahead : (arcs : List Arc) (a : Allotment) (e : ℕ) → 0 < room_inside arcs a true e → 0 < room_inside arcs a false (other_end e)
 some_ahead arcs a e some =
     let here = get_or a.regions.items (near arcs e) 0 in
@@ -47,7 +47,7 @@ some_ahead arcs a e some =
     subst (λ n. 0 < cond (get_or a.regions.items n 0 == get_or a.regions.items (far arcs (other_end e)) 0) (room_out arcs a.floors.items a.flow.items (other_end e)) 0) (sym (near-other_end arcs e))
     (subst (λ n. 0 < cond (get_or a.regions.items (far arcs e) 0 == get_or a.regions.items n 0) (room_out arcs a.floors.items a.flow.items (other_end e)) 0) (sym (far-other_end arcs e)) turned)
 
--- what lots a node lacks, and that the nodes below it have the room that the search found
+-- the lots that a node lacks, and the nodes below it have the room that the search found
 pub record RoundPushing (arcs : List Arc) (start now : Allotment) (source : ℕ) (marks : List Mark) (to lots node : ℕ) : Type 0 where
   pub within : IsWithin arcs now.flow.items
   pub keeps : KeepsFloors now.floors.items now.flow.items
@@ -58,7 +58,7 @@ pub record RoundPushing (arcs : List Arc) (start now : Allotment) (source : ℕ)
   pub ahead : (m : ℕ) → m ≢ source → 0 < depth_at marks m → depth_at marks m ≤ depth_at marks node → room_out arcs now.floors.items now.flow.items (mark_at marks m).via ≡ room_out arcs start.floors.items start.flow.items (mark_at marks m).via
   pub floor : (place : ℕ) → get_or start.floors.items place 0 ≡ get_or start.flow.items place 0 → (arc_at arcs place).to ≡ source → get_or now.flow.items place 0 ≡ get_or start.flow.items place 0
 
--- nothing is brought yet
+-- nothing is pushed yet
 pub push_begins : (arcs : List Arc) (start : Allotment) (source : ℕ) (marks : List Mark) (to lots : ℕ) → IsWithin arcs start.flow.items → KeepsFloors start.floors.items start.flow.items → 0 < depth_at marks to → lots ≤ (mark_at marks to).lots
     → RoundPushing arcs start start source marks to lots to
 push_begins arcs start source marks to lots within keeps reached few = record {
@@ -72,7 +72,7 @@ push_begins arcs start source marks to lots within keeps reached few = record {
   floor = λ place _ _. refl;
 }
 
--- what flows through another arc stays
+-- the flow through another arc is unchanged
 pub flow_stays : (arcs : List Arc) (old new : List ℕ) (k : ℕ) → residual_in arcs new (2 * k) ≡ residual_in arcs old (2 * k) → get_or new k 0 ≡ get_or old k 0
 flow_stays arcs old new k same =
     let tail : is_tail (2 * k) ≡ true = eq-eqb ((2 * k) % 2) 0 (omega arith) in
@@ -96,7 +96,7 @@ module _ (arcs : List Arc) (start now : Allotment) (source : ℕ) (marks : List 
   both_ends : (e : ℕ) → depth_at marks (near arcs e) + depth_at marks (far arcs e) ≡ depth_at marks (arc_at arcs (e / 2)).from + depth_at marks (arc_at arcs (e / 2)).to
   both_ends e = elim (cases_Bool (is_tail e)) [ inl tail ↦ rw tail refl | inr head ↦ rw head (omega arith) ]
 
-  -- an arc that carries its floor and leads to where the search began is on no way
+  -- an arc that is at its floor and leads to the start of the search is on no path
   apart : (place : ℕ) → get_or start.floors.items place 0 ≡ get_or start.flow.items place 0 → (arc_at arcs place).to ≡ source → via / 2 ≢ place
   apart place here head same = elim (cases_Bool (is_tail via)) [
     | inl tail ↦
@@ -134,11 +134,11 @@ module _ (arcs : List Arc) (start now : Allotment) (source : ℕ) (marks : List 
             flow_stays arcs now.flow.items new.flow.items place (c.others (2 * place) not_same) ∙ p.floor place here head;
       }
 
--- all is brought
+-- everything is pushed
 pub push_ends : (arcs : List Arc) (start now : Allotment) (source : ℕ) (marks : List Mark) (to lots node : ℕ) → node ≡ source → RoundPushing arcs start now source marks to lots node → IsBrought arcs start.flow.items now.flow.items source to lots
 push_ends arcs start now source marks to lots node same p = record { nodes = λ n. omega (arith, p.nodes n, ap (λ m. cond (m == n) lots 0) same) }
 
--- the way on which a search that goes back came to a node leads on from it
+-- the path on which a backward search reached a node leads on from it
 pub record LeadsOn (arcs : List Arc) (a : Allotment) (marks : List Mark) (node via : ℕ) : Type 0 where
   pub end_in : other_end via < 2 * length arcs
   pub here : near arcs (other_end via) ≡ node

@@ -1,4 +1,4 @@
--- Shares of the offers of an agreement: oldest first, and together what flows.
+-- Shares of the offers under an agreement: oldest first, and equal to the flow in total.
 use Rattle.std.proofs.Common.{◌≡◌, ℕ, ◌+◌, ◌-◌, ◌<◌, ◌≤◌, ◌==◌, min, true, cond, List, [], ◌∷◌, ◌++◌, zero, suc, length, take, set, get_or, refl, sym, ◌∙◌, ap, subst, arith, inl, inr, length-append, length-set, add-one, Some}
 use Rattle.std.specs.Prelude.{All, unwrap_or, sum_by, IsTrue}
 use Rattle.std.specs.List.{find}
@@ -23,7 +23,7 @@ use Rattle.gu_flow.specs.Shares.{agreement_place, agreement_lots, share_of, no_t
 use Rattle.gu_flow.proofs.SumLemmas.{sum_by_place, sum_places_by, at_set}
 
 module _ (view : GroupView) (flow : List ℕ) where
-  -- what each agreement's arc still has for its later offers
+  -- what remains on each agreement's arc for its later offers
   pub record IsSharing (takes : List Take) (rests : List ℕ) (i : ℕ) : Type 0 where
     pub shares : AreSharesBefore view flow takes i
     pub size : length rests ≡ length view.rooms
@@ -74,7 +74,7 @@ find_take (t ∷ takes) (suc k) k_in ascending =
     cond-false (t.offer == (take_at takes k).offer) (Some t) (find (λ (u : Take). u.offer == (take_at takes k).offer) takes) (ne_eqb t.offer (take_at takes k).offer (λ e. absurd (omega arith)))
     ∙ find_take takes k (omega arith) (λ i j e before j_in. ascending (suc i) (suc j) e (omega arith) (omega arith))
 
--- a longer front of a list has at least the sum of a shorter one
+-- a longer prefix of a list has at least the sum of a shorter one
 front : {X : Type 0} (xs : List X) (i j : ℕ) → i ≤ j → take i (take j xs) ≡ take i xs
 front xs zero j h = refl
 front xs (suc i) zero h = absurd (omega arith)
@@ -105,7 +105,7 @@ module _ (view : GroupView) (sound : IsView view) (flow : List ℕ) (takes : Lis
   pub share_fits : (i : ℕ) → i < length view.offers → lots_of takes (offer_at view.offers i).number ≤ (offer_at view.offers i).lots
   share_fits i inside = omega (arith, share_taken i inside)
 
-  -- of two offers of one agreement, the later takes only where the earlier takes all
+  -- of two offers under one agreement, the later takes only if the earlier takes all
   pub shares_oldest_first : (i j : ℕ) → i < j → j < length view.offers → (offer_at view.offers i).agreement ≡ (offer_at view.offers j).agreement → 0 < share_at j → share_at i ≡ (offer_at view.offers i).lots
   shares_oldest_first i j before j_in same some =
       let p = agreement_place view.rooms (offer_at view.offers j) in
@@ -118,7 +118,7 @@ module _ (view : GroupView) (sound : IsView view) (flow : List ℕ) (takes : Lis
       ap (λ q. min (offer_at view.offers i).lots (get_or flow q 0 - agreement_lots view.rooms (take i view.offers) q)) place in
       omega (arith, left, until, here, lots)
 
-  -- the offers of an agreement together take what flows, where they have as much
+  -- the offers under an agreement together take the flow, if they have that much
   pub shares_so_far : (p n : ℕ) → n ≤ length view.offers → sum_by (λ (o : ViewOffer). cond (agreement_place view.rooms o == p) (lots_of takes o.number) 0) (take n view.offers) ≡ min (get_or flow p 0) (agreement_lots view.rooms (take n view.offers) p)
   shares_so_far p zero h = omega arith
   shares_so_far p (suc n) h =
@@ -165,7 +165,7 @@ module _ (view : GroupView) (sound : IsView view) (flow : List ℕ) (takes : Lis
       ∙ sum_places_by (λ k. (take_at takes k).lots) (λ k. lots_of takes (offer_at view.offers k).number) (length view.offers) (λ k k_in. ap (λ (t : Take). t.lots) (shares.each k k_in) ∙ sym (share_taken k k_in))
       ∙ sym (sum_by_place (λ (o : ViewOffer). lots_of takes o.number) view.offers no_offer)
 
-  -- which fits a number of 64 bits
+  -- the total is below 2^64
   pub shares_fit : sum_by (λ (t : Take). t.lots) takes ≤ 4096000000
   shares_fit =
       let all = sum_by-le (λ (o : ViewOffer). lots_of takes o.number) 1000000 view.offers (All-from_get_or (λ o. lots_of takes o.number ≤ 1000000) view.offers no_offer (λ i inside. omega (arith, share_fits i inside, (sound.lots i no_offer inside).most))) in

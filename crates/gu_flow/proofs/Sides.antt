@@ -1,4 +1,4 @@
--- A network that ways lay out: what leads into its middle, and what leads on from it.
+-- A network laid out by ways: the arcs into its middle, and the arcs out of it.
 use Rattle.std.proofs.Common.{◌≡◌, ℕ, ◌+◌, ◌-◌, ◌<◌, ◌≤◌, ◌==◌, ◌⊎◌, true, cond, List, [], ◌∷◌, Some, None, slice_get, zero, suc, length, refl, sym, ◌∙◌, ap, subst, arith, inl, inr}
 use Rattle.std.proofs.lemmas.List.Sums.{sum_by-cons}
 use Rattle.std.proofs.lemmas.Bool.{eqb-true, eq-eqb, ne_eqb, cases_eq, or_cases, cond-false, false_from_ne_true}
@@ -8,7 +8,7 @@ use Rattle.gu_flow.specs.Layouts.{node_of, node_or_sink, node_at}
 use Rattle.gu_flow.proofs.Walks.{Walks, has_place, CountsOnce}
 use Rattle.gu_flow.proofs.Loads.{IsAlone}
 
--- each element stands at its step
+-- each element is at its step
 abbrev pub AreStepped : {X : Type 0} → (X → ℕ) → ℕ → List X → Type 0
 AreStepped step n [] = Unit {0}
 AreStepped step n (x ∷ xs) = (step x ≡ n) × AreStepped step (suc n) xs
@@ -18,7 +18,7 @@ stepped_at step n [] s i x at = cc
 stepped_at step n (y ∷ xs) s zero x at = let same : y ≡ x = cc in omega (arith, s.0, ap step same)
 stepped_at step n (y ∷ xs) s (suc i) x at = omega (arith, stepped_at step (suc n) xs s.1 i x at)
 
--- so none stands twice
+-- so none occurs twice
 later : (step : ℕ → ℕ) (n : ℕ) (places : List ℕ) (k : ℕ) → AreStepped step n places → has_place places k ≡ true → n ≤ step k
 later step n [] k s on = cc
 later step n (p ∷ places) k s on = elim (or_cases (p == k) (has_place places k) on) [
@@ -41,7 +41,7 @@ way_once step n (p ∷ way) s = record {
       ];
 }
 
--- a way lays out the arc at a place
+-- a way lays out the arc at an index
 pub record IsLaid (arcs : List Arc) (step : ℕ → ℕ) (k : ℕ) : Type 0 where
   pub way : List ℕ
   pub stepped : AreStepped step 0 way
@@ -49,7 +49,7 @@ pub record IsLaid (arcs : List Arc) (step : ℕ → ℕ) (k : ℕ) : Type 0 wher
   pub from : (arc_at arcs k).from ≡ node_at way (step k)
   pub to : (arc_at arcs k).to ≡ node_at way (step k + 1)
 
--- a way stands at a place's node before its second step or later
+-- a way is at the node of an index before its second step or later
 node_some : (o : _) (k : ℕ) → node_or_sink o ≡ node_of k → o ≡ Some k
 node_some None k at = absurd (omega arith)
 node_some (Some p) k at = ap Some (omega arith)
@@ -63,12 +63,12 @@ comes_to way i k at = elim (cases_eq i 0) [
   ]
 ]
 
--- how far a place is from the middle of its way
+-- the distance of an index from the middle of its way
 abbrev pub distance : (ℕ → ℕ) → ℕ → ℕ
 distance step k = (step k - 1) + (1 - step k)
 
 module _ (arcs : List Arc) (step : ℕ → ℕ) (laid : (k : ℕ) → k < length arcs → IsLaid arcs step k) where
-  -- the arcs of a way that come to a place's node, at which step they do, and that it is the place's own
+  -- the arcs of a way into the node of an index: at which step, and that the index is its own
   comes : (j : ℕ) (j_in : j < length arcs) (i k : ℕ) → node_at (laid j j_in).way i ≡ node_of k
       → ((i ≡ 1) × (step k ≡ 0) × (i ≡ step j + 1 → j ≡ k)) ⊎ ((1 < i) × (step k ≡ i) × (i ≡ step j → j ≡ k))
   comes j j_in i k at =
@@ -78,7 +78,7 @@ module _ (arcs : List Arc) (step : ℕ → ℕ) (laid : (k : ℕ) → k < length
         | inr more ↦ inr (more.0, omega (arith, stepped_at step 0 l.way l.stepped i k more.1), λ e. let on : slice_get l.way i ≡ Some j = ap (slice_get l.way) e ∙ l.on in cc)
       ]
 
-  -- a first arc alone ends at its node
+  -- only one first arc ends at its node
   pub first_left : (k : ℕ) → k < length arcs → step k ≡ 0 → IsAlone arcs (λ a. a.to) (λ a. a.from) 0 1 (distance step) k
   first_left k k_in first =
       let l = laid k k_in in
@@ -90,7 +90,7 @@ module _ (arcs : List Arc) (step : ℕ → ℕ) (laid : (k : ℕ) → k < length
         earlier = λ j j_in same. elim (comes j j_in (step j) k (sym (laid j j_in).from ∙ same ∙ own)) [ inl it ↦ omega (arith, it.0) | inr it ↦ absurd (omega (arith, it.0, it.1)) ];
       }
 
-  -- a later arc alone begins at its node
+  -- only one later arc begins at its node
   pub later_right : (k : ℕ) → k < length arcs → 1 < step k → IsAlone arcs (λ a. a.from) (λ a. a.to) 0 1 (distance step) k
   later_right k k_in late =
       let l = laid k k_in in
@@ -102,7 +102,7 @@ module _ (arcs : List Arc) (step : ℕ → ℕ) (laid : (k : ℕ) → k < length
         earlier = λ j j_in same. elim (comes j j_in (step j + 1) k (sym (laid j j_in).to ∙ same ∙ own)) [ inl it ↦ absurd (omega (arith, it.1)) | inr it ↦ omega (arith, it.0, it.1) ];
       }
 
--- arcs that lead from node to node are walked
+-- arcs that lead from node to node form a walk
 pub walks_from : (arcs : List Arc) (node : ℕ → ℕ) (way : List ℕ) → ((i k : ℕ) → slice_get way i ≡ Some k → (k < length arcs) × ((arc_at arcs k).from ≡ node i) × ((arc_at arcs k).to ≡ node (i + 1)))
     → Walks arcs (node 0) way (node (length way))
 walks_from arcs node [] each = refl

@@ -1,4 +1,4 @@
--- The takes that take lots: together and of each offer they take what all takes do.
+-- The takes with more than 0 lots take the same as all takes, in total and from each offer.
 use Rattle.std.proofs.Common.{◌≡◌, ℕ, ◌<◌, ◌==◌, false, true, List, [], ◌∷◌, refl, ◌∙◌, ap, sym, arith, inl, inr, None}
 use Rattle.std.specs.Prelude.{All, nat_lt, sum_by, unwrap_or}
 use Rattle.std.specs.List.{find}
@@ -16,11 +16,11 @@ use Rattle.gu_flow.specs.Shares.{above_zero}
 pub above_zero-all : (takes : List Take) → All (λ t. 0 < t.lots) (above_zero takes)
 above_zero-all takes i d inside = ltb-true 0 _ (filter_passes (λ (t : Take). nat_lt 0 t.lots) takes i d inside)
 
--- they ascend where all do
+-- they ascend if all do
 pub above_zero-ascend : (takes : List Take) → IsAscending takes → IsAscending (above_zero takes)
 above_zero-ascend takes h = AllPairs-filter (λ (a b : Take). a.offer < b.offer) (λ (t : Take). nat_lt 0 t.lots) takes h
 
--- together they take as much
+-- in total they take as much
 pub above_zero-sum : (takes : List Take) → sum_by (λ (t : Take). t.lots) (above_zero takes) ≡ sum_by (λ (t : Take). t.lots) takes
 above_zero-sum [] = refl
 above_zero-sum (t ∷ ts) =
@@ -35,7 +35,7 @@ above_zero-sum (t ∷ ts) =
           rw kept (omega arith)
     ]
 
--- and of each offer as much
+-- and from each offer as much
 by_offer : (takes : List Take) → Later (λ (a b : Take). a.offer < b.offer) takes → (n : ℕ) → lots_of (above_zero takes) n ≡ lots_of takes n
 by_offer [] h n = refl
 by_offer (t ∷ ts) h n =

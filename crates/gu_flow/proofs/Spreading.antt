@@ -10,7 +10,7 @@ use Rattle.gu_flow.specs.Levels.{level_at, is_reached, IsTree, IsQueue, IsSpent,
 use Rattle.gu_flow.proofs.Linking.{last_is_before, last_is_at, none_after}
 use Rattle.gu_flow.proofs.Reaching.{count_one, level_there, tree_reaches, queue_reaches, goes_on_reaches}
 
--- so many ends are left to be looked at, and what the others lead to is reached
+-- this many ends remain to be looked at, and the nodes at the others are reached
 pub record Spreading (arcs : List Arc) (flow : List ℕ) (old entries : List Label) (before queue : List ℕ) (node reached count ends level : ℕ) : Type 0 where
   pub tree : IsTree arcs flow entries
   pub waits : IsQueue entries queue count
@@ -32,7 +32,7 @@ module _ (arcs : List Arc) (flow : List ℕ) (old entries : List Label) (before 
   here : near arcs end ≡ node
   here = s.ends_at left
 
-  -- the next end, where this one leads only to what was reached
+  -- the next end, if this one leads only to reached nodes
   onward : (entries' : List Label) (queue' : List ℕ) (count' : ℕ) → IsTree arcs flow entries' → IsQueue entries' queue' count' → GoesOn old entries' before queue' reached → reached ≤ count'
       → ((m : ℕ) → 0 < level_at entries m → level_at entries' m ≡ level_at entries m) → (0 < residual_out arcs flow end → 0 < level_at entries' (far arcs end))
       → Spreading arcs flow old entries' before queue' node reached count' (last_before arcs end (near arcs end)) level
@@ -53,7 +53,7 @@ module _ (arcs : List Arc) (flow : List ℕ) (old entries : List Label) (before 
     ];
   }
 
-  -- the far end's node is reached now
+  -- the node at the far end is now reached
   pub spread_reaches : far arcs (ends - 1) < length entries → level_at entries (far arcs (ends - 1)) ≡ 0 → 0 < residual_out arcs flow (ends - 1)
       → Spreading arcs flow old (set entries (far arcs (ends - 1)) (record { via = other_end (ends - 1); level = level })) before (set queue count (far arcs (ends - 1))) node reached (count + 1) (last_before arcs (ends - 1) (near arcs (ends - 1))) level
   spread_reaches other_in new room =
@@ -68,11 +68,11 @@ module _ (arcs : List Arc) (flow : List ℕ) (old entries : List Label) (before 
       on.levels
       (λ r. omega (arith, level_there arcs flow entries queue count end level s.tree s.waits end_in other_in new room was level_is fits, level_is))
 
-  -- it was reached before, or nothing can be brought there
+  -- it was already reached, or nothing can be pushed there
   pub spread_skips : (0 < residual_out arcs flow (ends - 1) → 0 < level_at entries (far arcs (ends - 1))) → Spreading arcs flow old entries before queue node reached count (last_before arcs (ends - 1) (near arcs (ends - 1))) level
   spread_skips closed = onward entries queue count s.tree s.waits s.goes_on s.grows (λ m r. refl) closed
 
--- nothing is looked at yet
+-- nothing has been looked at yet
 pub spread_begins : (arcs : List Arc) (flow : List ℕ) (entries : List Label) (queue : List ℕ) (node reached level : ℕ) → IsTree arcs flow entries → IsQueue entries queue reached → level_at entries node + 1 ≡ level
     → Spreading arcs flow entries entries queue queue node reached reached (last_before arcs (2 * length arcs) node) level
 spread_begins arcs flow entries queue node reached level tree waits is = record {
@@ -86,7 +86,7 @@ spread_begins arcs flow entries queue node reached level tree waits is = record 
   spent = λ e from e_in at. absurd (none_after arcs (2 * length arcs) node e from e_in at);
 }
 
--- the nodes in the queue, of which so many have brought lots wherever they can
+-- the nodes in the queue, of which this many have pushed lots wherever they can
 pub record Searching (arcs : List Arc) (flow : List ℕ) (entries : List Label) (queue : List ℕ) (done count : ℕ) : Type 0 where
   pub tree : IsTree arcs flow entries
   pub waits : IsQueue entries queue count
@@ -126,7 +126,7 @@ search_goes_on arcs flow old entries before queue done reached count s more tree
   ]);
 }
 
--- where all are spent, no more can be brought
+-- once all are spent, nothing more can be pushed
 module _ (arcs : List Arc) (flow : List ℕ) (entries : List Label) (queue : List ℕ) (done count : ℕ) (s : Searching arcs flow entries queue done count) (all : count ≤ done) where
   spent_at : (n : ℕ) → 0 < level_at entries n → IsSpent arcs flow entries n
   spent_at n reached = let w = s.waits.waits n reached in subst (IsSpent arcs flow entries) w.1.1 (s.spent w.0 (omega (arith, w.1.0)))

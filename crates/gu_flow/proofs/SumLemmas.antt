@@ -1,4 +1,4 @@
--- Sums over lists, and over the places of a list.
+-- Sums over lists, and over the indexes of a list.
 use Rattle.std.proofs.Common.{◌≡◌, ◌≢◌, ℕ, ◌+◌, ◌<◌, ◌≤◌, ◌==◌, Bool, true, false, cond, List, [], ◌∷◌, zero, suc, length, map, refl, sym, ◌∙◌, ap, arith, subst, inl, inr, set, get_or, get_or-set_same, get_or-set_other}
 use Rattle.std.specs.List.{sum_by, AllByRecursion}
 use Rattle.std.proofs.lemmas.List.Sums.{sum_by-cons}
@@ -7,7 +7,7 @@ use Rattle.gu_flow.specs.Flows.{places}
 use Rattle.std.proofs.lemmas.Bool.{cases_eq, ne_eqb, eq-eqb, eqb-true, cond-false, cond-true}
 
 module _ {X : Type 0} where
-  -- the same terms, each by a fact of its element
+  -- equal terms, given a property of each element
   pub sum_by-by : (P : X → Type 0) (f g : X → ℕ) (xs : List X) → ((x : X) → P x → f x ≡ g x) → AllByRecursion P xs → sum_by f xs ≡ sum_by g xs
   sum_by-by P f g [] same h = refl
   sum_by-by P f g (x ∷ xs) same h =
@@ -35,18 +35,18 @@ pub at_test : (b : Bool) (x y : ℕ) → (b ≡ true → x ≡ y) → cond b x 0
 at_test true x y same = same refl
 at_test false x y same = refl
 
--- a sum over places, term by term
+-- a sum over indexes, term by term
 sum_places : (f : ℕ → ℕ) (n : ℕ) → sum_by f (places (suc n)) ≡ f 0 + sum_by (λ k. f (suc k)) (places n)
 unfolding places
 sum_places f n = sum_by-cons f 0 (map suc (places n)) ∙ ap (λ m. f 0 + m) (sum_by-map f suc (places n))
 
--- a sum over a list is one over its places
+-- a sum over a list is one over its indexes
 pub sum_by_place : {X : Type 0} (f : X → ℕ) (xs : List X) (d : X) → sum_by f xs ≡ sum_by (λ k. f (get_or xs k d)) (places (length xs))
 unfolding places
 sum_by_place f [] d = refl
 sum_by_place f (x ∷ xs) d = sum_by-cons f x xs ∙ ap (λ m. f x + m) (sum_by_place f xs d) ∙ sym (sum_places (λ k. f (get_or (x ∷ xs) k d)) (length xs))
 
--- the same terms at each place
+-- equal terms at each index
 pub sum_places_by : (f g : ℕ → ℕ) (n : ℕ) → ((k : ℕ) → k < n → f k ≡ g k) → sum_by f (places n) ≡ sum_by g (places n)
 unfolding places
 sum_places_by f g zero same = refl
@@ -64,7 +64,7 @@ unfolding places
 sum_places_le_in f g zero less = omega arith
 sum_places_le_in f g (suc n) less = omega (arith, sum_places f n, sum_places g n, less 0 (omega arith), sum_places_le_in (λ k. f (suc k)) (λ k. g (suc k)) n (λ k k_in. less (suc k) (omega arith)))
 
--- where no term is larger and the sums are equal, the terms are
+-- if no term is larger and the sums are equal, the terms are
 pub same_terms : (f g : ℕ → ℕ) (n : ℕ) → ((k : ℕ) → k < n → f k ≤ g k) → sum_by f (places n) ≡ sum_by g (places n) → (k : ℕ) → k < n → f k ≡ g k
 unfolding places
 same_terms f g zero less same k k_in = absurd (omega arith)
@@ -75,7 +75,7 @@ same_terms f g (suc n) less same (suc k) k_in =
     omega (arith, sum_places f n, sum_places g n, same, less 0 (omega arith), sum_places_le_in (λ k. f (suc k)) (λ k. g (suc k)) n (λ k k_in. less (suc k) (omega arith))) in
     same_terms (λ k. f (suc k)) (λ k. g (suc k)) n (λ k k_in. less (suc k) (omega arith)) rest k (omega arith)
 
--- another term at one place
+-- another term at one index
 pub sum_places_set : (f g : ℕ → ℕ) (n k : ℕ) → k < n → ((j : ℕ) → j ≢ k → g j ≡ f j) → sum_by g (places n) + f k ≡ sum_by f (places n) + g k
 unfolding places
 sum_places_set f g zero k k_in same = absurd (omega arith)
@@ -84,7 +84,7 @@ sum_places_set f g (suc n) zero k_in same =
 sum_places_set f g (suc n) (suc k) k_in same =
     omega (arith, sum_places f n, sum_places g n, same 0 (omega arith), sum_places_set (λ j. f (suc j)) (λ j. g (suc j)) n k (omega arith) (λ j other. same (suc j) (omega arith)))
 
--- two tests of which each gives the other
+-- two equivalent tests
 pub same_test : (b c : Bool) → (b ≡ true → c ≡ true) → (c ≡ true → b ≡ true) → b ≡ c
 same_test true true f g = refl
 same_test true false f g = sym (f refl)
@@ -94,7 +94,7 @@ same_test false false f g = refl
 test-suc : (k j : ℕ) → (suc k == suc j) ≡ (k == j)
 test-suc k j = same_test (suc k == suc j) (k == j) (λ e. eq-eqb k j (let same = eqb-true (suc k) (suc j) e in omega arith)) (λ e. eq-eqb (suc k) (suc j) (ap suc (eqb-true k j e)))
 
--- the term of one place
+-- the term at one index
 pub sum_one_place : (h : ℕ → ℕ) (n k : ℕ) → k < n → sum_by (λ j. cond (k == j) (h j) 0) (places n) ≡ h k
 unfolding places
 sum_one_place h zero k k_in = absurd (omega arith)
@@ -108,7 +108,7 @@ sum_one_place h (suc n) (suc k) k_in =
     let none : cond (suc k == 0) (h 0) 0 ≡ 0 = cond-false (suc k == 0) (h 0) 0 (ne_eqb (suc k) 0 (λ e. absurd (omega arith))) in
     omega (arith, sum_places (λ j. cond (suc k == j) (h j) 0) n)
 
--- what holds of each element of a list, where one is another
+-- a property of each element of a list in which one is replaced
 pub at_set : {X : Type 0} (P : ℕ → X → Type 0) (xs : List X) (i : ℕ) (x d : X) → i < length xs → P i x → ((k : ℕ) → k ≢ i → P k (get_or xs k d)) → (k : ℕ) → P k (get_or (set xs i x) k d)
 at_set P xs i x d i_in here others k = elim (cases_eq k i) [
   | inl same ↦ subst (λ j. P j (get_or (set xs i x) j d)) (sym same) (subst (P i) (sym (get_or-set_same xs i x d i_in)) here)

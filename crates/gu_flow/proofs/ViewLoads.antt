@@ -1,4 +1,4 @@
--- What admissible lots bring through the network of a view is a flow, and its value is their total.
+-- Admissible lots give a flow through the network of a view, whose value is their total.
 use Rattle.std.proofs.Common.{◌≡◌, ℕ, ◌+◌, ◌<◌, ◌≤◌, ◌==◌, Bool, true, false, cond, List, [], ◌∷◌, zero, suc, length, map, get_or, slice_get, Some, refl, sym, ◌∙◌, ap, arith, inl, inr}
 use Rattle.std.specs.List.{AllByRecursion, list_any}
 use Rattle.std.proofs.lemmas.Bool.{cases_lt, or_cases, eq-eqb, eqb-true}
@@ -31,7 +31,7 @@ has_within n k (p ∷ ps) each on = elim (or_cases (p == k) (list_any (λ p. p =
   | inr there ↦ has_within n k ps each.1 there
 ]
 
--- each place stands at itself
+-- each index is at itself
 places_long : (n : ℕ) → length (places n) ≡ n
 unfolding places
 places_long zero = refl
@@ -59,11 +59,11 @@ module _ (view : GroupView) (sound : IsView view) (nested : IsNested view) (arcs
   place_in : (o : ViewOffer) → IsOfferOf view o → (k : ℕ) → has_place (way o) k ≡ true → k < length view.rooms
   place_in o h k on = has_within (length view.rooms) k (way o) (places_within (length view.rooms) (place_of view.rooms) o.path (roomed view sound o h)) on
 
-  -- a way that goes by a place has its room's key on the path
+  -- a way that passes an index has its room's key on the path
   pub key_on : (o : ViewOffer) → IsOfferOf view o → (k : ℕ) → k < length view.rooms → has_place (way o) k ≡ true → has_key o.path (room_at view.rooms k).key ≡ true
   key_on o h k k_in on = sym (goes_by_key view sound k k_in o.path (roomed view sound o h)) ∙ on
 
-  -- each way lays out the arcs that it goes by
+  -- each way lays out the arcs that it passes
   lies : (o : ViewOffer) → IsOfferOf view o → (i k : ℕ) → slice_get (way o) i ≡ Some k → (k < length arcs) × ((arc_at arcs k).from ≡ node_at (way o) i) × ((arc_at arcs k).to ≡ node_at (way o) (i + 1))
   lies o h i k at =
       let on : has_place (way o) k ≡ true = list_any_at (λ p. p == k) (way o) i 0 (slice_get_within (way o) i k at) (eq-eqb (get_or (way o) i 0) k (get_or_from_slice_get (way o) i k 0 at)) in

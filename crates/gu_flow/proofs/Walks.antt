@@ -1,4 +1,4 @@
--- Ways of places through a network, and what is brought along many of them.
+-- Ways through a network, and the total load of many of them.
 use Rattle.std.proofs.Common.{◌≡◌, ◌≢◌, ℕ, ◌+◌, ◌<◌, ◌==◌, Bool, cond, List, [], ◌∷◌, length, refl, sym, ◌∙◌, ap, subst, arith}
 use Rattle.std.specs.List.{sum_by, AllByRecursion, list_any}
 use Rattle.std.proofs.lemmas.List.Sums.{sum_by-cons}
@@ -9,20 +9,20 @@ use Rattle.gu_flow.specs.Flows.{places, sum_over}
 use Rattle.gu_terms.proofs.Lists.{sum_by-agree, sum_by-swap}
 use Rattle.gu_flow.proofs.SumLemmas.{sum_by-by, cond-sum, cond-swap, sum_one_place}
 
--- the arcs at these places lead from node to node
+-- the arcs at these indexes lead from node to node
 abbrev pub Walks : List Arc → ℕ → List ℕ → ℕ → Type 0
 Walks arcs a [] b = a ≡ b
 Walks arcs a (k ∷ way) b = (k < length arcs) × ((arc_at arcs k).from ≡ a) × Walks arcs (arc_at arcs k).to way b
 
--- a place is on the way
+-- an index is on the way
 abbrev pub has_place : List ℕ → ℕ → Bool
 has_place way k = list_any (λ j. j == k) way
 
--- each place stands once
+-- each index occurs once
 pub record CountsOnce (way : List ℕ) : Type 0 where
   pub once : (k x : ℕ) → cond (has_place way k) x 0 ≡ sum_by (λ j. cond (j == k) x 0) way
 
--- x at each arc of the way that passes a test
+-- x for each arc of the way that passes a test
 unfoldable pub way_sum : List Arc → (Arc → Bool) → List ℕ → ℕ → ℕ
 way_sum arcs t way x = sum_by (λ k. cond (t (arc_at arcs k)) x 0) way
 
@@ -34,7 +34,7 @@ way_sum-nil : (arcs : List Arc) (t : Arc → Bool) (x : ℕ) → way_sum arcs t 
 unfolding way_sum
 way_sum-nil arcs t x = refl
 
--- along a walk, what a test of heads and one of tails give differs by the ends
+-- along a walk, the sums for a test of heads and for one of tails differ by the ends
 pub along_walk : (arcs : List Arc) (p q : Arc → Bool) (r : ℕ → Bool) (x : ℕ) → ((a : Arc) → cond (p a) x 0 + cond (r a.from) x 0 ≡ cond (q a) x 0 + cond (r a.to) x 0)
     → (way : List ℕ) (a b : ℕ) → Walks arcs a way b → way_sum arcs p way x + cond (r a) x 0 ≡ way_sum arcs q way x + cond (r b) x 0
 along_walk arcs p q r x step [] a b walk =
@@ -58,7 +58,7 @@ way_sum-balance arcs n s t way x not_s not_t walk =
     let at_t : cond (t == n) x 0 ≡ 0 = cond-false (t == n) x 0 (ne_eqb t n (λ e. not_t (sym e))) in
     omega arith
 
--- what a walk adds at the arcs that pass
+-- what a walk adds at the arcs that pass the test
 at_arcs : (arcs : List Arc) (t : Arc → Bool) (way : List ℕ) (x : ℕ) → AllByRecursion (λ k. k < length arcs) way → CountsOnce way → sum_over arcs t (λ k. cond (has_place way k) x 0) ≡ way_sum arcs t way x
 unfolding way_sum sum_over
 at_arcs arcs t way x inside once =
@@ -78,11 +78,11 @@ walk_inside arcs a b [] walk = tt
 walk_inside arcs a b (k ∷ way) (k_in, from, walk) = (k_in, walk_inside arcs (arc_at arcs k).to b way walk)
 
 module _ {X : Type 0} (arcs : List Arc) (walkers : List X) (way : X → List ℕ) (lots : X → ℕ) (s t : ℕ) (each : AllByRecursion (Walking arcs way s t) walkers) where
-  -- the lots that are brought through the arc at a place
+  -- the lots brought through the arc at an index
   unfoldable pub load : ℕ → ℕ
   load k = sum_by (λ x. cond (has_place (way x) k) (lots x) 0) walkers
 
-  -- the loads of the arcs that pass, walk by walk
+  -- the loads of the arcs that pass the test, walk by walk
   pub by_walks : (p : Arc → Bool) → sum_over arcs p load ≡ sum_by (λ x. way_sum arcs p (way x) (lots x)) walkers
   unfolding load sum_over
   by_walks p =
@@ -92,7 +92,7 @@ module _ {X : Type 0} (arcs : List Arc) (walkers : List X) (way : X → List ℕ
       ∙ sum_by-by (Walking arcs way s t) (λ x. sum_by (λ k. cond (p (arc_at arcs k)) (cond (has_place (way x) k) (lots x) 0) 0) (places (length arcs))) (λ x. way_sum arcs p (way x) (lots x)) walkers
       (λ x w. at_arcs arcs p (way x) (lots x) (walk_inside arcs s t (way x) w.walk) w.once) each
 
-  -- loads are kept at each node
+  -- loads are conserved at each node
   pub loads_kept : (n : ℕ) → n ≢ s → n ≢ t → sum_over arcs (λ a. a.to == n) load ≡ sum_over arcs (λ a. a.from == n) load
   loads_kept n not_s not_t =
       by_walks (λ a. a.to == n)

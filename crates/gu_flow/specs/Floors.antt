@@ -1,4 +1,4 @@
--- Machinery: flows that don't fall below a floor at each arc.
+-- Machinery: flows with a floor on each arc.
 use Rattle.std.specs.Prelude.{◌≡◌, ℕ, ◌-◌, ◌/◌, ◌≤◌, if◌then◌else◌, List, slice_index}
 use Rattle.gu_flow.specs.declared.network.Arc.{Arc}
 use Rattle.gu_flow.specs.Ends.{arc_at, is_tail}
@@ -14,7 +14,7 @@ pub record IsAlike (arcs : List Arc) (floors flow others : List ℕ) : Type 0 wh
   pub value : value_of arcs others ≡ value_of arcs flow
   pub keeps : KeepsFloors floors others
 
--- the lots that can still be brought from an end to the other one: along the arc what it can carry more, against it what flows above the floor
+-- the lots that can still be pushed from an end to the other: the capacity left along the arc, or the flow above the floor against it
 abbrev pub room_out : List Arc → List ℕ → List ℕ → ℕ → ℕ
 room_out arcs floors flow e =
     if is_tail e then (arc_at arcs (e / 2)).capacity - slice_index flow (e / 2) else slice_index flow (e / 2) - slice_index floors (e / 2)

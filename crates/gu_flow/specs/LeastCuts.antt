@@ -1,4 +1,4 @@
--- Machinery: the cut that is nearest to the source.
+-- Machinery: the cut nearest to the source.
 use Rattle.std.specs.Prelude.{◌≡◌, ℕ, Bool, true, false, List}
 use Rattle.gu_terms.specs.Cuts.{CutLists}
 use Rattle.gu_view.specs.View.{GroupView}
@@ -7,7 +7,7 @@ use Rattle.gu_flow.specs.Flows.{value_of, IsClosed, IsFlow}
 use Rattle.gu_flow.specs.Networks.{AreArcs}
 use Rattle.gu_flow.specs.declared.network.Arc.{Arc}
 
--- a side of the source from which a flow can bring no more to the sink's, within each such side in every flow of the same value
+-- a source side from which a flow can push no more to the sink side, and which lies within each such side of each flow of the same value
 pub record IsLeastSide (arcs : List Arc) (flow : List ℕ) (reached : ℕ → Bool) : Type 0 where
   pub source : reached 0 ≡ true
   pub sink : reached 1 ≡ false
@@ -15,7 +15,7 @@ pub record IsLeastSide (arcs : List Arc) (flow : List ℕ) (reached : ℕ → Bo
   pub least : (same : List ℕ) (others : ℕ → Bool) → IsFlow arcs same → value_of arcs same ≡ value_of arcs flow
       → others 0 ≡ true → IsClosed arcs same others → (n : ℕ) → reached n ≡ true → others n ≡ true
 
--- the cut is what lies between the least side of the source and the rest, in a greatest flow of the view's network
+-- the cut is the one at the least source side of some flow in the view's network
 pub record IsLeastCut (view : GroupView) (cut : CutLists) : Type 0 where
   pub arcs : List Arc
   pub are : AreArcs view arcs

@@ -1,4 +1,4 @@
--- Machinery: the network of a view: for the room of each key an arc, which lies on the ways of the offers with that key.
+-- Machinery: the network of a view: each key's room is an arc, on the ways of the offers with that key.
 use Rattle.std.specs.Prelude.{◌≡◌, ℕ, ◌+◌, ◌<◌, ◌==◌, min, true, if◌then◌else◌, List, [], length, map, slice_index_or, sum_by}
 use Rattle.std.specs.List.{list_any}
 use Rattle.gu_terms.specs.LimitKeys.{has_key}
@@ -11,33 +11,33 @@ use Rattle.gu_flow.specs.Ends.{arc_at}
 use Rattle.gu_flow.specs.Layouts.{step_of, node_at}
 use Rattle.gu_flow.specs.declared.network.Arc.{Arc}
 
--- the room at a place
+-- the room at an index
 abbrev pub no_room : Room
 no_room = record { key = Exec (record { name = [] }); lots = 0 }
 
 abbrev pub room_at : List Room → ℕ → Room
 room_at rooms place = slice_index_or rooms place no_room
 
--- the offer at a place
+-- the offer at an index
 abbrev pub no_offer : ViewOffer
 no_offer = record { number = 0; lots = 0; agreement = record { name = [] }; path = [] }
 
 abbrev pub offer_at : List ViewOffer → ℕ → ViewOffer
 offer_at offers place = slice_index_or offers place no_offer
 
--- the way of an offer: the places of its path's keys among the rooms
+-- the way of an offer: the indexes of its path's keys among the rooms
 abbrev pub way_of : List Room → ViewOffer → List ℕ
 way_of rooms o = map (place_of rooms) o.path
 
--- a way goes by a place
+-- a way passes a place
 abbrev pub GoesBy : List ℕ → ℕ → Type 0
 GoesBy way place = list_any (λ p. p == place) way ≡ true
 
--- the lots that the offers with a key have
+-- the total lots of the offers with a key
 abbrev pub lots_with : List ViewOffer → LimitKey → ℕ
 lots_with offers k = sum_by (λ o. if has_key o.path k then o.lots else 0) offers
 
--- what a key's arc can carry: its room, and of an agreement no more than its offers have
+-- the capacity of a key's arc: its room, but for an agreement no more than its offers have
 abbrev pub capacity_of : List ViewOffer → ℕ → LimitKey → ℕ
 capacity_of offers lots (Agr agreement) = min lots (lots_with offers (Agr agreement))
 capacity_of offers lots _ = lots
@@ -48,7 +48,7 @@ pub record IsOfferOf (view : GroupView) (o : ViewOffer) : Type 0 where
   pub within : place < length view.offers
   pub is : o ≡ offer_at view.offers place
 
--- the arc of the room at a place, as the way of an offer that goes by it lays it out
+-- the arc of the room at an index, as laid out by the way of an offer that passes it
 pub record IsArcOf (view : GroupView) (place : ℕ) (a : Arc) : Type 0 where
   pub offer : ViewOffer
   pub known : IsOfferOf view offer
@@ -57,7 +57,7 @@ pub record IsArcOf (view : GroupView) (place : ℕ) (a : Arc) : Type 0 where
   pub to : a.to ≡ node_at (way_of view.rooms offer) (step_of (room_at view.rooms place).key + 1)
   pub capacity : a.capacity ≡ capacity_of view.offers (room_at view.rooms place).lots (room_at view.rooms place).key
 
--- an arc for each room
+-- there is an arc for each room
 pub record AreArcs (view : GroupView) (arcs : List Arc) : Type 0 where
   pub all : length arcs ≡ length view.rooms
   pub each : (place : ℕ) → place < length arcs → IsArcOf view place (arc_at arcs place)

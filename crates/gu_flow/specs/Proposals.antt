@@ -1,4 +1,4 @@
--- Proposals: greatest takes of a view, oldest first, and a cut that has no more room.
+-- Proposals: the greatest takes of a view, oldest first, and a cut with exactly that room.
 use Rattle.std.specs.Prelude.{ℕ, ◌<◌, All, List}
 use Rattle.gu_terms.specs.Cuts.{CutLists}
 use Rattle.gu_terms.specs.Takes.{lots_of}
@@ -8,14 +8,14 @@ use Rattle.gu_view.specs.Takes.{IsOldestGreatest}
 use Rattle.gu_view.specs.View.{GroupView, IsView}
 use Rattle.gu_flow.specs.LeastCuts.{IsLeastCut}
 
--- what a proposal shows: the view that it is for, the takes, the cut, and the lots taken in all
+-- a proposal: the view that it was made for, the takes, the cut and the total lots taken
 pub record ProposedSweep : Type 0 where
   pub view : GroupView
   pub takes : List Take
   pub cut : CutLists
   pub lots : ℕ
 
--- what holds of every proposal: it is of a view, passes the check with its lots, names only offers of which it takes lots, is oldest
+-- the rules of every proposal: it is for a view, passes the check with its lots, names only offers from which it takes lots, is oldest
 -- first over the group among the greatest takes, and its cut is the nearest to the source
 pub record IsSound (sweep : ProposedSweep) : Type 0 where
   pub of_view : IsView sweep.view

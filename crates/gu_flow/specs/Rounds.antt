@@ -1,4 +1,4 @@
--- Machinery: an allotment, in which lots are brought round, and the two searches that find a way for them.
+-- Machinery: an allotment, in which lots are pushed round cycles, and the two searches that find a path for them.
 use Rattle.std.specs.Prelude.{◌≡◌, ◌≢◌, ℕ, ◌==◌, ◌+◌, ◌*◌, ◌<◌, ◌≤◌, if◌then◌else◌, List, length, Bool, true, false, slice_index}
 use Rattle.gu_flow.specs.declared.allotment.Allotment.{Allotment}
 use Rattle.gu_flow.specs.declared.network.Arc.{Arc}
@@ -8,24 +8,24 @@ use Rattle.gu_flow.specs.Floors.{IsAlike, KeepsFloors, room_out}
 use Rattle.gu_flow.specs.Flows.{inflow, outflow, IsFlow}
 use Rattle.gu_flow.specs.Searches.{HasPlaces, IsClear, IsSearch}
 
--- the lots that a search can bring over an end inside a region: from its node to the other one, or if it goes back, to its node
+-- the lots that a search can push over an end within a region: from its node to the other, or, if it goes back, to its node
 abbrev pub room_inside : List Arc → Allotment → Bool → ℕ → ℕ
 room_inside arcs a back e =
     if slice_index a.regions.items (near arcs e) == slice_index a.regions.items (far arcs e)
     then room_out arcs a.floors.items a.flow.items (if back then other_end e else e) else 0
 
--- no more can be brought from the nodes that were reached to the others of their regions
+-- nothing more can be pushed from the reached nodes to the others in the same region
 pub record IsClosedInside (arcs : List Arc) (floors flow regions : List ℕ) (reached : ℕ → Bool) : Type 0 where
   pub each : (e : ℕ) → e < 2 * length arcs → reached (near arcs e) ≡ true → reached (far arcs e) ≡ false
       → slice_index regions (near arcs e) ≡ slice_index regions (far arcs e) → room_out arcs floors flow e ≡ 0
 
--- lots are brought from one node to another, and all others are balanced as before
+-- lots are moved from one node to another, and all other nodes are balanced as before
 pub record IsBrought (arcs : List Arc) (old new : List ℕ) (from to lots : ℕ) : Type 0 where
   pub nodes : (n : ℕ)
       → inflow arcs new n + outflow arcs old n + (if from == n then lots else 0)
       ≡ inflow arcs old n + outflow arcs new n + (if to == n then lots else 0)
 
--- between two regions each flow of that value that keeps the floors carries the same
+-- between two regions, every flow of the same value that keeps the floors carries the same
 pub record AreFixed (arcs : List Arc) (floors flow regions : List ℕ) : Type 0 where
   pub each : (others : List ℕ) → IsAlike arcs floors flow others → (k : ℕ) → k < length arcs
       → slice_index regions (arc_at arcs k).from ≢ slice_index regions (arc_at arcs k).to → slice_index others k ≡ slice_index flow k
@@ -38,25 +38,25 @@ pub record IsAllotment (arcs : List Arc) (nodes : ℕ) (a : Allotment) : Type 0 
   pub regions : length a.regions.items ≡ nodes
   pub fixed : AreFixed arcs a.floors.items a.flow.items a.regions.items
 
--- no flow of that value that keeps the floors of the other arcs carries more at a place, whatever the floor there
+-- no flow of the same value that keeps the floors of the other arcs carries more at an index, whatever the floor there
 pub record CarriesMost (arcs : List Arc) (floors flow : List ℕ) (place : ℕ) : Type 0 where
   pub each : (older others : List ℕ) → ((k : ℕ) → k ≢ place → slice_index floors k ≡ slice_index older k) → IsAlike arcs older flow others
       → slice_index others place ≤ slice_index flow place
 
--- two searches: one goes ahead from the head of an arc, and the other one back from its tail
+-- two searches: one goes ahead from the head of an arc, the other back from its tail
 pub record AreSearches (nodes : ℕ) (s : TwoWay) : Type 0 where
   pub ahead : HasPlaces nodes s.ahead
   pub back : HasPlaces nodes s.back
   pub along : s.ahead.back ≡ false
   pub against : s.back.back ≡ true
 
--- both can begin
+-- both searches are clear and can begin
 pub record AreReady (nodes : ℕ) (s : TwoWay) : Type 0 where
   pub are : AreSearches nodes s
   pub ahead : IsClear s.ahead
   pub back : IsClear s.back
 
--- both are under way
+-- both searches are under way
 pub record AreUnderWay (arcs : List Arc) (nodes : ℕ) (a : Allotment) (s : TwoWay) : Type 0 where
   pub are : AreSearches nodes s
   pub ahead : IsSearch arcs (room_inside arcs a s.ahead.back) s.ahead

@@ -1,11 +1,11 @@
--- Machinery: searches inside a region, end by end, where no arc may fall below its floor.
+-- Machinery: searches within a region, end by end; no arc may fall below its floor.
 use Rattle.std.specs.Prelude.{◌≡◌, ◌≢◌, ℕ, ◌+◌, ◌-◌, ◌*◌, ◌<◌, ◌≤◌, List, length, Bool, true, false, count_by, nat_lt, slice_index, slice_index_or}
 use Rattle.gu_flow.specs.declared.network.Arc.{Arc}
 use Rattle.gu_flow.specs.declared.searching.Mark.{Mark}
 use Rattle.gu_flow.specs.declared.searching.Search.{Search}
 use Rattle.gu_flow.specs.Ends.{near, far}
 
--- a node's mark, and its level: 1 for the node from which the search began, one more for each step from it, and 0 where it hasn't come
+-- a node's mark, and its level: 1 for the node where the search began, one more for each step from it, and 0 if it hasn't been reached
 abbrev pub no_mark : Mark
 no_mark = record { via = 0; level = 0; lots = 0 }
 
@@ -19,8 +19,8 @@ depth_at marks n = (mark_at marks n).level
 abbrev pub is_marked : List Mark → ℕ → Bool
 is_marked marks n = nat_lt 0 (depth_at marks n)
 
--- a node was reached over an end from a node one level before, by lots for which each step so far has room; `room` says how many lots
--- a search can bring over an end
+-- a node was reached over an end from a node one level below, with lots for which each step so far has room; `room` gives the lots that a
+-- search can push over an end
 pub record IsEntry (arcs : List Arc) (room : ℕ → ℕ) (marks : List Mark) (node : ℕ) (m : Mark) : Type 0 where
   pub end_in : m.via < 2 * length arcs
   pub here : far arcs m.via ≡ node
@@ -29,7 +29,7 @@ pub record IsEntry (arcs : List Arc) (room : ℕ → ℕ) (marks : List Mark) (n
   pub least : m.lots ≤ (mark_at marks (near arcs m.via)).lots
   pub falls : depth_at marks (near arcs m.via) + 1 ≡ m.level
 
--- each node that was reached is the one from which the search began, or was reached from another
+-- each reached node is the one where the search began, or was reached from another
 pub record IsMarkTree (arcs : List Arc) (room : ℕ → ℕ) (source : ℕ) (marks : List Mark) : Type 0 where
   pub begun : depth_at marks source ≡ 1
   pub some : 0 < (mark_at marks source).lots
@@ -41,19 +41,19 @@ pub record IsMarkTree (arcs : List Arc) (room : ℕ → ℕ) (source : ℕ) (mar
 abbrev pub marked_count : List Mark → ℕ
 marked_count marks = count_by (λ (e : Mark). nat_lt 0 e.level) marks
 
--- the nodes that were reached are those in the queue
+-- the reached nodes are those in the queue
 pub record IsMarkQueue (marks : List Mark) (queue : List ℕ) (count : ℕ) : Type 0 where
   pub counted : marked_count marks ≡ count
   pub waits : (n : ℕ) → 0 < depth_at marks n → (k : ℕ) × ((k < count) × (slice_index queue k ≡ n))
   pub reached : (k : ℕ) → k < count → (slice_index queue k < length marks) × (0 < depth_at marks (slice_index queue k))
   pub low : (n : ℕ) → depth_at marks n ≤ count
 
--- from the ends at a node, from one on, each node to which lots can be brought is reached
+-- over the ends at a node that are not before `from`, each node to which lots can be pushed is reached
 abbrev pub IsLookedThrough : List Arc → (ℕ → ℕ) → List Mark → ℕ → ℕ → Type 0
 IsLookedThrough arcs room marks node from =
     (e : ℕ) → from ≤ e → e < 2 * length arcs → near arcs e ≡ node → 0 < room e → 0 < depth_at marks (far arcs e)
 
--- the nodes in the queue that are done are looked through, and the next one from an end on
+-- the first `done` nodes in the queue have been looked through, and the next one for its ends from `ends` on
 pub record IsSearch (arcs : List Arc) (room : ℕ → ℕ) (s : Search) : Type 0 where
   pub tree : IsMarkTree arcs room s.from s.marks.items
   pub waits : IsMarkQueue s.marks.items s.queue.items s.count
@@ -63,16 +63,16 @@ pub record IsSearch (arcs : List Arc) (room : ℕ → ℕ) (s : Search) : Type 0
   pub ends_at : s.done < s.count → 0 < s.ends → near arcs (s.ends - 1) ≡ slice_index s.queue.items s.done
   pub half : s.done < s.count → IsLookedThrough arcs room s.marks.items (slice_index s.queue.items s.done) s.ends
 
--- it has room for all nodes
+-- it has room for this number of nodes
 pub record HasPlaces (nodes : ℕ) (s : Search) : Type 0 where
   pub marks : length s.marks.items ≡ nodes
   pub queue : length s.queue.items ≡ nodes
 
--- nothing is reached
+-- no node is reached
 abbrev pub IsClear : Search → Type 0
 IsClear s = (n : ℕ) → depth_at s.marks.items n ≡ 0
 
--- a search goes on: what was reached stays so, and keeps its place in the queue
+-- a search continues: reached nodes keep their marks and their places in the queue
 pub record KeepsReached (old new : Search) : Type 0 where
   pub from : new.from ≡ old.from
   pub back : new.back ≡ old.back
@@ -80,10 +80,10 @@ pub record KeepsReached (old new : Search) : Type 0 where
   pub places : (k : ℕ) → k < old.count → slice_index new.queue.items k ≡ slice_index old.queue.items k
   pub grows : old.count ≤ new.count
 
--- no lots can be brought from the nodes that were reached to the others
+-- no lots can be pushed from the reached nodes to the others
 pub record IsShut (arcs : List Arc) (room : ℕ → ℕ) (reached : ℕ → Bool) : Type 0 where
   pub each : (e : ℕ) → e < 2 * length arcs → reached (near arcs e) ≡ true → reached (far arcs e) ≡ false → room e ≡ 0
 
--- a bound for the turns that are left to a search
+-- a bound on the turns left to a search
 abbrev pub turns_left : List Arc → Search → ℕ
 turns_left arcs s = (length s.marks.items - s.done) * (2 * length arcs + 1) + s.ends

@@ -1,4 +1,4 @@
--- Machinery: what the offers of an agreement get of what flows through its arc: the oldest first.
+-- Machinery: the shares of an agreement's offers in the flow through its arc, the oldest first.
 use Rattle.std.specs.Prelude.{◌≡◌, ℕ, ◌-◌, ◌<◌, ◌==◌, nat_lt, min, if◌then◌else◌, List, filter, length, take, slice_index, slice_index_or, sum_by}
 use Rattle.gu_terms.specs.declared.limit_key.LimitKey.TheVariants.{Agr}
 use Rattle.gu_terms.specs.declared.takes.Take.{Take}
@@ -7,27 +7,27 @@ use Rattle.gu_view.specs.declared.view.ViewOffer.{ViewOffer}
 use Rattle.gu_view.specs.declared.view.Room.{Room}
 use Rattle.gu_flow.specs.Networks.{offer_at}
 
--- the place of the room of an offer's agreement
+-- the index of the room of an offer's agreement
 abbrev pub agreement_place : List Room → ViewOffer → ℕ
 agreement_place rooms o = place_of rooms (Agr o.agreement)
 
--- the lots of the offers of the agreement whose room is at a place
+-- the total lots of the offers under the agreement with the room at an index
 abbrev pub agreement_lots : List Room → List ViewOffer → ℕ → ℕ
 agreement_lots rooms offers place = sum_by (λ o. if agreement_place rooms o == place then o.lots else 0) offers
 
--- an offer's share: what the older ones of its agreement leave of the flow, and no more than it has
+-- an offer's share: what the older ones under its agreement leave of the flow, but no more than it has
 abbrev pub share_of : List ℕ → List Room → List ViewOffer → ViewOffer → ℕ
 share_of flow rooms older o =
     min o.lots (slice_index flow (agreement_place rooms o) - agreement_lots rooms older (agreement_place rooms o))
 
--- the take at a place
+-- the take at an index
 abbrev pub no_take : Take
 no_take = record { offer = 0; lots = 0 }
 
 abbrev pub take_at : List Take → ℕ → Take
 take_at takes i = slice_index_or takes i no_take
 
--- the offers before a place take their shares
+-- the offers before an index take their shares
 pub record AreSharesBefore (view : GroupView) (flow : List ℕ) (takes : List Take) (before : ℕ) : Type 0 where
   pub all : length takes ≡ before
   pub each : (i : ℕ) → i < before
@@ -40,11 +40,11 @@ pub record AreSharesBefore (view : GroupView) (flow : List ℕ) (takes : List Ta
 abbrev pub AreAllShares : GroupView → List ℕ → List Take → Type 0
 AreAllShares view flow takes = AreSharesBefore view flow takes (length view.offers)
 
--- the takes that take lots
+-- the takes with more than 0 lots
 abbrev pub above_zero : List Take → List Take
 above_zero takes = filter (λ t. nat_lt 0 t.lots) takes
 
--- each offer takes its share, and is named where that is more than 0
+-- each offer takes its share, and is named if that is more than 0
 pub record AreShares (view : GroupView) (flow : List ℕ) (takes : List Take) : Type 0 where
   pub shares : List Take
   pub all : AreAllShares view flow shares

@@ -1,30 +1,30 @@
--- Machinery: ways from the sink back towards the source, a list of ends of arcs.
+-- Machinery: augmenting paths from the sink back towards the source, as lists of arc ends.
 use Rattle.std.specs.Prelude.{◌≡◌, ℕ, ◌-◌, ◌*◌, ◌/◌, ◌<◌, ◌≤◌, ◌==◌, if◌then◌else◌, List, length, slice_index}
 use Rattle.gu_flow.specs.declared.network.Arc.{Arc}
 use Rattle.gu_flow.specs.declared.levels.Label.{Label}
 use Rattle.gu_flow.specs.Ends.{near, far, residual_in}
 use Rattle.gu_flow.specs.Levels.{level_at, IsStep}
 
--- the node that a way from the sink has come to after a number of steps
+-- the node that a path from the sink has reached after this many steps
 abbrev pub stand : List Arc → List ℕ → ℕ → ℕ
 stand arcs way steps = if steps == 0 then 1 else far arcs (slice_index way (steps - 1))
 
--- each step leads on from the node that the way has come to
+-- each step leads on from the node that the path has reached
 pub record IsWay (arcs : List Arc) (way : List ℕ) (steps : ℕ) : Type 0 where
   pub ends : (i : ℕ) → i < steps → slice_index way i < 2 * length arcs
   pub joined : (i : ℕ) → i < steps → near arcs (slice_index way i) ≡ stand arcs way i
 
--- no arc is taken twice
+-- no arc is used twice
 abbrev pub TakesEachOnce : List ℕ → ℕ → Type 0
 TakesEachOnce way steps = (i j : ℕ) → i < steps → j < steps → slice_index way i / 2 ≡ slice_index way j / 2 → i ≡ j
 
--- a whole way comes to the source, and takes no arc twice
+-- a whole path reaches the source and uses no arc twice
 pub record IsWhole (arcs : List Arc) (way : List ℕ) : Type 0 where
   pub is_way : IsWay arcs way (length way)
   pub source : stand arcs way (length way) ≡ 0
   pub once : TakesEachOnce way (length way)
 
--- each step has room for this number of lots
+-- each step has room for at least this number of lots
 abbrev pub HasRoom : List Arc → List ℕ → List ℕ → ℕ → ℕ → Type 0
 HasRoom arcs flow way steps lots = (i : ℕ) → i < steps → lots ≤ residual_in arcs flow (slice_index way i)
 
@@ -34,15 +34,15 @@ pub record IsNarrow (arcs : List Arc) (flow way : List ℕ) (steps lots : ℕ) :
   pub within : step < steps
   pub room : residual_in arcs flow (slice_index way step) ≡ lots
 
--- a search for ways hasn't passed the end that the way takes at a node
+-- at each node, the search for paths hasn't passed the end that the path uses
 abbrev pub IsAhead : List Arc → List ℕ → List ℕ → ℕ → Type 0
 IsAhead arcs current way steps = (i : ℕ) → i < steps → slice_index way i < slice_index current (near arcs (slice_index way i))
 
--- an end at which a way can go on: it leads a level down, and the search for ways has just come to it
+-- an end by which a path can continue: it leads a level down, and the search hasn't passed it
 pub record IsDown (arcs : List Arc) (flow : List ℕ) (entries : List Label) (current : List ℕ) (node end : ℕ) : Type 0 where
   pub step : IsStep arcs flow entries node (level_at entries node) end
   pub ahead : end < slice_index current node
 
--- a way on which each step has room and leads a level down
+-- a path on which each step has room and leads a level down
 pub record IsDescent (arcs : List Arc) (flow : List ℕ) (entries : List Label) (way : List ℕ) (steps : ℕ) : Type 0 where
   pub each : (i : ℕ) → i < steps → IsStep arcs flow entries (stand arcs way i) (level_at entries (stand arcs way i)) (slice_index way i)

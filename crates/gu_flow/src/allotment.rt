@@ -1,4 +1,4 @@
-//! A flow in which lots are brought round.
+//! A flow that is rerouted in cycles without changing its value.
 
 ghost use Rattle.std.specs.Prelude.{◌≡◌, ℕ, ◌+◌, ◌*◌, ◌/◌, ◌%◌, ◌<◌, ◌≤◌, IfOk, length, slice_index};
 ghost use Rattle.gu_flow.specs.Floors.{KeepsFloors, room_out};
@@ -10,7 +10,7 @@ use crate::network::{Network, other_end};
 use crate::searching::Search;
 use std::alloc::{AllocError, Global};
 
-/// A flow, for each arc the lots below which it may not fall, and for each node its region: between two regions nothing can change.
+/// A flow, with a floor below which each arc may not fall, and a region for each node: flow between two regions is fixed.
 #[derive(Drop)]
 pub struct Allotment {
     pub(crate) flow: Vec<u64>,
@@ -19,7 +19,7 @@ pub struct Allotment {
 }
 
 impl Allotment {
-    /// Creates the allotment of a flow, without floors, in one region.
+    /// Returns the allotment of a flow: no floors, one region.
     pub(crate) fn new(alloc: Global, nodes: usize, flow: Vec<u64>) -> Result<Allotment, AllocError>
         ensures flow { IfOk result (λ a. a.flow.items ≡ flow.items) }
         ensures floors { IfOk result (λ a. length a.floors.items ≡ length flow.items) }
@@ -36,7 +36,7 @@ impl Allotment {
         })
     }
 
-    /// Returns the lots that a search can bring over an end inside a region, or if it goes back, against its way.
+    /// Returns the lots that a search can push over an end within a region, or against it if the search goes back.
     pub(crate) fn room(&self, net: &Network, back: bool, end: u32) -> u64
         requires allotment { IsAllotment net.now.arcs.items (length net.now.first.items) self.now }
         requires end { end < 2 * length net.now.arcs.items }
@@ -54,7 +54,7 @@ impl Allotment {
         }
     }
 
-    /// Brings lots over an end, from its node to the other.
+    /// Pushes lots over an end, from its node to the other.
     pub(crate) fn push(&mut self, net: &Network, end: u32, lots: u64)
         requires within { IsWithin net.now.arcs.items self.old.flow.items }
         requires keeps { KeepsFloors self.old.floors.items self.old.flow.items }
@@ -72,7 +72,7 @@ impl Allotment {
         }
     }
 
-    /// Makes what a search has reached a region.
+    /// Makes the nodes that a search has reached a region.
     pub(crate) fn set_apart(&mut self, search: &Search, region: u32)
         requires waits { IsMarkQueue search.now.marks.items search.now.queue.items search.now.count }
         requires places { (length search.now.marks.items ≡ length self.old.regions.items)

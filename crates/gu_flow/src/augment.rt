@@ -1,4 +1,4 @@
-//! Lots brought along a way from the source to the sink.
+//! Augmenting a flow along a path from the source to the sink.
 
 ghost use Rattle.std.specs.Prelude.{◌≡◌, ◌+◌, ◌<◌, length};
 ghost use Rattle.gu_flow.specs.Flows.{IsFlow, IsWithin, value_of};
@@ -7,7 +7,7 @@ ghost use Rattle.gu_flow.specs.Ways.{IsWay, IsWhole, IsNarrow, HasRoom};
 use crate::network::{Network, other_end};
 use crate::residual::{push, residual_in};
 
-/// The least room on a way.
+/// Returns the bottleneck: the least room on a path.
 fn bottleneck(net: &Network, flow: &[u64], way: &[u32]) -> u64
     requires within { IsWithin net.now.arcs.items flow.now }
     requires way { IsWay net.now.arcs.items way.now (length way.now) }
@@ -22,7 +22,7 @@ fn bottleneck(net: &Network, flow: &[u64], way: &[u32]) -> u64
     least
 }
 
-/// Brings so many lots from the source to the sink, back along a way.
+/// Pushes this many lots from the source to the sink, following a path backwards.
 fn push_along(net: &Network, flow: &mut [u64], way: &[u32], lots: u64)
     requires flow { IsFlow net.now.arcs.items flow.old }
     requires whole { IsWhole net.now.arcs.items way.now }
@@ -35,7 +35,7 @@ fn push_along(net: &Network, flow: &mut [u64], way: &[u32], lots: u64)
     }
 }
 
-/// Brings as many lots as a way has room for.
+/// Pushes as many lots as a path has room for.
 pub(crate) fn augment(net: &Network, flow: &mut [u64], way: &[u32])
     requires flow { IsFlow net.now.arcs.items flow.old }
     requires whole { IsWhole net.now.arcs.items way.now }

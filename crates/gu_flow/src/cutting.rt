@@ -1,4 +1,4 @@
-//! The cut between what the last search reached and what it didn't.
+//! The cut between the nodes that the last search reached and those that it didn't.
 
 ghost use Rattle.std.specs.Prelude.{◌≡◌, ◌<◌, [], false, IfOk, OnOk, length};
 ghost use Rattle.gu_flow.specs.CutArcs.{leads_out, cuts_key, cuts_offers, AreKeysCut, AreNoOffersCut, AreOffersCut, IsCutBy};
@@ -19,14 +19,14 @@ fn is_reached(entries: &[Label], node: u32) -> bool
     }
 }
 
-/// Whether an arc leads from what was reached to what wasn't.
+/// Returns whether an arc leads from a reached node to one that isn't.
 fn leads_out(entries: &[Label], arc: &Arc) -> bool
     ensures { result ≡ leads_out (is_reached entries.now) arc.now }
 {
     is_reached(entries, arc.from) && !is_reached(entries, arc.to)
 }
 
-/// Whether the key of the room at a place is cut.
+/// Returns whether the key of the room at an index is cut.
 fn cuts_key(view: &View, arcs: &[Arc], entries: &[Label], place: usize) -> bool
     requires room { place < length view.now.rooms }
     requires arc { place < length arcs.now }
@@ -35,7 +35,7 @@ fn cuts_key(view: &View, arcs: &[Arc], entries: &[Label], place: usize) -> bool
     leads_out(entries, &arcs[place]) && arcs[place].capacity == view.rooms()[place].lots
 }
 
-/// Whether the offers of the agreement whose room is at a place are cut.
+/// Returns whether the offers under the agreement with the room at an index are cut.
 fn cuts_offers(view: &View, arcs: &[Arc], entries: &[Label], place: usize) -> bool
     requires room { place < length view.now.rooms }
     requires arc { place < length arcs.now }
@@ -44,7 +44,7 @@ fn cuts_offers(view: &View, arcs: &[Arc], entries: &[Label], place: usize) -> bo
     leads_out(entries, &arcs[place]) && arcs[place].capacity != view.rooms()[place].lots
 }
 
-/// Adds the keys that are cut, and returns whether offers are, too.
+/// Adds the keys that are cut, and returns whether any offers are cut as well.
 fn add_keys(cut: &mut Cut, view: &View, arcs: &[Arc], entries: &[Label]) -> Result<bool, AllocError>
     requires arcs { length arcs.now ≡ length view.now.rooms }
     requires none { cut.old.keys ≡ [] }
@@ -78,7 +78,7 @@ fn add_offers(cut: &mut Cut, view: &View, arcs: &[Arc], entries: &[Label]) -> Re
     Ok(())
 }
 
-/// The cut by which the last search stops.
+/// Returns the cut at which the last search stopped.
 pub(crate) fn cut_by(
     alloc: Global,
     view: &View,

@@ -1,4 +1,4 @@
-//! Lots pushed down from node to node: a node is as high as it is far from the sink.
+//! Push-relabel: lots are pushed down from node to node. A node's height is its distance from the sink.
 
 ghost use Rattle.std.specs.Prelude.{◌≡◌, ℕ, ◌*◌, ◌^◌, ◌<◌, ◌≤◌, All, OnErr, OnOk, length, slice_index, vec_len};
 ghost use Rattle.gu_flow.specs.Flows.{IsFlow, IsWithin, value_of};
@@ -10,13 +10,13 @@ use crate::residual::{residual_in, residual_out};
 use crate::waiting::Waiting;
 use std::alloc::{AllocError, Global};
 
-/// How many turns nodes have at most; what they leave is left to the searches.
+/// The most turns for nodes; what they leave is left to the searches.
 const MOST_TURNS: u32 = 1 << 24;
 
-/// What it costs to lift a node, as a number of ends, besides those that are looked at.
+/// The cost of lifting a node, counted in ends, in addition to the ends looked at.
 const LIFT: usize = 12;
 
-/// Makes each node as high as there are nodes, and the sink the lowest.
+/// Sets every node's height to the number of nodes, and the sink's to the lowest.
 fn raise(heights: &mut [u32])
     requires few { (1 < length heights.old) × (length heights.old < 2 ^ 31) }
 {
@@ -27,7 +27,7 @@ fn raise(heights: &mut [u32])
     heights[SINK as usize] = 0;
 }
 
-/// Finds the nodes from which a node can be reached at once, and returns how many are found in all.
+/// Finds the nodes that lead directly to a node, and returns the number of nodes found in all.
 fn spread_back(
     net: &Network,
     flow: &[u64],
@@ -61,7 +61,7 @@ fn spread_back(
     count
 }
 
-/// Makes each node as high as it is far from the sink over arcs with room.
+/// Sets each node's height to its distance from the sink over arcs with room.
 fn measure(net: &Network, flow: &[u64], heights: &mut [u32], queue: &mut [u32])
     requires within { IsWithin net.now.arcs.items flow.now }
     requires nodes { length heights.old ≡ length net.now.first.items }
@@ -78,7 +78,7 @@ fn measure(net: &Network, flow: &[u64], heights: &mut [u32], queue: &mut [u32])
     }
 }
 
-/// Pushes what a node has too much to lower nodes, which then wait for their turn.
+/// Pushes a node's excess to lower nodes, which then wait for their turn.
 fn push_down(
     net: &Network,
     flow: &mut [u64],
@@ -113,7 +113,7 @@ fn push_down(
     }
 }
 
-/// Makes a node one higher than the lowest to which it can push, and returns what that cost.
+/// Lifts a node to one above the lowest node that it can push to, and returns the cost.
 fn lift(net: &Network, flow: &[u64], heights: &mut [u32], node: u32) -> usize
     requires within { IsWithin net.now.arcs.items flow.now }
     requires nodes { length heights.old ≡ length net.now.first.items }
@@ -134,8 +134,8 @@ fn lift(net: &Network, flow: &[u64], heights: &mut [u32], node: u32) -> usize
     cost
 }
 
-/// A node's turn: it pushes what it has too much to lower nodes, and with what is left it is lifted, and waits again.
-/// Returns what lifting it cost.
+/// Takes a node's turn: pushes its excess to lower nodes and, if some is left, lifts the node and makes it wait again. Returns the cost of
+/// lifting.
 fn discharge(
     net: &Network,
     flow: &mut [u64],
@@ -164,7 +164,7 @@ fn discharge(
     cost
 }
 
-/// Gives the source as much as it can give, where no node has too much.
+/// Gives the source all that it can give; no node has an excess.
 fn begin(excess: &mut [u64])
     requires some { 0 < length excess.old }
     requires none { All (λ lots. lots ≡ 0) excess.old }
@@ -173,7 +173,7 @@ fn begin(excess: &mut [u64])
     excess[SOURCE as usize] = u64::MAX;
 }
 
-/// Measures the heights anew, and lets each node begin with its last end again.
+/// Measures the heights again, and resets each node to its last end.
 fn start_over(
     net: &Network,
     flow: &[u64],
@@ -190,7 +190,7 @@ fn start_over(
     current.copy_from_slice(net.last_ends());
 }
 
-/// Gives each node that waits its turn, until none waits or many turns were had.
+/// Gives each waiting node its turn, until none waits or the turns are used up.
 fn take_turns(
     net: &Network,
     flow: &mut [u64],
@@ -221,8 +221,7 @@ fn take_turns(
     }
 }
 
-/// Pushes what the source can give towards the sink all at once, and gives back what doesn't come there, over lists that are
-/// there.
+/// Pushes all that the source can give towards the sink at once, and gives back what doesn't reach it, using lists already allocated.
 fn push_all(
     net: &Network,
     flow: &mut [u64],
@@ -245,8 +244,8 @@ fn push_all(
     give_back(net, flow, excess);
 }
 
-/// Pushes what the source can give towards the sink all at once, and gives back what doesn't come there. What it needs beside
-/// the lists that are there it takes first.
+/// Pushes all that the source can give towards the sink at once, and gives back what doesn't reach it. It first allocates the other lists
+/// that it needs.
 pub(crate) fn surge(
     alloc: Global,
     net: &Network,

@@ -1,4 +1,4 @@
-//! The network of a view: an arc for each room.
+//! The network of a view, with an arc for each room.
 
 ghost use Rattle.std.specs.Prelude.{◌≡◌, ◌+◌, ◌<◌, ◌^◌, All, IfOk, length, sum_by};
 ghost use Rattle.gu_view.specs.View.{IsView};
@@ -11,7 +11,7 @@ use gu_terms::LimitKey;
 use gu_view::{View, ViewOffer};
 use std::alloc::{AllocError, Global};
 
-/// How many steps of a way come before that of a key.
+/// Returns the number of steps of a way before the one for a key.
 fn step_of(key: LimitKey) -> usize
     ensures { result ≡ step_of key }
 {
@@ -24,8 +24,8 @@ fn step_of(key: LimitKey) -> usize
     }
 }
 
-/// Where a way is after a number of steps: at the source, at the node of its first place, then at that of each place
-/// but the second, and after the last at the sink.
+/// Returns the node of a way after this many steps: the source, the node of its first place, then that of each place but the second, and
+/// the sink after the last.
 fn node_at(way: &[u32], steps: usize) -> u32
     requires { All (λ p. p < 2 ^ 31) way.now }
     ensures { result ≡ node_at way.now steps }
@@ -47,7 +47,7 @@ fn lots_of(offers: &[ViewOffer], place: u32) -> u64
     offers[place as usize].lots
 }
 
-/// The lots that the offers at these places have.
+/// Returns the total lots of the offers at these indexes.
 fn lots_at(offers: &[ViewOffer], places: &[u32]) -> u64
     requires within { All (λ place. place < length offers.now) places.now }
     requires fits { sum_by (λ place. (offer_at offers.now place).lots) places.now < 2 ^ 64 }
@@ -56,7 +56,7 @@ fn lots_at(offers: &[ViewOffer], places: &[u32]) -> u64
     places.iter().map(|place| lots_of(offers, *place)).sum()
 }
 
-/// What the arc of the room at a place can carry.
+/// Returns the capacity of the arc of the room at an index.
 fn capacity_of(view: &View, place: usize) -> u64
     requires { place < length view.now.rooms }
     ensures capacity { result ≡ capacity_of view.now.offers (room_at view.now.rooms place).lots (room_at view.now.rooms place).key }
@@ -69,7 +69,7 @@ fn capacity_of(view: &View, place: usize) -> u64
     }
 }
 
-/// The arc of the room at a place.
+/// Returns the arc of the room at an index.
 fn arc_of(view: &View, place: usize) -> Arc
     requires { place < length view.now.rooms }
     ensures { IsArcOf view.now place result }
@@ -86,7 +86,7 @@ fn arc_of(view: &View, place: usize) -> Arc
     }
 }
 
-/// An arc for each room.
+/// Returns an arc for each room.
 pub(crate) fn lay_out(alloc: Global, view: &View) -> Result<Vec<Arc>, AllocError>
     ensures arcs { IfOk result (λ arcs. AreArcs view.now arcs.items) }
     ensures joins { IfOk result (λ arcs. JoinsNodes arcs.items (length view.now.rooms + 2)) }

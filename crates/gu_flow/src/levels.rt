@@ -1,4 +1,4 @@
-//! The search from the source, level by level.
+//! Breadth-first search from the source, level by level.
 
 ghost use Rattle.std.specs.Prelude.{◌≡◌, ℕ, ◌<◌, ◌≤◌, ◌↔◌, IsTrue, false, length, slice_index};
 ghost use Rattle.gu_flow.specs.Flows.{IsClosed, IsWithin};
@@ -7,15 +7,15 @@ ghost use Rattle.gu_flow.specs.Levels.{level_at, is_reached, IsTree, IsQueue, Is
 use crate::network::{Network, SINK, SOURCE, other_end};
 use crate::residual::residual_out;
 
-/// How a search entered a node: over which of the node's ends, and at which level.
+/// A node's label: the end over which a search entered it, and its level.
 #[derive(Clone, Copy)]
 pub struct Label {
     pub via: u32,
-    /// 1 for the source, and 0 where the search hasn't come.
+    /// 1 for the source, and 0 if the search hasn't reached the node.
     pub level: u32,
 }
 
-/// Forgets what was reached, and reaches the source.
+/// Clears what was reached, then reaches the source.
 fn begin(entries: &mut [Label], queue: &mut [u32])
     requires source { 0 < length entries.old }
     requires room { length entries.old ≤ length queue.old }
@@ -30,7 +30,7 @@ fn begin(entries: &mut [Label], queue: &mut [u32])
     queue[0] = SOURCE;
 }
 
-/// Reaches what a node can bring lots to, and returns how many nodes are reached.
+/// Reaches the nodes that a node can push lots to, and returns the number of nodes reached.
 fn spread(
     net: &Network,
     flow: &[u64],
@@ -69,7 +69,7 @@ fn spread(
     count
 }
 
-/// Reaches what lots can be brought to from the source, until the sink is reached; whether it is.
+/// Searches from the source until the sink is reached. Returns whether it is.
 pub(crate) fn search(net: &Network, flow: &[u64], entries: &mut [Label], queue: &mut [u32]) -> bool
     requires within { IsWithin net.now.arcs.items flow.now }
     requires lists { (length entries.old ≡ length net.now.first.items) × (length entries.old ≤ length queue.old) }

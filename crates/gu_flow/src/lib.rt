@@ -1,4 +1,4 @@
-//! Greatest claim sweeps of a view, with the cut that proves them.
+//! The greatest claim sweep of a view, with the cut that proves it.
 #![tactic(auto)]
 
 mod allotment;

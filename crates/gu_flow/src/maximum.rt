@@ -1,4 +1,4 @@
-//! Greatest flows from the source to the sink.
+//! Maximum flows from the source to the sink.
 
 ghost use Rattle.std.specs.Prelude.{◌≡◌, ◌≤◌, true, false, IfOk, OnOk, length};
 ghost use Rattle.gu_flow.specs.Flows.{IsFlow, IsClosed};
@@ -10,11 +10,11 @@ use crate::network::Network;
 use crate::ways::block;
 use std::alloc::{AllocError, Global};
 
-/// So many searches are paid for at first. Each costs a step for each node, and ways pay for more. Where less than a quarter
-/// of one is left, the rest is pushed all at once: each search finds little then, or ways grow long, and there would be many more.
+/// The searches allowed at first. Each costs a step a node, and paths pay for more. Once less than a quarter of one is left, the rest is
+/// pushed all at once: searches then find little or paths grow long, and there would be many more.
 const SEARCHES: usize = 2;
 
-/// Makes the flow greatest, over lists that are there; a surge takes lists of its own.
+/// Makes the flow maximum, using lists already allocated; a surge allocates lists of its own.
 #[tactic(auto, using(crate::proofs::PushLemmas::left_less))]
 fn fill(
     alloc: Global,
@@ -47,7 +47,7 @@ fn fill(
     Ok(())
 }
 
-/// Makes the flow greatest, and tells which nodes a search from the source still reaches.
+/// Makes the flow maximum, and returns the nodes that a search from the source still reaches.
 fn raise(alloc: Global, net: &Network, flow: &mut [u64]) -> Result<Vec<Label>, AllocError>
     requires flow { IsFlow net.now.arcs.items flow.old }
     ensures flow { OnOk result (IsFlow net.now.arcs.items flow.new) }
@@ -73,7 +73,7 @@ fn raise(alloc: Global, net: &Network, flow: &mut [u64]) -> Result<Vec<Label>, A
     Ok(entries)
 }
 
-/// A greatest flow, and which nodes a search from the source still reaches.
+/// Returns a maximum flow, and the nodes that a search from the source still reaches.
 pub(crate) fn maximize(alloc: Global, net: &Network) -> Result<(Vec<u64>, Vec<Label>), AllocError>
     ensures flow { IfOk result (λ found. IsFlow net.now.arcs.items found.0.items) }
     ensures from_source { IfOk result (λ found. is_reached found.1.items 0 ≡ true) }

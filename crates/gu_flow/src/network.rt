@@ -1,17 +1,17 @@
-//! Networks of arcs, and the ends at each node: end 2k is the tail of the arc at place k, and end 2k + 1 its head.
+//! Networks of arcs, and the ends at each node: end 2k is the tail of arc k, and end 2k + 1 its head.
 
 ghost use Rattle.std.specs.Prelude.{◌≡◌, ◌*◌, ◌/◌, ◌^◌, ◌<◌, ◌≤◌, All, IfOk, length, slice_index};
 ghost use Rattle.gu_flow.specs.Ends.{arc_at, near, far, other_end, last_before, capacities, IsCurrent, IsIndex, IsNetwork, JoinsNodes};
 
 use std::alloc::{AllocError, Global};
 
-/// The node from which lots come.
+/// The source.
 pub(crate) const SOURCE: u32 = 0;
 
-/// The node to which they go.
+/// The sink.
 pub(crate) const SINK: u32 = 1;
 
-/// An arc from one node to another, and what it can carry.
+/// An arc from one node to another, and its capacity.
 #[derive(Clone, Copy)]
 pub struct Arc {
     pub from: u32,
@@ -19,18 +19,18 @@ pub struct Arc {
     pub capacity: u64,
 }
 
-/// Arcs that join nodes, with the ends at each node.
+/// A network: arcs that join nodes, with the ends at each node.
 #[derive(Drop)]
 pub(crate) struct Network {
     arcs: Vec<Arc>,
-    /// For each node one more than its last end, or 0.
+    /// For each node, its last end plus one, or 0 if it has none.
     first: Vec<u32>,
-    /// For each end one more than the end before it at the same node, or 0.
+    /// For each end, the previous end at the same node plus one, or 0 if there is none.
     next: Vec<u32>,
     ghost is_network: { IsNetwork arcs.items first.items next.items },
 }
 
-/// The arc's other end.
+/// Returns the arc's other end.
 pub(crate) fn other_end(end: u32) -> u32
     requires { end < 4294967295 }
     ensures { result ≡ other_end end }
@@ -38,7 +38,7 @@ pub(crate) fn other_end(end: u32) -> u32
     if end % 2 == 0 { end + 1 } else { end - 1 }
 }
 
-/// The node at an end.
+/// Returns the node at an end.
 fn near(arcs: &[Arc], end: u32) -> u32
     requires { end < 2 * length arcs.now }
     ensures { result ≡ near arcs.now end }
@@ -64,7 +64,7 @@ fn link(arcs: &[Arc], first: &mut [u32], next: &mut [u32])
 
 #[tactic(auto, using(crate::proofs::Linking::last_is_before))]
 impl Network {
-    /// The network of these arcs between so many nodes.
+    /// Returns the network of these arcs between this many nodes.
     pub(crate) fn new(alloc: Global, arcs: Vec<Arc>, nodes: usize) -> Result<Network, AllocError>
         requires joins { JoinsNodes arcs.items nodes }
         requires few { (nodes < 2 ^ 31) × (1 < nodes) × (length arcs.items < 2 ^ 31) }
@@ -84,14 +84,14 @@ impl Network {
         &self.arcs
     }
 
-    /// How many nodes there are.
+    /// Returns the number of nodes.
     pub(crate) fn nodes(&self) -> usize
         ensures { result ≡ length self.now.first.items }
     {
         self.first.len()
     }
 
-    /// What the arc of an end can carry.
+    /// Returns the capacity of the arc of an end.
     pub(crate) fn capacity(&self, end: u32) -> u64
         requires { end < 2 * length self.now.arcs.items }
         ensures { result ≡ (arc_at self.now.arcs.items (end / 2)).capacity }
@@ -99,7 +99,7 @@ impl Network {
         self.arcs[end as usize / 2].capacity
     }
 
-    /// The node at an end.
+    /// Returns the node at an end.
     pub(crate) fn near(&self, end: u32) -> u32
         requires { end < 2 * length self.now.arcs.items }
         ensures is { result ≡ near self.now.arcs.items end }
@@ -108,7 +108,7 @@ impl Network {
         near(&self.arcs, end)
     }
 
-    /// The node at the other end of the arc.
+    /// Returns the node at the other end of the arc.
     pub(crate) fn far(&self, end: u32) -> u32
         requires { end < 2 * length self.now.arcs.items }
         ensures is { result ≡ far self.now.arcs.items end }
@@ -118,7 +118,7 @@ impl Network {
         if end % 2 == 0 { arc.to } else { arc.from }
     }
 
-    /// One more than a node's last end, or 0.
+    /// Returns a node's last end plus one, or 0 if it has none.
     pub(crate) fn ends(&self, node: u32) -> u32
         requires { node < length self.now.first.items }
         ensures is { result ≡ last_before self.now.arcs.items (2 * length self.now.arcs.items) node }
@@ -127,7 +127,7 @@ impl Network {
         self.first[node as usize]
     }
 
-    /// One more than the end before one at the same node, or 0.
+    /// Returns the previous end at the same node plus one, or 0 if there is none.
     pub(crate) fn ends_before(&self, end: u32) -> u32
         requires { end < 2 * length self.now.arcs.items }
         ensures is { result ≡ last_before self.now.arcs.items end (near self.now.arcs.items end) }
@@ -136,7 +136,7 @@ impl Network {
         self.next[end as usize]
     }
 
-    /// The last end of each node.
+    /// Returns the last end of each node.
     pub(crate) fn last_ends(&self) -> &[u32]
         ensures nodes { length result.now ≡ length self.now.first.items }
         ensures current { IsCurrent self.now.arcs.items result.now }

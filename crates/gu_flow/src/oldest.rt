@@ -1,4 +1,4 @@
-//! Of the flows of one value, the one that is oldest first over the group.
+//! Among the flows of one value, the one that is oldest first over the group.
 
 ghost use Rattle.std.specs.Prelude.{◌≡◌, ◌≢◌, ℕ, ◌<◌, ◌≤◌, IfOk, List, min, length, slice_index};
 ghost use Rattle.gu_flow.specs.Ends.{arc_at};
@@ -14,7 +14,7 @@ use crate::rounds::TwoWay;
 use gu_view::View;
 use std::alloc::{AllocError, Global};
 
-/// Raises what the arc at a place carries, to a goal if it can be, and its floor with it.
+/// Raises the flow of an arc, to a goal if possible, and its floor with it.
 fn raise_arc(
     net: &Network,
     allotment: &mut Allotment,
@@ -73,7 +73,7 @@ fn give_each(
     }
 }
 
-/// Returns the flow of the value of this one that is oldest first over the group.
+/// Returns the flow of the same value as this one that is oldest first over the group.
 pub(crate) fn give_oldest(
     alloc: Global,
     view: &View,

@@ -1,4 +1,4 @@
-//! Preflows: more lots may come to a node than leave it.
+//! Preflows: more lots may flow into a node than out of it.
 
 ghost use Rattle.std.specs.Prelude.{
   ◌≡◌,
@@ -26,7 +26,7 @@ ghost use Rattle.gu_flow.specs.Preflows.{IsPreflow, AreSettled};
 use crate::network::{Network, SINK, SOURCE};
 use crate::residual::{push, residual_out};
 
-/// Takes lots from what a node has too much. The source has as many as are asked of it.
+/// Takes lots from a node's excess. The source has as many as needed.
 fn debit(excess: &mut [u64], node: u32, lots: u64)
     requires node { node < length excess.old }
     requires lots { lots ≤ slice_index excess.old node }
@@ -37,7 +37,7 @@ fn debit(excess: &mut [u64], node: u32, lots: u64)
     }
 }
 
-/// Adds lots to what a node has too much. The sink keeps what comes, and the source has enough.
+/// Adds lots to a node's excess. The sink keeps what it gets, and the source needs none.
 fn credit(excess: &mut [u64], node: u32, lots: u64)
     requires node { node < length excess.old }
     requires fits { 1 < node → slice_index excess.old node + lots < 2 ^ 64 }
@@ -49,7 +49,7 @@ fn credit(excess: &mut [u64], node: u32, lots: u64)
     }
 }
 
-/// Pushes over an end what its node has too much, as far as there is room, and returns how many lots that is.
+/// Pushes a node's excess over an end, as far as there is room, and returns the lots pushed.
 pub(crate) fn push_excess(net: &Network, flow: &mut [u64], excess: &mut [u64], end: u32) -> u64
     requires preflow { IsPreflow net.now.arcs.items flow.old excess.old }
     requires nodes { length excess.old ≡ length net.now.first.items }
@@ -67,7 +67,7 @@ pub(crate) fn push_excess(net: &Network, flow: &mut [u64], excess: &mut [u64], e
     lots
 }
 
-/// Whether the arc at a place brings lots to a node that has too much.
+/// Returns whether an arc brings lots to a node that has an excess.
 fn brings_too_much(net: &Network, flow: &[u64], excess: &[u64], place: usize) -> bool
     requires place { (place < length net.now.arcs.items) × (place < length flow.now) }
     requires nodes { length excess.now ≡ length net.now.first.items }
@@ -80,7 +80,7 @@ fn brings_too_much(net: &Network, flow: &[u64], excess: &[u64], place: usize) ->
     to > SINK && flow[place] > 0 && excess[to as usize] > 0
 }
 
-/// Gives back over each arc what its head has too much, and returns whether there was any.
+/// Gives back, over each arc, its head's excess, and returns whether there was any.
 fn give_back_once(net: &Network, flow: &mut [u64], excess: &mut [u64]) -> bool
     requires preflow { IsPreflow net.now.arcs.items flow.old excess.old }
     requires nodes { length excess.old ≡ length net.now.first.items }
@@ -99,7 +99,7 @@ fn give_back_once(net: &Network, flow: &mut [u64], excess: &mut [u64]) -> bool
     any
 }
 
-/// Gives back what has not come to the sink, so that a flow is left.
+/// Gives back what has not reached the sink, which leaves a flow.
 pub(crate) fn give_back(net: &Network, flow: &mut [u64], excess: &mut [u64])
     requires preflow { IsPreflow net.now.arcs.items flow.old excess.old }
     requires nodes { length excess.old ≡ length net.now.first.items }

@@ -1,4 +1,4 @@
-//! Proposals: a greatest claim sweep of a view, with the cut that proves it.
+//! Proposals: the greatest claim sweep of a view, with the cut that proves it.
 
 ghost use Rattle.std.specs.Prelude.{◌≡◌, ◌<◌, ◌^◌, All, Ok, IfErr, IfOk, sum_by};
 ghost use Rattle.gu_flow.specs.Proposals.{IsSound};
@@ -16,7 +16,7 @@ use gu_view::View;
 use std::alloc::{AllocError, Global};
 use std::marker::Model;
 
-/// The greatest takes of a view that are oldest first over the group, and the cut nearest to the source, whose room is the lots taken.
+/// The greatest takes of a view that are oldest first over the group, and the cut nearest to the source, with exactly their room.
 pub struct Proposal {
     view: View,
     takes: Takes,
@@ -34,7 +34,7 @@ impl Model for Proposal {
     ghost invariant = { λ p. IsSound (record { view = p.view; takes = p.takes; cut = p.cut; lots = p.lots }) };
 }
 
-// By hand, so that who holds a proposal lets it go by one call.
+// By hand, so that a proposal's owner drops it with one call.
 impl Drop for Proposal {
     fn drop(self) {
         let Proposal {
@@ -50,7 +50,7 @@ impl Drop for Proposal {
 }
 
 impl Proposal {
-    /// The view that it is for.
+    /// Returns the view that it was made for.
     pub fn view(&self) -> &View
         ensures view { result.now ≡ self.now.view }
         ensures sound { IsSound self.now }
@@ -58,7 +58,7 @@ impl Proposal {
         &self.view
     }
 
-    /// What is taken of the offers of which lots are taken.
+    /// Returns the takes, which name only offers from which lots are taken.
     pub fn takes(&self) -> &Takes
         ensures takes { result.now ≡ self.now.takes }
         ensures sound { IsSound self.now }
@@ -66,7 +66,7 @@ impl Proposal {
         &self.takes
     }
 
-    /// The keys and offers whose room bounds every sweep of the view.
+    /// Returns the cut: the keys and offers whose room bounds every sweep of the view.
     pub fn cut(&self) -> &Cut
         ensures cut { result.now ≡ self.now.cut }
         ensures sound { IsSound self.now }
@@ -74,7 +74,7 @@ impl Proposal {
         &self.cut
     }
 
-    /// The lots that are taken in all, which are the cut's room.
+    /// Returns the total lots taken, which equals the cut's room.
     pub fn lots(&self) -> u64
         ensures lots { result ≡ self.now.lots }
         ensures sound { IsSound self.now }
@@ -83,7 +83,7 @@ impl Proposal {
         self.lots
     }
 
-    /// The view, the takes, the cut, and the lots taken in all, for who keeps them.
+    /// Returns the view, the takes, the cut and the total lots taken.
     pub fn into_parts(self) -> (View, Takes, Cut, u64)
         ensures view { result.0 ≡ self.view }
         ensures takes { result.1 ≡ self.takes }
@@ -101,7 +101,7 @@ impl Proposal {
         (view, takes, cut, lots)
     }
 
-    /// A copy.
+    /// Returns a copy.
     pub fn copy(&self) -> Result<Proposal, AllocError>
         ensures { IfOk result (λ proposal. proposal ≡ self.now) }
     {
@@ -117,7 +117,7 @@ impl Proposal {
     }
 }
 
-/// The lots of all takes.
+/// Returns the total lots of the takes.
 fn sum_of(takes: &[Take]) -> u64
     requires { sum_by (λ t. t.lots) takes.now < 2 ^ 64 }
     ensures { result ≡ sum_by (λ t. t.lots) takes.now }
@@ -125,7 +125,7 @@ fn sum_of(takes: &[Take]) -> u64
     takes.iter().map(|take| take.lots).sum()
 }
 
-/// Takes, their cut and their lots, from a greatest flow in the view's network.
+/// Returns the takes, their cut and their total lots, from a maximum flow in the view's network.
 fn sweep(alloc: Global, view: &View) -> Result<(Takes, Cut, u64), AllocError>
     requires { IsNested view.now }
     ensures { IfOk result (λ s. IsSound (record { view = view.now; takes = s.0; cut = s.1; lots = s.2 })) }
@@ -140,7 +140,7 @@ fn sweep(alloc: Global, view: &View) -> Result<(Takes, Cut, u64), AllocError>
     Ok((takes, cut, lots))
 }
 
-/// Proposes the greatest claim sweep of a nested view that is oldest first over the group. No lock is held, and nothing is waited for.
+/// Returns the greatest claim sweep of a nested view that is oldest first over the group. It holds no lock and waits for nothing.
 pub fn propose(alloc: Global, view: View) -> Result<Proposal, (AllocError, View)>
     requires { IsNested view }
     ensures view { IfOk result (λ proposal. proposal.view ≡ view) }

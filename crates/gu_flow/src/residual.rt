@@ -1,4 +1,4 @@
-//! The room that a flow leaves in a network.
+//! The residual capacity that a flow leaves in a network.
 
 ghost use Rattle.std.specs.Prelude.{◌≡◌, ◌*◌, ◌<◌, ◌≤◌, length};
 ghost use Rattle.gu_flow.specs.Ends.{residual_in, residual_out};
@@ -6,7 +6,7 @@ ghost use Rattle.gu_flow.specs.Flows.{Pushes, IsWithin};
 
 use crate::network::Network;
 
-/// The lots that can still be brought to an end from the other one.
+/// Returns the lots that can still be pushed to an end from the other one.
 pub(crate) fn residual_in(net: &Network, flow: &[u64], end: u32) -> u64
     requires within { IsWithin net.now.arcs.items flow.now }
     requires end { end < 2 * length net.now.arcs.items }
@@ -20,7 +20,7 @@ pub(crate) fn residual_in(net: &Network, flow: &[u64], end: u32) -> u64
     }
 }
 
-/// The lots that can still be brought from an end to the other one: along the arc what it can carry more, against it what flows.
+/// Returns the lots that can still be pushed from an end to the other: the capacity left along the arc, or the flow against it.
 pub(crate) fn residual_out(net: &Network, flow: &[u64], end: u32) -> u64
     requires within { IsWithin net.now.arcs.items flow.now }
     requires end { end < 2 * length net.now.arcs.items }
@@ -33,7 +33,7 @@ pub(crate) fn residual_out(net: &Network, flow: &[u64], end: u32) -> u64
     net.capacity(end) - flows
 }
 
-/// Brings lots over an end, from its node to the other.
+/// Pushes lots over an end, from its node to the other.
 pub(crate) fn push(net: &Network, flow: &mut [u64], end: u32, lots: u64)
     requires within { IsWithin net.now.arcs.items flow.old }
     requires end { end < 2 * length net.now.arcs.items }

@@ -1,4 +1,4 @@
-//! Rounds: lots are brought from the head of an arc to its tail, and then over the arc.
+//! Rounds: lots are pushed from the head of an arc back to its tail, and then over the arc.
 
 ghost use Rattle.std.specs.Prelude.{◌≡◌, ◌≢◌, ℕ, ◌+◌, ◌<◌, ◌≤◌, ◌⊎◌, IfNone, IfOk, IfSome, true, false, length, slice_index};
 ghost use Rattle.gu_flow.specs.Ends.{arc_at};
@@ -12,7 +12,7 @@ use crate::network::{Network, other_end};
 use crate::searching::Search;
 use std::alloc::{AllocError, Global};
 
-/// Two searches that come to meet: one goes ahead from the head of an arc, and one back from its tail.
+/// Two searches that meet: one goes ahead from the head of an arc, the other back from its tail.
 #[derive(Drop)]
 pub struct TwoWay {
     ahead: Search,
@@ -20,7 +20,7 @@ pub struct TwoWay {
 }
 
 impl TwoWay {
-    /// Creates two searches that haven't begun, with a place for each of this number of nodes.
+    /// Returns two searches that haven't begun, with room for this number of nodes.
     pub(crate) fn new(alloc: Global, nodes: usize) -> Result<TwoWay, AllocError>
         ensures { IfOk result (λ s. AreReady nodes s) }
     {
@@ -29,7 +29,7 @@ impl TwoWay {
         Ok(TwoWay { ahead, back })
     }
 
-    /// Lets them look at an end each, in turns, until they meet or one has none left. Returns a node to which both have come.
+    /// Lets each search look at one end in turn, until they meet or one has none left. Returns a node that both have reached.
     fn meet(&mut self, net: &Network, allotment: &Allotment) -> Option<u32>
         requires allotment { IsAllotment net.now.arcs.items (length net.now.first.items) allotment.now }
         requires under_way { AreUnderWay net.now.arcs.items (length net.now.first.items) allotment.now self.old }
@@ -64,7 +64,7 @@ impl TwoWay {
         None
     }
 
-    /// Leads the search ahead on from a node, along the way on which the other one came to it, to where that began.
+    /// Extends the forward search from a node along the path on which the other reached it, to where that one began.
     fn lead_on(&mut self, net: &Network, allotment: &Allotment, met: u32)
         requires allotment { IsAllotment net.now.arcs.items (length net.now.first.items) allotment.now }
         requires under_way { AreUnderWay net.now.arcs.items (length net.now.first.items) allotment.now self.old }
@@ -84,7 +84,7 @@ impl TwoWay {
         }
     }
 
-    /// Makes a region of what the search has reached that has no end left.
+    /// Makes a region of the nodes reached by the search that has no ends left.
     fn part(&self, net: &Network, allotment: &mut Allotment, place: usize, region: u32)
         requires allotment { IsAllotment net.now.arcs.items (length net.now.first.items) allotment.old }
         requires under_way { AreUnderWay net.now.arcs.items (length net.now.first.items) allotment.old self.now }
@@ -104,7 +104,7 @@ impl TwoWay {
         }
     }
 
-    /// Brings lots round if the searches meet, and else parts two regions. Returns whether they met.
+    /// Pushes lots round if the searches meet, or else separates two regions. Returns whether they met.
     fn settle(
         &mut self,
         net: &Network,
@@ -141,8 +141,8 @@ impl TwoWay {
         true
     }
 
-    /// Brings as many lots round as there is a way for, so that the arc at a place carries more. Returns whether there is a way;
-    /// if there is none, no flow of this value carries more there.
+    /// Pushes as many lots round as a path allows, so that the arc at an index carries more. Returns whether there is a path; if not, no
+    /// flow of this value carries more there.
     pub(crate) fn go_round(
         &mut self,
         net: &Network,
@@ -177,7 +177,7 @@ impl TwoWay {
     }
 }
 
-/// Brings lots to a node, along the way on which a search came to it.
+/// Pushes lots to a node along the path on which a search reached it.
 fn push_along(net: &Network, allotment: &mut Allotment, search: &Search, to: u32, lots: u64)
     requires allotment { IsAllotment net.now.arcs.items (length net.now.first.items) allotment.old }
     requires places { HasPlaces (length net.now.first.items) search.now }
@@ -200,7 +200,7 @@ fn push_along(net: &Network, allotment: &mut Allotment, search: &Search, to: u32
     }
 }
 
-/// Brings lots from the head of the arc at a place to its tail, and then over the arc, and raises its floor to what it carries then.
+/// Pushes lots from the head of the arc at an index to its tail, then over the arc, and raises its floor to its new flow.
 fn bring_round(net: &Network, allotment: &mut Allotment, search: &Search, place: usize)
     requires allotment { IsAllotment net.now.arcs.items (length net.now.first.items) allotment.old }
     requires places { HasPlaces (length net.now.first.items) search.now }

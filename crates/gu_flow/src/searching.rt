@@ -1,4 +1,4 @@
-//! A search from one node inside a region, which looks at one end at a time.
+//! A search from one node within a region, which looks at one end at a time.
 
 ghost use Rattle.std.specs.Prelude.{◌≡◌, ℕ, ◌*◌, ◌<◌, ◌≤◌, IfOk, IfSome, length};
 ghost use Rattle.gu_flow.specs.Ends.{near, far};
@@ -9,35 +9,35 @@ use crate::allotment::Allotment;
 use crate::network::Network;
 use std::alloc::{AllocError, Global};
 
-/// How a search came to a node: over which end, at which level, and with how many lots at most.
+/// A mark on a node that a search reached: the end, the level, and the most lots.
 #[derive(Clone, Copy)]
 pub struct Mark {
-    /// The end at the node from which it came.
+    /// The end at the previous node.
     pub via: u32,
-    /// 1 for the node from which it began, and 0 where it hasn't come.
+    /// 1 for the node where the search began, and 0 if it hasn't reached this node.
     pub level: u32,
     pub lots: u64,
 }
 
-/// What a search has reached, and where it goes on.
+/// A search: what it has reached, and where it continues.
 #[derive(Drop)]
 pub struct Search {
-    /// The node from which it began.
+    /// The node where it began.
     pub(crate) from: u32,
-    /// Whether it goes back: to the nodes from which lots can be brought.
+    /// Whether it goes back, to the nodes from which lots can be pushed.
     pub(crate) back: bool,
     pub(crate) marks: Vec<Mark>,
-    /// The nodes that were reached, in this order.
+    /// The reached nodes, in order.
     pub(crate) queue: Vec<u32>,
     pub(crate) count: usize,
-    /// How many of them are looked through.
+    /// The number of these whose ends have all been looked at.
     pub(crate) done: usize,
-    /// One more than the end at which the next of them is looked through next, or 0.
+    /// The end of the next node to look at next, plus one; or 0.
     ends: u32,
 }
 
 impl Search {
-    /// Creates a search that hasn't begun, with a place for each of this number of nodes.
+    /// Returns a search that hasn't begun, with room for this number of nodes.
     pub(crate) fn new(alloc: Global, back: bool, nodes: usize) -> Result<Search, AllocError>
         ensures back { IfOk result (λ s. s.back ≡ back) }
         ensures places { IfOk result (λ s. HasPlaces nodes s) }
@@ -60,7 +60,7 @@ impl Search {
         })
     }
 
-    /// Begins at a node, with this number of lots at most.
+    /// Begins at a node, with at most this number of lots.
     pub(crate) fn begin(&mut self, net: &Network, from: u32, most: u64)
         requires clear { IsClear self.old }
         requires places { HasPlaces (length net.now.first.items) self.old }
@@ -83,7 +83,7 @@ impl Search {
         self.ends = net.ends(from);
     }
 
-    /// Returns whether it has come to a node.
+    /// Returns whether it has reached a node.
     pub(crate) fn has(&self, node: u32) -> bool
         requires { node < length self.now.marks.items }
         ensures { result ≡ is_marked self.now.marks.items node }
@@ -91,7 +91,7 @@ impl Search {
         self.marks[node as usize].level > 0
     }
 
-    /// Reaches the node at the other end of an arc, if lots can be brought there. Returns it if it wasn't reached before.
+    /// Reaches the node at the other end of an arc, if lots can be pushed there. Returns it if it is newly reached.
     pub(crate) fn reach(&mut self, net: &Network, allotment: &Allotment, end: u32) -> Option<u32>
         requires allotment { IsAllotment net.now.arcs.items (length net.now.first.items) allotment.now }
         requires places { HasPlaces (length net.now.first.items) self.old }
@@ -126,7 +126,7 @@ impl Search {
         Some(other)
     }
 
-    /// Looks at one more end. Returns the node to which it leads, if it is reached by that.
+    /// Looks at one more end. Returns the node at its other end, if that is newly reached.
     pub(crate) fn look(&mut self, net: &Network, allotment: &Allotment) -> Option<u32>
         requires allotment { IsAllotment net.now.arcs.items (length net.now.first.items) allotment.now }
         requires places { HasPlaces (length net.now.first.items) self.old }
@@ -150,7 +150,7 @@ impl Search {
         self.reach(net, allotment, end)
     }
 
-    /// Forgets what was reached.
+    /// Clears what was reached.
     pub(crate) fn clear(&mut self)
         requires waits { IsMarkQueue self.old.marks.items self.old.queue.items self.old.count }
         requires places { length self.old.queue.items ≡ length self.old.marks.items }

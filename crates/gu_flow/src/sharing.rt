@@ -1,4 +1,4 @@
-//! What each offer gets of what flows through its agreement's arc.
+//! Each offer's share of the flow through its agreement's arc.
 
 ghost use Rattle.std.specs.Prelude.{◌≡◌, ◌++◌, ◌∷◌, [], IfOk, OnOk, length};
 ghost use Rattle.gu_flow.specs.Shares.{above_zero, AreShares};
@@ -7,7 +7,7 @@ use gu_terms::{OfferNo, Take, Takes};
 use gu_view::View;
 use std::alloc::{AllocError, Global};
 
-/// Adds the take of these lots of an offer, where they are more than 0.
+/// Adds a take of these lots from an offer, if they are more than 0.
 fn add_take(takes: &mut Vec<Take>, offer: OfferNo, lots: u64) -> Result<(), AllocError>
     ensures { OnOk result (takes.new.items ≡ takes.old.items ++ above_zero (record { offer = offer; lots = lots } ∷ [])) }
 {
@@ -17,7 +17,7 @@ fn add_take(takes: &mut Vec<Take>, offer: OfferNo, lots: u64) -> Result<(), Allo
     Ok(())
 }
 
-/// Gives each offer what the older ones of its agreement leave of the flow, but no more than it has.
+/// Gives each offer what the older ones under its agreement leave of the flow, but no more than it has.
 pub(crate) fn share_out(alloc: Global, view: &View, flow: Vec<u64>) -> Result<Takes, AllocError>
     requires { length flow.items ≡ length view.now.rooms }
     ensures { IfOk result (λ takes. AreShares view.now flow.items takes) }

@@ -1,10 +1,10 @@
-//! Nodes that wait for their turn.
+//! Nodes waiting for their turn.
 
 ghost use Rattle.std.specs.Prelude.{◌≡◌, ◌<◌, ◌≤◌, All, IfOk, IfSome, length, vec_len};
 
 use std::alloc::{AllocError, Global};
 
-/// Nodes that wait, first come, first served.
+/// A queue of waiting nodes, first come, first served.
 #[derive(Drop)]
 pub(crate) struct Waiting {
     ring: Vec<u32>,
@@ -14,7 +14,7 @@ pub(crate) struct Waiting {
 }
 
 impl Waiting {
-    /// None of so many nodes waits.
+    /// Returns an empty queue for this many nodes.
     pub(crate) fn new(alloc: Global, nodes: usize) -> Result<Waiting, AllocError>
         requires { 0 < nodes }
         ensures { IfOk result (λ waiting. vec_len waiting.ring ≡ nodes) }
@@ -27,7 +27,7 @@ impl Waiting {
         })
     }
 
-    /// Lets a node wait after the others, if there is a place.
+    /// Adds a node at the back, if there is room.
     pub(crate) fn add(&mut self, node: u32)
         requires { node < vec_len self.old.ring }
         ensures { vec_len self.new.ring ≡ vec_len self.old.ring }
@@ -45,7 +45,7 @@ impl Waiting {
         }
     }
 
-    /// The node that has waited longest.
+    /// Removes and returns the node that has waited longest.
     pub(crate) fn take(&mut self) -> Option<u32>
         ensures ring { vec_len self.new.ring ≡ vec_len self.old.ring }
         ensures node { IfSome result (λ node. node < vec_len self.new.ring) }

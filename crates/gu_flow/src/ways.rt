@@ -1,4 +1,4 @@
-//! Ways from the sink back to the source, each step a level down.
+//! Augmenting paths from the sink back to the source, each step one level down.
 
 ghost use Rattle.std.specs.Prelude.{◌≡◌, ◌≢◌, ℕ, ◌+◌, ◌*◌, ◌<◌, ◌≤◌, IfSome, true, length, slice_index, sum};
 ghost use Rattle.gu_flow.specs.Ends.{far, residual_in, IsCurrent};
@@ -11,10 +11,10 @@ use crate::levels::Label;
 use crate::network::{Network, SINK, SOURCE};
 use crate::residual::residual_in;
 
-/// The steps that a way pays for: a longer one costs what it has more, and a shorter one pays for a part of a search.
+/// The steps that a path pays for: a longer one costs the difference, and a shorter one pays for part of a search.
 const PAID: usize = 8;
 
-/// The way on which the search came to the sink, and how many steps it has.
+/// Returns the path on which the search reached the sink, and its number of steps.
 pub(crate) fn trace(net: &Network, flow: &[u64], entries: &[Label], way: &mut [u32]) -> usize
     requires tree { IsTree net.now.arcs.items flow.now entries.now }
     requires found { 0 < level_at entries.now 1 }
@@ -34,7 +34,7 @@ pub(crate) fn trace(net: &Network, flow: &[u64], entries: &[Label], way: &mut [u
     steps
 }
 
-/// How many of a way's first steps have room.
+/// Returns the number of a path's first steps that all have room.
 pub(crate) fn clear_steps(net: &Network, flow: &[u64], way: &[u32]) -> usize
     requires within { IsWithin net.now.arcs.items flow.now }
     requires way { IsWay net.now.arcs.items way.now (length way.now) }
@@ -50,7 +50,7 @@ pub(crate) fn clear_steps(net: &Network, flow: &[u64], way: &[u32]) -> usize
     way.len()
 }
 
-/// The node that a way has come to.
+/// Returns the node that a path has reached after this many steps.
 fn stand(net: &Network, way: &[u32], steps: usize) -> u32
     requires within { steps ≤ length way.now }
     requires way { IsWay net.now.arcs.items way.now steps }
@@ -64,7 +64,7 @@ fn stand(net: &Network, way: &[u32], steps: usize) -> u32
     }
 }
 
-/// Whether lots can be brought over an end from a node one level before this one.
+/// Returns whether lots can be pushed over an end from a node one level below this one.
 fn leads_down(net: &Network, flow: &[u64], entries: &[Label], end: u32, level: u32) -> bool
     requires within { IsWithin net.now.arcs.items flow.now }
     requires lists { length entries.now ≡ length net.now.first.items }
@@ -80,7 +80,7 @@ fn leads_down(net: &Network, flow: &[u64], entries: &[Label], end: u32, level: u
     before + 1 == level && residual_in(net, flow, end) > 0
 }
 
-/// The next end at a node that leads down.
+/// Returns the next end at a node that leads down a level.
 fn next_down(
     net: &Network,
     flow: &[u64],
@@ -109,7 +109,7 @@ fn next_down(
     None
 }
 
-/// Leads a way on to the source, back and forth from where it is, if there is a way.
+/// Extends a path to the source, backtracking as needed, if there is one.
 pub(crate) fn extend(
     net: &Network,
     flow: &[u64],
@@ -155,9 +155,8 @@ pub(crate) fn extend(
     Some(steps)
 }
 
-/// Brings lots along ways that fall a level at each step, until the search for one ends or no more steps are left,
-/// of those that there were and that ways paid for; at least along the way on which the sink was reached.
-/// Returns how many steps are left.
+/// Pushes lots along paths that go down a level at each step, at least along the one on which the sink was reached, until no further path
+/// is found or the step budget is used up. Paths add to the budget. Returns the steps left.
 #[tactic(auto, using(crate::proofs::PushLemmas::left_less))]
 pub(crate) fn block(
     net: &Network,

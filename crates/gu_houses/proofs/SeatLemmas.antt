@@ -10,13 +10,13 @@ use Rattle.gu_desk.specs.Holds.{book_seen, Enters, IsStretchAsked}
 use Rattle.gu_desk.specs.Seats.{SeatState}
 use Rattle.gu_houses.specs.SeatHouse.{SeatTells}
 
--- the stretch that a firm asked for from a number on
+-- the batch that a firm asked for, from a number on
 asked_stretch : (book : BookState) (firm : FirmId) (from : ℕ) (stretch : Stretch) → IsStretchAsked book (Some (firm, from)) stretch → IsStretch book firm from stretch
 asked_stretch book firm from stretch asked =
     let same : (firm, from) ≡ (asked.firm, asked.from) = cc (asked.asked_is) in
     subst (λ (t : FirmId × ℕ). IsStretch book t.0 t.1 stretch) (sym same) asked.stretch_is
 
--- the notices that were asked for with an entry are those that the seat has then
+-- the notices requested with an entry are those that the seat then has
 pub told_then : (reference : Tables) (old new : SeatState) (receipt : Receipt) (firm : FirmId) (from : ℕ) (stretch : Stretch)
     → Enters reference old receipt new → IsStretchAsked (book_seen reference new) (Some (firm, from)) stretch → SeatTells reference new firm from stretch new
 told_then reference old new receipt firm from stretch enters asked = record {

@@ -17,7 +17,7 @@ use Rattle.gu_desk.specs.Seats.{SeatState}
 use Rattle.gu_houses.specs.SeatHouse.{SeatAnswers, rules_of_seat}
 use Rattle.gu_houses.specs.SharedHouse.{AnswersByShare, AnswersWithin, SharedSeat, rules_within}
 
--- a seat's answer is one that it may give with shares and without
+-- a seat's answer is one that it may give with or without shares
 within : (reference : Tables) (has_shares : Bool) (old new : SeatState) (request : Request) (outcome : Outcome)
     → SeatAnswers reference old request outcome new → AnswersWithin reference has_shares old request outcome new
 within reference false old new request outcome answers = answers

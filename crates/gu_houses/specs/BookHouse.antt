@@ -1,4 +1,4 @@
--- A book as a house: how it answers what is asked of it, and which notices it has for a firm.
+-- A book as a house: how it answers requests, and which notices it has for a firm.
 use Rattle.std.specs.Prelude.{◌≡◌, ◌<◌, ◌≤◌, ◌++◌, ◌⊎◌, ℕ, [], ◌∷◌, length, Option, None}
 use Rattle.gu_terms.specs.declared.command.Command.{Command}
 use Rattle.gu_terms.specs.declared.entry.Entry.TheVariants.{Asked}
@@ -26,30 +26,30 @@ pub record IsEntered (old : BookState) (command : Command) (outcome : Outcome) (
   pub outcome_is : outcome ≡ Replied (answer old.reference old.history command)
   pub new_is : new ≡ record { reference = old.reference; history = old.history ++ Asked command (answer old.reference old.history command) ∷ [] }
 
--- a command isn't entered where the book is full, and there alone for this reason
+-- the reason that a command isn't entered: Full if the book is full, else Memory
 abbrev pub IsReason : BookState → Failure → Type 0
 IsReason book Full = 1000000 ≤ length book.history
 IsReason book Memory = length book.history < 1000000
 
--- a command isn't entered, and the book stays as it was
+-- a command isn't entered, and the book is unchanged
 pub record IsLeftOut (old : BookState) (outcome : Outcome) (new : BookState) : Type 0 where
   pub failure : Failure
   pub reason : IsReason old failure
   pub outcome_is : outcome ≡ Failed failure
   pub new_is : new ≡ old
 
--- the outcome of a question: for positions what the book answers; a session asks nothing else, and gets no positions for it
+-- the outcome of a question: for positions the book's answer; a session asks no other questions, and gets no positions for one
 abbrev pub IsTold : BookState → Query → Outcome → Type 0
 IsTold book (query.Positions firm account) outcome =
     (rows : Option PositionRows) × (outcome ≡ Positions rows) × IsAnswer book (query.Positions firm account) (answered.Positions rows)
 IsTold book _ outcome = outcome ≡ Positions None
 
--- how the book answers: a command is entered or left out, and a question leaves the book as it was
+-- how the book answers: a command is entered or left out, and a question leaves the book unchanged
 abbrev pub BookAnswers : BookState → Request → Outcome → BookState → Type 0
 BookAnswers old (Enter command) outcome new = IsEntered old command outcome new ⊎ IsLeftOut old outcome new
 BookAnswers old (Ask question) outcome new = IsTold old question outcome × (new ≡ old)
 
--- which notices the book has for a firm: a stretch of those of the entries from a number on
+-- which notices the book has for a firm: a batch of those of the entries from a number on
 pub record BookTells (old : BookState) (firm : FirmId) (from : ℕ) (stretch : Stretch) (new : BookState) : Type 0 where
   pub stretch_is : IsStretch old firm from stretch
   pub new_is : new ≡ old

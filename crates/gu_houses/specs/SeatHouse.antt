@@ -1,4 +1,4 @@
--- A seat at a desk as a house: it answers by the beginning of the desk's one history that it has seen, which goes on and never back.
+-- A seat at a desk as a house: it answers by the prefix of the desk's one history that it has seen, which only grows.
 use Rattle.std.specs.Prelude.{◌≡◌, ◌⊎◌, ℕ, Option, None}
 use Rattle.gu_terms.specs.declared.command.Command.{Command}
 use Rattle.gu_terms.specs.declared.entry.Entry.TheVariants.{Asked}
@@ -31,18 +31,18 @@ pub record IsEnteredAt (reference : Tables) (old : SeatState) (command : Command
   pub enters : Enters reference old (record { number = number; entry = Asked command reply }) new
   pub outcome_is : outcome ≡ Replied reply
 
--- how a command fails that the desk doesn't enter
+-- the failure of a command that the desk doesn't enter
 abbrev pub failure_of : EnterError → Failure
 failure_of refusal.Full = failure.Full
 failure_of refusal.Memory = failure.Memory
 
--- a command isn't entered, since the desk refuses it: it fails as full where the book is, as the seat sees then
+-- a command isn't entered, because the desk refuses it: the failure is Full if the book is full, as the seat then sees
 pub record IsLeftOutAt (reference : Tables) (old : SeatState) (outcome : Outcome) (new : SeatState) : Type 0 where
   pub why : EnterError
   pub refused : IsRefused reference old why new
   pub outcome_is : outcome ≡ Failed (failure_of why)
 
--- a question for positions is answered by the book that the seat sees then
+-- a question for positions is answered by the book as the seat then sees it
 pub record IsToldAt (reference : Tables) (old : SeatState) (asked : Query) (outcome : Outcome) (new : SeatState) : Type 0 where
   pub rows : Option PositionRows
   pub outcome_is : outcome ≡ Positions rows
@@ -54,17 +54,17 @@ pub record IsUntold (old : SeatState) (outcome : Outcome) (new : SeatState) : Ty
   pub outcome_is : outcome ≡ Positions None
   pub new_is : new ≡ old
 
--- how a seat answers: a command is entered or left out, and a question for positions is told
+-- how a seat answers: a command is entered or left out, and a question for positions is answered
 abbrev pub SeatAnswers : Tables → SeatState → Request → Outcome → SeatState → Type 0
 SeatAnswers reference old (Enter command) outcome new = IsEnteredAt reference old command outcome new ⊎ IsLeftOutAt reference old outcome new
 SeatAnswers reference old (Ask (query.Positions firm account)) outcome new = IsToldAt reference old (query.Positions firm account) outcome new
 SeatAnswers reference old (Ask _) outcome new = IsUntold old outcome new
 
--- which notices a seat has for a firm: a stretch of those that the book has from a number on that the seat sees then
+-- which notices a seat has for a firm: a batch of those from a number on in the book as the seat then sees it
 pub record SeatTells (reference : Tables) (old : SeatState) (firm : FirmId) (from : ℕ) (stretch : Stretch) (new : SeatState) : Type 0 where
   pub stretch_is : IsStretch (book_seen reference new) firm from stretch
   pub sees : Sees reference old new
 
--- a seat as a house, at a desk of this reference
+-- a seat as a house, at a desk with this reference
 abbrev pub rules_of_seat : Tables → HouseRules SeatState
 rules_of_seat reference = record { answers = SeatAnswers reference; tells = SeatTells reference }

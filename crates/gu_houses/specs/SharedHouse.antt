@@ -1,4 +1,4 @@
--- A seat at a desk as a house whose firms may have shares: each firm's sessions then make only a part of what there is room for.
+-- A seat at a desk as a house whose firms may have shares: each firm's sessions then use only a part of the available room.
 use Rattle.std.specs.Prelude.{◌≡◌, ◌⊎◌, ℕ, Bool, true, false}
 use Rattle.gu_terms.specs.declared.firm.FirmId.{FirmId}
 use Rattle.gu_terms.specs.declared.notice.Stretch.{Stretch}
@@ -24,18 +24,18 @@ pub record IsWithheld (request : Request) (outcome : Outcome) (old new : SeatSta
   pub outcome_is : outcome ≡ Failed failure
   pub new_is : new ≡ old
 
--- how a seat answers a firm that has a share: it may look at the book first, and then it answers, or withholds a command
+-- how a seat answers a firm with a share: it may look at the book first, and then answers, or withholds a command
 pub record AnswersByShare (reference : Tables) (old : SeatState) (request : Request) (outcome : Outcome) (new : SeatState) : Type 0 where
   pub mid : SeatState
   pub looks : Looks reference old mid
   pub answers : SeatAnswers reference mid request outcome new ⊎ IsWithheld request outcome mid new
 
--- how a seat answers firms that may have shares: without them as any seat
+-- how a seat answers firms that may have shares: without shares as any seat
 abbrev pub AnswersWithin : Tables → Bool → SeatState → Request → Outcome → SeatState → Type 0
 AnswersWithin reference false old request outcome new = SeatAnswers reference old request outcome new
 AnswersWithin reference true old request outcome new = AnswersByShare reference old request outcome new
 
--- the same as a house, whose firms have shares from the beginning or never
+-- the same as a house, whose firms always have shares or never do
 abbrev pub SharedAnswers : Tables → SharedSeat → Request → Outcome → SharedSeat → Type 0
 SharedAnswers reference old request outcome new =
     AnswersWithin reference old.has_shares old.seat request outcome new.seat × (new.has_shares ≡ old.has_shares)
@@ -45,6 +45,6 @@ abbrev pub SharedTells : Tables → SharedSeat → FirmId → ℕ → Stretch �
 SharedTells reference old firm from stretch new =
     SeatTells reference old.seat firm from stretch new.seat × (new.has_shares ≡ old.has_shares)
 
--- a seat whose firms may have shares as a house, at a desk of this reference
+-- a seat whose firms may have shares as a house, at a desk with this reference
 abbrev pub rules_within : Tables → HouseRules SharedSeat
 rules_within reference = record { answers = SharedAnswers reference; tells = SharedTells reference }

@@ -1,4 +1,4 @@
-//! A seat at a desk as a house.
+//! A seat at a desk, as a house.
 
 ghost use Rattle.std.specs.Prelude.{◌≡◌, Some, length, IfOk, IfSome, OnErr, OnOk};
 ghost use Rattle.gu_desk.specs.Holds.{book_seen, Sees};
@@ -18,7 +18,7 @@ use std::alloc::AllocError;
 use std::marker::Model;
 use std::sync::Wait;
 
-/// Returns how a command fails that the desk doesn't enter: as full only where the desk says that the book is.
+/// Returns the failure of a command that the desk doesn't enter: Full only if the desk says that the book is.
 fn failure_of(error: EnterError) -> Failure
     ensures { result ≡ failure_of error }
 {
@@ -28,7 +28,7 @@ fn failure_of(error: EnterError) -> Failure
     }
 }
 
-/// The message of a firm that asks for an entry: when it came, its firm, and its MsgSeqNum (34).
+/// A firm's message that asks for an entry: the moment it arrived, its firm, and its MsgSeqNum (34).
 #[derive(Clone, Copy)]
 pub(crate) struct Asking {
     pub(crate) now: Moment,
@@ -36,7 +36,7 @@ pub(crate) struct Asking {
     pub(crate) number: u64,
 }
 
-/// Returns the origin of an entry that a message of a connection asks for.
+/// Returns the origin of an entry requested by a message of a connection.
 fn origin_of(connection: u64, asking: Asking) -> Origin
     ensures { result ≡ record {
       moment = asking.now;
@@ -54,9 +54,9 @@ fn origin_of(connection: u64, asking: Asking) -> Origin
     }
 }
 
-/// A seat at a desk as a house. To a contract it is the seat.
+/// A seat at a desk, as a house. To a contract it is the seat.
 ///
-/// The notices that follow a command are had with it, in one hold of the lock. After the hold, other firms hear of the entry.
+/// The notices that follow a command are fetched with it, in one hold of the lock. After the hold, other firms are informed of the entry.
 pub struct AtDesk<'a, 'o, E: EntryLedger, S: LotLedger, R: Wait, I: Informs> {
     rt: &'a R,
     desk: &'a Desk<E, S>,
@@ -85,8 +85,8 @@ impl<'a, 'o, E: EntryLedger, S: LotLedger, R: Wait, I: Informs> Model
 }
 
 impl<'a, 'o, E: EntryLedger, S: LotLedger, R: Wait, I: Informs> AtDesk<'a, 'o, E, S, R, I> {
-    /// Creates the house of a seat at a desk, whose entries firms hear of by `informs`, and whose give-ups count for these orders. It
-    /// answers connection 0 until it goes on with another one.
+    /// Returns the house of a seat at a desk, which informs firms of its entries through `informs` and counts its give-ups towards these
+    /// orders. It answers connection 0 until it resumes another.
     pub fn new(
         rt: &'a R,
         desk: &'a Desk<E, S>,
@@ -125,12 +125,12 @@ impl<'a, 'o, E: EntryLedger, S: LotLedger, R: Wait, I: Informs> AtDesk<'a, 'o, E
         seat
     }
 
-    /// Returns how many give-ups of its connection were accepted since the last one whose order was due.
+    /// Returns the number of its connection's give-ups accepted since the last one whose order was due.
     pub fn give_ups(&self) -> u64 {
         self.orders.since()
     }
 
-    /// Goes on with the connection of this number, of which so many give-ups were accepted since the last one whose order was due.
+    /// Resumes the connection with this number, with this many give-ups accepted since the last one whose order was due.
     pub fn resume(&mut self, connection: u64, give_ups: u64)
         ensures { self.new ≡ self.old }
     {
@@ -138,7 +138,7 @@ impl<'a, 'o, E: EntryLedger, S: LotLedger, R: Wait, I: Informs> AtDesk<'a, 'o, E
         self.orders.resume(give_ups);
     }
 
-    /// Returns how many entries the seat has seen.
+    /// Returns the number of entries that the seat has seen.
     pub fn seen(&self) -> u64
         ensures { result ≡ length self.now.front }
     {
@@ -159,7 +159,7 @@ impl<'a, 'o, E: EntryLedger, S: LotLedger, R: Wait, I: Informs> AtDesk<'a, 'o, E
         self.seat.put(self.rt, self.desk, question)
     }
 
-    /// Sends the order of what was entered last, if it is due.
+    /// Sends the order for the last entry, if it is due.
     fn order(&mut self)
         ensures { self.new ≡ self.old }
     {
@@ -168,7 +168,7 @@ impl<'a, 'o, E: EntryLedger, S: LotLedger, R: Wait, I: Informs> AtDesk<'a, 'o, E
         }
     }
 
-    /// Enters a command that a message asks for, and says what became of it, with a stretch of what its firm is told from a number on.
+    /// Enters a command requested by a message, and returns its outcome, with a batch of its firm's notices from a number on.
     pub(crate) fn enter(&mut self, command: Command, asking: Asking, from: u64) -> Answered
         ensures outcome { SeatAnswers E.reference self.old (Request.Enter command) result.outcome self.new }
         ensures told { IfSome result.stretch (λ stretch. SeatTells E.reference self.new asking.firm from stretch self.new) }
@@ -194,7 +194,7 @@ impl<'a, 'o, E: EntryLedger, S: LotLedger, R: Wait, I: Informs> AtDesk<'a, 'o, E
         }
     }
 
-    /// Answers a question for positions. A session asks nothing else.
+    /// Answers a question for positions. A session asks no other questions.
     fn tell(&mut self, query: Query) -> Result<Outcome, AllocError>
         ensures { IfOk result (λ outcome. SeatAnswers E.reference self.old (Request.Ask query) outcome self.new) }
     {

@@ -1,10 +1,10 @@
-//! Who hears of entries as they are made.
+//! Informing firms of entries as they are made.
 
 use gu_desk::{FirmFilter, Origin};
 
-/// Who passes on to firms that there is an entry that they may have notices of.
+/// Passes on to firms that there is an entry that they may have notices of.
 pub trait Informs {
-    /// Passes on that the entry of a number was made by this origin, and that each firm that it has a notice for is among these. It is
-    /// called after the hold in which the entry was made, so it must not take the desk's lock for long.
+    /// Informs these firms, which include every firm notified of the entry, that the entry with this number was made by this origin. It is
+    /// called after the hold in which the entry was made, and must not take the desk's lock for long.
     fn inform(&self, number: u64, firms: FirmFilter, origin: Origin);
 }

@@ -1,4 +1,4 @@
-//! Houses that connections of firms talk to: a book of its own, or a seat at the desk.
+//! Houses that firms' connections talk to: a separate book, or a seat at the desk.
 #![tactic(auto)]
 
 mod at_desk;

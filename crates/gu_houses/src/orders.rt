@@ -1,4 +1,4 @@
-//! Which accepted give-ups of a connection are followed by a sweep.
+//! Which of a connection's accepted give-ups are followed by a sweep.
 
 use crossbeam_channel::Sender;
 use gu_desk::SweepOrder;
@@ -7,24 +7,24 @@ use std::alloc::{AllocError, Global};
 use std::sync::Wait;
 use std::sync::atomic::{AtomicBool, Ordering};
 
-/// A group, and whether an order of it waits for a sweeper.
+/// A group, and whether an order for it waits for a sweeper.
 #[derive(Drop)]
 struct OpenOrder {
     group: Group,
     is_waiting: AtomicBool,
 }
 
-/// The orders that wait for a sweeper: one a group at most.
+/// The orders waiting for a sweeper: at most one a group.
 ///
-/// An order of a group of which one waits isn't needed. The one that waits was not taken yet, so its sweeper looks at the group later than
-/// the give-up was entered, and sees its offers.
+/// If an order for a group is waiting, a further one isn't needed: since the waiting order was not taken yet, its sweeper will look at the
+/// group after the give-up was entered, and see its offers.
 #[derive(Drop)]
 pub struct OpenOrders {
     rows: Vec<OpenOrder>,
 }
 
 impl OpenOrders {
-    /// Creates the orders of these groups, none of which waits.
+    /// Returns the orders for these groups, none of which is waiting.
     pub fn new(alloc: Global, groups: &[Group]) -> Result<Self, AllocError> {
         let mut rows = Vec::with_capacity(alloc, groups.len())?;
         for group in groups {
@@ -36,7 +36,7 @@ impl OpenOrders {
         Ok(OpenOrders { rows })
     }
 
-    /// Notes that an order of a group waits, and returns whether none did.
+    /// Records that an order for a group is waiting, and returns whether none was.
     pub fn open(&self, group: &Group) -> bool {
         match self.rows.iter().find(|row| row.group == *group) {
             Some(row) => !row.is_waiting.swap(true, Ordering::SeqCst),
@@ -44,7 +44,7 @@ impl OpenOrders {
         }
     }
 
-    /// Notes that no order of a group waits. A sweeper that takes one calls it before it looks at the group.
+    /// Records that no order for a group is waiting. A sweeper that takes one calls this before it looks at the group.
     pub fn close(&self, group: &Group) {
         if let Some(row) = self.rows.iter().find(|row| row.group == *group) {
             row.is_waiting.store(false, Ordering::SeqCst);
@@ -52,18 +52,18 @@ impl OpenOrders {
     }
 }
 
-/// Where the order of every K-th accepted give-up of a connection goes. With 0 there are no orders.
+/// The destination of the order for every K-th accepted give-up of a connection. If K is 0, there are no orders.
 #[derive(Drop)]
 pub struct Orders<'a> {
     to: &'a Sender<SweepOrder>,
     open: &'a OpenOrders,
     every: u64,
-    /// The accepted give-ups since the last one that was due.
+    /// The give-ups accepted since the last one that was due.
     since: u64,
 }
 
 impl<'a> Orders<'a> {
-    /// The orders of a connection that begins.
+    /// Returns the orders of a new connection.
     pub fn new(to: &'a Sender<SweepOrder>, open: &'a OpenOrders, every: u64) -> Self {
         Orders {
             to,
@@ -73,17 +73,17 @@ impl<'a> Orders<'a> {
         }
     }
 
-    /// Returns how many give-ups were accepted since the last one that was due.
+    /// Returns the number of give-ups accepted since the last one that was due.
     pub fn since(&self) -> u64 {
         self.since
     }
 
-    /// Goes on from this number of accepted give-ups since the last one that was due.
+    /// Resumes with this number of give-ups accepted since the last one that was due.
     pub fn resume(&mut self, since: u64) {
         self.since = since;
     }
 
-    /// Whether a receipt is that of the give-up whose order is due.
+    /// Returns whether a receipt is for a give-up whose order is due.
     fn is_due(&mut self, receipt: &Receipt) -> bool {
         if receipt.offered().is_none() {
             return false;
@@ -96,7 +96,7 @@ impl<'a> Orders<'a> {
         true
     }
 
-    /// Sends an order, if none of its group waits.
+    /// Sends an order, if none for its group is waiting.
     fn send<R: Wait>(&self, rt: &R, order: SweepOrder) {
         let group = order.group();
         if !self.open.open(&group) {
@@ -108,8 +108,8 @@ impl<'a> Orders<'a> {
         }
     }
 
-    /// Sends the order of a receipt to the sweepers, if it is due and none of its group waits. An order for which an allocation fails is
-    /// left out.
+    /// Sends the order for a receipt to the sweepers, if it is due and none for its group is waiting. If an allocation for the order fails,
+    /// it is left out.
     pub fn note<R: Wait>(&mut self, rt: &R, receipt: &Receipt) {
         if self.is_due(receipt) {
             if let Ok(Some(order)) = SweepOrder::of(receipt) {

@@ -1,4 +1,4 @@
-//! A book as a house.
+//! A book, as a house.
 
 ghost use Rattle.std.specs.Prelude.{◌≡◌, ◌⊎◌, IfOk};
 ghost use Rattle.gu_houses.specs.BookHouse.{IsEntered, IsLeftOut, IsTold};
@@ -11,7 +11,7 @@ use gu_terms::{Command, FirmId, Query, Stretch};
 use std::alloc::AllocError;
 use std::marker::Model;
 
-/// A book as a house: whatever is asked of it is answered at once. To a contract it is the book.
+/// A book, as a house: it answers every request at once. To a contract it is the book.
 #[derive(Drop)]
 pub struct OverBook {
     book: Book,
@@ -26,7 +26,7 @@ impl Model for OverBook {
 }
 
 impl OverBook {
-    /// Creates the house of a book.
+    /// Returns the house of a book.
     pub fn new(book: Book) -> Self
         ensures { result ≡ book }
     {
@@ -40,7 +40,7 @@ impl OverBook {
         &self.book
     }
 
-    /// Returns its book, which outlives it.
+    /// Returns its book by value.
     pub fn into_book(self) -> Book
         ensures { result ≡ self }
     {
@@ -48,7 +48,7 @@ impl OverBook {
         book
     }
 
-    /// Enters a command, and says what became of it.
+    /// Enters a command, and returns its outcome.
     fn enter(&mut self, command: &Command) -> Outcome
         ensures { IsEntered self.old command.now result self.new ⊎ IsLeftOut self.old result self.new }
     {

@@ -25,10 +25,10 @@ use std::alloc::{AllocError, Global};
 use std::marker::Model;
 use std::sync::Wait;
 
-/// How often a sweep is tried at most.
+/// The most tries of a sweep.
 const TRIES: u32 = 3;
 
-/// A seat that keeps a receipt for each entry that is made from it. To a contract it is the seat.
+/// A seat that keeps a receipt for each entry made from it. To a contract it is the seat.
 #[derive(Drop)]
 pub struct SeatReceipts<E: EntryLedger, S: LotLedger> {
     seat: Seat<E, S>,
@@ -48,8 +48,8 @@ impl<E: EntryLedger, S: LotLedger> Model for SeatReceipts<E, S> {
     ghost invariant = { λ s. HasReceipts (length E.opening) s.seat (receipts_in s.receipts) };
 }
 
-/// A sweep that was entered from a seat: its number, its lots, firms that hold each one that it informs, and its group's view just
-/// before it, which is on the desk's board.
+/// A sweep entered from a seat: its number, its lots, a set that holds every firm notified of it, and its group's view just before it,
+/// which is on the desk's board.
 #[derive(Drop)]
 pub struct SeatSweep {
     pub number: u64,
@@ -58,7 +58,7 @@ pub struct SeatSweep {
     pub view: ViewToken,
 }
 
-/// The lots of a sweep.
+/// Returns the lots of a sweep.
 fn lots_of(receipt: &Receipt) -> u64
     ensures { result ≡ swept_by receipt.now.entry }
 {
@@ -68,7 +68,7 @@ fn lots_of(receipt: &Receipt) -> u64
     }
 }
 
-/// The receipt of a command that was entered.
+/// Returns the receipt for an entered command.
 fn receipt_of(number: u64, command: Command, reply: &Reply) -> Receipt
     ensures { result ≡ record { number = number; entry = Entry.Asked command reply.now } }
 {
@@ -82,7 +82,7 @@ fn receipt_of(number: u64, command: Command, reply: &Reply) -> Receipt
 }
 
 impl<E: EntryLedger, S: LotLedger> SeatReceipts<E, S> {
-    /// A seat from which nothing was entered yet.
+    /// Returns a seat from which nothing was entered yet.
     pub fn new(alloc: Global, seat: Seat<E, S>) -> Self
         requires { IsNew E.opening seat }
         ensures { result ≡ seat }
@@ -93,7 +93,7 @@ impl<E: EntryLedger, S: LotLedger> SeatReceipts<E, S> {
         }
     }
 
-    /// The seat, and the receipts.
+    /// Returns the seat, and the receipts.
     pub fn into_parts(self) -> (Seat<E, S>, KeptReceipts)
         ensures seat { result.0 ≡ self }
         ensures receipts { HasReceipts (length E.opening) self (receipts_in result.1) }
@@ -102,15 +102,15 @@ impl<E: EntryLedger, S: LotLedger> SeatReceipts<E, S> {
         (seat, receipts)
     }
 
-    /// Returns how many entries the seat has seen.
+    /// Returns the number of entries that the seat has seen.
     pub fn seen(&self) -> u64
         ensures { result ≡ length self.now.front }
     {
         self.seat.seen()
     }
 
-    /// Enters a command, if there is room for its receipt, and keeps the receipt. Returns what the desk gave, with a stretch of what a
-    /// firm is told of the entries from a number on, this one among them, if that was asked for.
+    /// Enters a command, if there is room for its receipt, and keeps the receipt. Returns the desk's answer, with a batch of a firm's
+    /// notices of the entries from a number on, including this one, if that was asked for.
     pub fn enter<R: Wait>(
         &mut self,
         rt: &R,
@@ -124,7 +124,7 @@ impl<E: EntryLedger, S: LotLedger> SeatReceipts<E, S> {
         ensures informs { IfOk result (λ e. HoldsInformed (book_seen E.reference self.new) e.number e.informs) }
         ensures refused { IfErr result (λ why. IsRefused E.reference self.old why self.new) }
     {
-        // Room for the receipt first: once the command is entered, its receipt is kept without an allocation.
+        // First makes room for the receipt: after the command is entered, keeping its receipt allocates nothing.
         if self.receipts.reserve().is_err() {
             return Err(EnterError::Memory);
         }
@@ -134,7 +134,7 @@ impl<E: EntryLedger, S: LotLedger> SeatReceipts<E, S> {
         Ok(entered)
     }
 
-    /// Sweeps a group by a gate's proposals, if there is room for the receipt, and keeps the receipt.
+    /// Sweeps a group with a gate's proposals, if there is room for the receipt, and keeps the receipt.
     pub fn sweep<R: Wait, G: Gate>(
         &mut self,
         rt: &R,
@@ -146,7 +146,7 @@ impl<E: EntryLedger, S: LotLedger> SeatReceipts<E, S> {
             × Enters E.reference self.old (record { number = s.number; entry = entry }) self.new) }
         ensures informs { IfOk result (λ s. HoldsInformed (book_seen E.reference self.new) s.number s.informs) }
 
-        // The view is on the desk's board, and is that of the group by the history before the sweep.
+        // The view is on the desk's board, and is the group's by the history before the sweep.
         ensures here { IfOk result (λ s. Shows desk.now.board s.view) }
         ensures before { IfOk result (λ s. IsViewBefore E.reference self.new.front s.view.value) }
         ensures group { IfOk result (λ s. s.view.value.group ≡ group) }
@@ -170,7 +170,7 @@ impl<E: EntryLedger, S: LotLedger> SeatReceipts<E, S> {
         })
     }
 
-    /// Answers a query by what the seat sees then.
+    /// Answers a query, as the seat then sees the book.
     pub fn ask<R: Wait>(
         &mut self,
         rt: &R,
@@ -199,7 +199,7 @@ impl<E: EntryLedger, S: LotLedger> SeatReceipts<E, S> {
         desk.hold(rt).put(&mut self.seat, question)
     }
 
-    /// Returns a stretch of what a firm is told of the entries from a number on, as the seat sees them then.
+    /// Returns a batch of a firm's notices of the entries from a number on, as the seat then sees them.
     pub fn stretch<R: Wait>(
         &mut self,
         rt: &R,
@@ -214,15 +214,15 @@ impl<E: EntryLedger, S: LotLedger> SeatReceipts<E, S> {
         desk.hold(rt).stretch(&mut self.seat, firm, from)
     }
 
-    /// Returns the receipt of what was entered last, if nothing was refused since. To a contract it is one of those that are kept: a seat's
-    /// value doesn't have the receipts, and so can't say which one it is, or when there is none.
+    /// Returns the receipt for the last entry, unless something was refused since. To a contract it is one of those kept: a seat's value
+    /// doesn't include the receipts, so it can't say which one it is, or when there is none.
     pub fn last(&self) -> Option<&Receipt>
         ensures { IfSome result (λ last. (0 < self.now.entries) × IsReceiptOf self.now.front last.now) }
     {
         self.receipts.last()
     }
 
-    /// Returns the receipt of the entry of a number, if that is the one that was entered last and nothing was refused since.
+    /// Returns the receipt for the entry with a number, if that was the last entry and nothing was refused since.
     pub fn last_of(&self, number: u64) -> Option<&Receipt>
         ensures { IfSome result (λ last. (last.now.number ≡ number) × IsReceiptOf self.now.front last.now) }
     {

@@ -1,4 +1,4 @@
-//! How much of what there is room for the sessions of each firm make.
+//! Limits on how much of the available room the sessions of each firm use.
 
 ghost use Rattle.std.specs.Prelude.{◌≡◌, ◌≤◌, ◌-◌, ◌*◌, ◌/◌, length};
 
@@ -12,47 +12,47 @@ use indexmap::IndexMap;
 use std::alloc::{AllocError, Global};
 use std::sync::Mutex;
 
-/// How much the sessions of one firm make at most.
+/// The most that the sessions of one firm may make.
 #[derive(Clone, Copy, Debug)]
 pub struct Quota {
     /// Entries.
     pub entries: u64,
-    /// Offers of a group that are open at once.
+    /// Open offers in a group.
     pub offers: u64,
 }
 
-/// Of what a firm has all that it may make.
+/// The quota that a firm has used up.
 #[derive(Clone, Copy, Debug, PartialEq, Eq)]
 pub enum Part {
-    /// Of the entries for which there is room when the day begins.
+    /// Its part of the entries for which there is room when the day begins.
     Entries,
-    /// Of the open offers of a group.
+    /// Its part of the open offers of a group.
     Offers,
 }
 
-/// The offers of a group that a firm's sessions made, as far as they may still be open.
+/// The offers in a group that a firm's sessions made, as far as they may still be open.
 #[derive(Drop)]
 struct GroupOffers {
     group: Group,
-    /// Their numbers, which go up.
+    /// Their numbers, ascending.
     numbers: Vec<OfferNo>,
-    /// How many of the first entries closed none of them.
+    /// The number of first entries known to have closed none of them.
     seen: usize,
 }
 
-/// What the sessions of one firm have made.
+/// The use made by the sessions of one firm.
 #[derive(Drop)]
 pub(crate) struct FirmShare {
     alloc: Global,
     quota: Quota,
     entries: u64,
     groups: Vec<GroupOffers>,
-    /// What was said last to be full.
+    /// The quota last reported as used up.
     told: Option<Part>,
     ghost within: { entries ≤ quota.entries },
 }
 
-/// The shares of the firms of a day.
+/// The shares of a day's firms.
 pub struct Shares {
     firms: IndexMap<FirmId, Mutex<FirmShare>>,
 }
@@ -65,7 +65,7 @@ impl Drop for Shares {
 }
 
 impl Quota {
-    /// Returns a percentage of the entries for which a book has room, and of the open offers of a group, both rounded down.
+    /// Returns this percentage of the entries for which a book has room, and of the open offers of a group, each rounded down.
     pub fn of(percent: u16, book: &Book) -> Self
         ensures entries { result.entries ≡ (percent * (1000000 - length book.now.history)) / 100 }
         ensures offers { result.offers ≡ (percent * 4096) / 100 }
@@ -80,7 +80,7 @@ impl Quota {
 }
 
 impl Shares {
-    /// Creates the shares of these firms, each of which makes so much at most.
+    /// Returns the shares of these firms, each with this quota.
     pub fn new(alloc: Global, firms: &[FirmId], quota: Quota) -> Result<Self, AllocError> {
         let mut shares = IndexMap::with_capacity(alloc, firms.len())?;
         for firm in firms {
@@ -90,14 +90,14 @@ impl Shares {
         Ok(Shares { firms: shares })
     }
 
-    /// Returns that of a firm.
+    /// Returns the share of a firm.
     pub(crate) fn of(&self, firm: &FirmId) -> Option<&Mutex<FirmShare>> {
         self.firms.get(firm)
     }
 }
 
 impl GroupOffers {
-    /// Creates those of a group in which its firm has made none.
+    /// Returns the offers in a group in which the firm has made none.
     fn new(alloc: Global, group: Group) -> Self {
         GroupOffers {
             group,
@@ -111,7 +111,7 @@ impl GroupOffers {
         self.numbers.len().saturating_add(lines) as u64 <= most
     }
 
-    /// Forgets an offer, if it is closed.
+    /// Removes an offer, if it is closed.
     fn forget_if_closed(&mut self, book: &Book, number: OfferNo) {
         if book.left(number) > 0 {
             return;
@@ -121,7 +121,7 @@ impl GroupOffers {
         }
     }
 
-    /// Forgets the offers that an entry closed.
+    /// Removes the offers that an entry closed.
     fn forget_closed_by(&mut self, book: &Book, entry: EntryRef<'_>) {
         match entry.event() {
             EntryEvent::Claimed { offer, .. } | EntryEvent::Refused { offer, .. } => {
@@ -136,7 +136,7 @@ impl GroupOffers {
         }
     }
 
-    /// Forgets the offers that are closed: by the entries that it hasn't seen, or, where these are many, one by one.
+    /// Removes the closed offers: by the entries not yet seen or, if these are many, one by one.
     fn forget_closed(&mut self, book: &Book) {
         let history = book.history();
         if history.len().saturating_sub(self.seen) > self.numbers.len() {
@@ -151,7 +151,7 @@ impl GroupOffers {
 }
 
 impl FirmShare {
-    /// Creates that of a firm whose sessions have made nothing.
+    /// Returns the share of a firm whose sessions have made nothing.
     fn new(alloc: Global, quota: Quota) -> Self {
         FirmShare {
             alloc,
@@ -179,7 +179,7 @@ impl FirmShare {
         Ok(&mut self.groups[at])
     }
 
-    /// Returns whether this many more offers of a group may be made, and makes room for their numbers.
+    /// Returns whether this many more offers in a group may be made, and makes room for their numbers.
     fn has_offers(&mut self, book: &Book, group: Group, lines: usize) -> Result<bool, AllocError> {
         let most = self.quota.offers;
         let offers = self.offers_in(group)?;
@@ -190,7 +190,7 @@ impl FirmShare {
         Ok(offers.has_room(lines, most))
     }
 
-    /// Counts the entry that was made, and its offers.
+    /// Counts an entry and its offers.
     pub(crate) fn count(&mut self, reply: Reply) {
         if self.entries < self.quota.entries {
             self.entries += 1;
@@ -220,7 +220,7 @@ impl FirmShare {
         self.told = None;
     }
 
-    /// Notes that it was refused this. Returns whether it wasn't the last time already.
+    /// Records that it was refused this. Returns whether the last refusal was for something else, or there was none.
     pub(crate) fn refuse(&mut self, part: Part) -> bool {
         let was_told = self.told == Some(part);
         self.told = Some(part);
@@ -235,7 +235,7 @@ pub(crate) struct OffersAsked<'s> {
     pub(crate) firm: FirmId,
     pub(crate) report: Id,
     pub(crate) lines: usize,
-    /// The answer. The lines of a report that isn't there are the book's to refuse.
+    /// The answer. If the report doesn't exist, it is for the book to refuse its lines.
     pub(crate) has_offers: bool,
 }
 

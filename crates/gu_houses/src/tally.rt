@@ -1,9 +1,9 @@
-//! What is done at a desk, counted for whoever watches it.
+//! Counts of a desk's work, for watchers.
 
 use std::sync::atomic::{AtomicU64, Ordering};
 
-/// How many connections have begun, how many of them have ended, and by a fault, how many entries their firms and the sweepers made,
-/// and how many lots were swept. The counts are for a watcher alone: nothing else reads them.
+/// The number of connections begun, ended, and ended by a fault, the entries that firms and sweepers made, and the lots swept. The counts
+/// are only for watchers: nothing else reads them.
 #[derive(Drop)]
 pub struct Tally {
     begun: AtomicU64,
@@ -13,7 +13,7 @@ pub struct Tally {
     lots: AtomicU64,
 }
 
-/// The counts of one moment.
+/// The counts at one moment.
 #[derive(Clone, Copy, Debug, PartialEq, Eq)]
 pub struct Counts {
     pub begun: u64,
@@ -24,7 +24,7 @@ pub struct Counts {
 }
 
 impl Tally {
-    /// Nothing was done yet.
+    /// Returns counts of 0.
     pub fn new() -> Self {
         Tally {
             begun: AtomicU64::new(0),
@@ -35,12 +35,12 @@ impl Tally {
         }
     }
 
-    /// A connection begins.
+    /// Counts a connection that begins.
     pub fn begin(&self) {
         let _ = self.begun.fetch_add(1, Ordering::Relaxed);
     }
 
-    /// A connection ends, by a fault or not.
+    /// Counts a connection that ends, by a fault or not.
     pub fn end(&self, has_failed: bool) {
         let _ = self.ended.fetch_add(1, Ordering::Relaxed);
         if has_failed {
@@ -48,18 +48,18 @@ impl Tally {
         }
     }
 
-    /// One more entry was made.
+    /// Counts one more entry.
     pub fn add_entry(&self) {
         let _ = self.entries.fetch_add(1, Ordering::Relaxed);
     }
 
-    /// One more sweep was committed, of this many lots.
+    /// Counts one more committed sweep, with this many lots.
     pub fn add_sweep(&self, lots: u64) {
         self.add_entry();
         let _ = self.lots.fetch_add(lots, Ordering::Relaxed);
     }
 
-    /// The counts as they are now.
+    /// Returns the counts as they are now.
     pub fn counts(&self) -> Counts {
         Counts {
             begun: self.begun.load(Ordering::Relaxed),

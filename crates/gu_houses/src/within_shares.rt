@@ -1,4 +1,4 @@
-//! A seat at a desk as a house whose firms may have shares.
+//! A seat at a desk, as a house whose firms may have shares.
 
 ghost use Rattle.std.specs.Prelude.{◌≡◌, None, IfSome, is_some, length};
 ghost use Rattle.gu_session.specs.declared.input.Failure.{Failure as FailureOf};
@@ -19,14 +19,14 @@ use std::alloc::AllocError;
 use std::marker::Model;
 use std::sync::Wait;
 
-/// A seat at a desk as a house whose firms may have shares. To a contract it is the seat, and whether they have.
+/// A seat at a desk, as a house whose firms may have shares. To a contract it is the seat, and whether they have shares.
 ///
-/// Where its firm has made all that it may, a command fails as at a full book. The sessions of one firm wait for each other then, and no
+/// If its firm has used up its share, a command fails as if the book were full. The sessions of one firm then wait for each other, and no
 /// other firm waits for them.
 pub struct WithinShares<'a, 'o, E: EntryLedger, S: LotLedger, R: Wait, I: Informs> {
     house: AtDesk<'a, 'o, E, S, R, I>,
     shares: Option<&'a Shares>,
-    /// Of what its firm was found to have all, which wasn't said yet.
+    /// The quota that its firm was found to have used up, not yet reported.
     full: Option<Part>,
 }
 
@@ -52,11 +52,11 @@ impl<'a, 'o, E: EntryLedger, S: LotLedger, R: Wait, I: Informs> Model
     ghost view = { λ w. record { seat = w.house; has_shares = is_some w.shares } };
 }
 
-/// Why a command is withheld.
+/// The reason that a command is withheld.
 enum Withheld {
     /// An allocation failed.
     Memory,
-    /// Its firm has made all that it may.
+    /// Its firm has used up this quota.
     Full(Part),
 }
 
@@ -78,7 +78,7 @@ fn failed(failure: Failure) -> Answered
 }
 
 impl<'a, 'o, E: EntryLedger, S: LotLedger, R: Wait, I: Informs> WithinShares<'a, 'o, E, S, R, I> {
-    /// Creates the house of a seat whose firms have these shares, if there are any.
+    /// Returns the house of a seat whose firms have these shares, if there are any.
     pub fn new(house: AtDesk<'a, 'o, E, S, R, I>, shares: Option<&'a Shares>) -> Self
         ensures seat { result.seat ≡ house.entry }
         ensures shares { result.has_shares ≡ is_some shares.entry }
@@ -102,33 +102,33 @@ impl<'a, 'o, E: EntryLedger, S: LotLedger, R: Wait, I: Informs> WithinShares<'a,
         house.into_seat()
     }
 
-    /// Returns how many give-ups of its connection were accepted since the last one whose order was due.
+    /// Returns the number of its connection's give-ups accepted since the last one whose order was due.
     pub fn give_ups(&self) -> u64 {
         self.house.give_ups()
     }
 
-    /// Goes on with the connection of this number, of which so many give-ups were accepted since the last one whose order was due.
+    /// Resumes the connection with this number, with this many give-ups accepted since the last one whose order was due.
     pub fn resume(&mut self, connection: u64, give_ups: u64)
         ensures { self.new ≡ self.old }
     {
         self.house.resume(connection, give_ups);
     }
 
-    /// Returns how many entries the seat has seen.
+    /// Returns the number of entries that the seat has seen.
     pub fn seen(&self) -> u64
         ensures { result ≡ length self.now.seat.front }
     {
         self.house.seen()
     }
 
-    /// Returns of what a firm was found to have all since this was asked last, if it wasn't before.
+    /// Returns the quota that a firm was newly found to have used up since the last call, if there is one.
     pub fn take_full(&mut self) -> Option<Part>
         ensures { self.new ≡ self.old }
     {
         self.full.take()
     }
 
-    /// Looks whether a firm may make the entry of a command, and its offers.
+    /// Checks whether a firm may make the entry of a command, and its offers.
     fn look(&mut self, share: &mut FirmShare, command: &Command) -> Result<(), Withheld>
         ensures looks { Looks E.reference self.old.seat self.new.seat }
         ensures shares { self.new.has_shares ≡ self.old.has_shares }
@@ -171,7 +171,7 @@ impl<'a, 'o, E: EntryLedger, S: LotLedger, R: Wait, I: Informs> WithinShares<'a,
         }
     }
 
-    /// Enters a command that a message asks for, if its firm may make the entry, and its offers.
+    /// Enters a command requested by a message, if its firm may make the entry and its offers.
     fn enter_by(
         &mut self,
         share: &mut FirmShare,
@@ -198,7 +198,7 @@ impl<'a, 'o, E: EntryLedger, S: LotLedger, R: Wait, I: Informs> WithinShares<'a,
         }
     }
 
-    /// Enters a command that a message asks for, if its firm may make the entry, and its offers.
+    /// Enters a command requested by a message, if its firm may make the entry and its offers.
     fn enter(&mut self, shares: &Shares, command: Command, asking: Asking, from: u64) -> Answered
         ensures outcome { AnswersByShare E.reference self.old.seat (Request.Enter command) result.outcome self.new.seat }
         ensures told { IfSome result.stretch (λ stretch. SeatTells E.reference self.new.seat asking.firm from stretch self.new.seat) }

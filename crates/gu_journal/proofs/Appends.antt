@@ -2,7 +2,7 @@
 use Rattle.std.proofs.Common.{◌≡◌, inl, inr, ⊎_elim, ℕ, ◌^◌, ◌≤◌, List, [], length, Option, Some, Result, Ok, Err, IfOk, IfErr, refl, sym, ◌∙◌, ap, subst, arith, append-nil}
 use Rattle.gu_journal.specs.Crashes.{LeavesOnly}
 use Rattle.gu_journal.specs.Log.{Finds, found_since}
-use Rattle.gu_journal.specs.Sink.{HasBegun, HasReason}
+use Rattle.gu_journal.specs.Sink.{HasBegun, HasReason, no_refusals}
 use Rattle.gu_journal.specs.Text.{found}
 use Rattle.gu_journal.specs.declared.sink.SinkError.{SinkError}
 use Rattle.gu_journal.specs.declared.stopped.Stopped.{Stopped}
@@ -24,12 +24,12 @@ pub err_both : {T E : Type 0} (P Q : E → Type 0) (result : Result T E) → IfE
 err_both P Q (Ok x) p q = p
 err_both P Q (Err e) p q = (p, q)
 
--- before the batch is begun
+-- before the batch is started
 pub none_begun : (kept batch : List ℕ) (c : List ℕ) → Finds kept c → HasBegun kept batch (found c)
 none_begun kept batch c finds = record { lines = []; rest = batch; batch_is = refl; whole = refl; outcome_is = finds ∙ ap (λ (l : List ℕ). Some l) (sym (append-nil kept)) }
 
 module _ {D : Type 0} (moment : D → ℕ) (left_since : D → ℕ → List ℕ → Type 0) where
-  -- what is found, where it is said of what is left
+  -- what is found, given what is left
   pub as_found : (old new : D) (P : Option (List ℕ) → Type 0) → LeavesOnly moment left_since old new (λ c. P (found c)) → LeavesOnly moment (found_since left_since) old new P
   as_found old new P run = record {
     later = run.later;
@@ -51,8 +51,9 @@ module _ {D : Type 0} (moment : D → ℕ) (left_since : D → ℕ → List ℕ 
 
 -- a reason that came later
 pub later_reason : {D : Type 0} (failures shortages : D → ℕ) (kept kept' : List ℕ) (old mid : D) (stopped : Stopped D SinkError) → kept' ≡ kept → failures old ≤ failures mid → shortages old ≤ shortages mid
-    → HasReason failures shortages kept' mid stopped → HasReason failures shortages kept old stopped
+    → HasReason failures no_refusals shortages kept' mid stopped → HasReason failures no_refusals shortages kept old stopped
 later_reason failures shortages kept kept' old mid stopped same fewer less reason = record {
   failed = λ is. omega (arith, fewer, reason.failed is);
   full = λ is. ⊎_elim (λ short. inl (omega (arith, less, short))) (λ long. inr (subst (λ (l : List ℕ). 2 ^ 63 ≤ length l) same long)) (reason.full is);
+  fenced = λ is. reason.fenced is;
 }

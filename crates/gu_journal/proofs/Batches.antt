@@ -1,4 +1,4 @@
--- What a crash leaves of a batch that is written over zeros.
+-- What a crash leaves of a batch written over zeros.
 use Rattle.std.proofs.Common.{◌≡◌, inl, inr, ⊎_elim, ℕ, ◌≤◌, List, [], ◌∷◌, ◌++◌, length, drop, refl, sym, ◌∙◌, ap, subst, arith, append_assoc, Some}
 use Rattle.std.proofs.lemmas.List.{take_at, drop_at}
 use Rattle.std.proofs.lemmas.Bool.{cases_eq}
@@ -8,7 +8,7 @@ use Rattle.gu_journal.specs.Text.{HasNoZero, IsWholeLines, before_zero, found, t
 use Rattle.gu_journal.specs.declared.sink.TheConstants.{MAX_BATCH}
 use Rattle.gu_journal.proofs.Texts.{at_zero, at_byte, used_none, used_cons, unused_first, used_rest, lines_then, lines_whole, found-text}
 
--- a mix of two files that begin alike begins so too
+-- a mix of two files with a common prefix has it too
 pub record BeginsAlike (text olds news lefts : List ℕ) : Type 0 where
   pub rest : List ℕ
   pub left_is : lefts ≡ text ++ rest
@@ -26,7 +26,7 @@ pub written_after : (text olds bytes : List ℕ) (at : ℕ) → length text ≡ 
 written_after text olds bytes at at_is =
     ap (λ (l : List ℕ). l ++ over bytes (drop at (text ++ olds))) (take_at text olds at at_is) ∙ ap (λ (l : List ℕ). text ++ over bytes l) (drop_at text olds at at_is)
 
--- a beginning of the batch is left before the first zero, and no more than the batch is used
+-- a prefix of the batch is left before the first zero, and at most the batch is used
 pub record ShowsBegun (batch left : List ℕ) : Type 0 where
   pub sent : List ℕ
   pub unsent : List ℕ

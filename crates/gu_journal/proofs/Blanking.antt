@@ -50,7 +50,7 @@ blanked_used [] (left ∷ lefts) is = absurd is
 blanked_used (old ∷ olds) [] is = absurd is
 blanked_used (old ∷ olds) (left ∷ lefts) is = used_first left old lefts olds is.0 (blanked_used olds lefts is.1)
 
--- what is before the first zero is a beginning of what was
+-- the bytes before the first zero are a prefix of what they were
 record Begins (olds lefts : List ℕ) : Type 0 where
   pub rest : List ℕ
   pub is : before_zero olds ≡ before_zero lefts ++ rest
@@ -115,7 +115,7 @@ module _ (file : List ℕ) (at k : ℕ) (at_is : length (text_of file) ≡ at) (
       ap found both.left_is ∙ found-text text both.rest (text_no_zero file) (text_whole file) (omega (arith, blanked_used rest both.rest is, rest_used, short))
       ∙ ap (λ (l : List ℕ). Some (text ++ l)) (blanked_text rest both.rest is rest_text) ∙ ap (λ (l : List ℕ). Some l) (append-nil text)
 
-  -- and then there are zeros after it
+  -- followed by zeros
   module _ (file' : List ℕ) (is : file' ≡ written at (replicate k 0) file) where
     whole : file' ≡ text ++ over (replicate k 0) rest
     whole = is ∙ ap (λ (l : List ℕ). written at (replicate k 0) l) parts ∙ written_after text rest (replicate k 0) at at_is
@@ -130,7 +130,7 @@ module _ (file : List ℕ) (at k : ℕ) (at_is : length (text_of file) ≡ at) (
         omega (arith, length-over (replicate {A = ℕ} k 0) rest zeros, ap length parts, length-append text rest, at_is, len_is) in
         settle text (over (replicate k 0) rest) file' outcomes' at len (text_no_zero file) (text_whole file) (blank_unused k rest rest_used room) whole at_is size only
 
--- of a device whose bytes were read
+-- for a device whose bytes were read
 module _ (file bytes words : List ℕ) (at torn len : ℕ) (same : bytes ≡ file) (finds : found bytes ≡ Some words) (at_is : length words ≡ at) (torn_is : torn ≡ torn_length bytes) where
   finds_file : Finds words file
   finds_file = ap found (sym same) ∙ finds

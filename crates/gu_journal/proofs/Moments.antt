@@ -1,4 +1,4 @@
--- How a run of calls goes on.
+-- Sequences of calls.
 use Rattle.std.proofs.Common.{inl, inr, ⊎_elim, ℕ, arith}
 use Rattle.gu_journal.specs.Crashes.{Elapses, LeavesOnly}
 
@@ -7,7 +7,7 @@ module _ {D X : Type 0} (moment : D → ℕ) (left_since : D → ℕ → X → T
   pub started : (old : D) (P : X → Type 0) → ((c : X) → left_since old (moment old) c → P c) → LeavesOnly moment left_since old old P
   started old P here = record { later = omega arith; each = here; before = λ t c le left. inl left }
 
-  -- one call more, after which a crash leaves what has P
+  -- one more call, after which a crash leaves something with property P
   pub goes_on : (old mid new : D) (P may_leave : X → Type 0) → LeavesOnly moment left_since old mid P → Elapses moment left_since mid new may_leave
       → ((c : X) → may_leave c → P c) → LeavesOnly moment left_since old new P
   goes_on old mid new P may_leave so_far time here = record {
@@ -24,7 +24,7 @@ module _ {D X : Type 0} (moment : D → ℕ) (left_since : D → ℕ → X → T
     before = λ t c le left. ⊎_elim (first.before t c le) (λ p. inr p) (second.before t c (omega (arith, le, first.later)) left);
   }
 
-  -- what has P has Q
+  -- property P implies Q
   pub weaker : (old new : D) (P Q : X → Type 0) → LeavesOnly moment left_since old new P → ((c : X) → P c → Q c) → LeavesOnly moment left_since old new Q
   weaker old new P Q run implies = record {
     later = run.later;

@@ -1,4 +1,4 @@
--- One call more of a device in memory.
+-- One more call of a device in memory.
 use Rattle.std.proofs.Common.{◌≡◌, ◌⊎◌, inl, inr, zero-add, drop, ℕ, zero, suc, ◌+◌, ◌≤◌, List, [], ◌∷◌, ◌++◌, length, take, Bool, true, false, if◌then◌else◌, refl, sym, ◌∙◌, ap, subst, arith, length-append}
 use Rattle.std.proofs.Math.Nat.{eq-or-lt_of_le}
 use Rattle.std.proofs.lemmas.List.{take_all, take-append-le}
@@ -26,7 +26,7 @@ module _ (first : List ℕ) (calls : List Call) (call : Call) where
   pub keeps : (t : ℕ) (c : List ℕ) → left_from first calls t c → left_from first pushed t c
   keeps t c left = (left.0, left.1, omega (arith, left.2, length-append calls (call ∷ [])), subst (λ (l : List Call). outcomes_after first l c) (sym (front left.0 left.2)) left.3)
 
--- of a device whose list of calls is longer by one
+-- for a device with one more call in its list
 module _ (first : List ℕ) (calls : List Call) (call : Call) (calls' : List Call) (is : calls' ≡ calls ++ call ∷ []) where
   pub later : length calls ≤ length calls'
   later = omega (arith, ap length is, length-append calls (call ∷ []))
@@ -40,14 +40,14 @@ module _ (first : List ℕ) (calls : List Call) (call : Call) (calls' : List Cal
   pub seen_to : (bytes : List ℕ) → bytes ≡ seen_after first calls → done call bytes ≡ seen_after first calls'
   seen_to bytes same = ap (done call) same ∙ sym (seen_push first calls call) ∙ ap (seen_after first) (sym is)
 
-  -- what it may leave: all that the call did to what was seen, or a part of it to what might have been left
+  -- what it may leave: everything that the call did to what was seen, or a part of it done to what might have been left
   pub left_to : (bytes c : List ℕ) → bytes ≡ seen_after first calls → outcomes_after first calls' c → (c ≡ done call bytes) ⊎ torn call bytes (left_after first (λ (d : List ℕ). d ≡ first) calls) c
   left_to bytes c same (inl all) = inl (all ∙ sym (seen_to bytes same))
   left_to bytes c same (inr part) =
       let here = left_push first (λ (d : List ℕ). d ≡ first) calls call c (subst (λ (l : List Call). left_after first (λ (d : List ℕ). d ≡ first) l c) is part) in
       inr (subst (λ (f : List ℕ). torn call f (left_after first (λ (d : List ℕ). d ≡ first) calls) c) (sym same) here)
 
--- a sync adds nothing to what is seen, whether it was noted or not
+-- a sync adds nothing to what is seen, whether it was recorded or not
 pub synced_seen : (first bytes : List ℕ) (calls calls' : List Call) (noted : Bool) → calls' ≡ (if noted then calls ++ Sync ∷ [] else calls) → bytes ≡ seen_after first calls → bytes ≡ seen_after first calls'
 synced_seen first bytes calls calls' true is same = seen_to first calls Sync calls' is bytes same
 synced_seen first bytes calls calls' false is same = same ∙ ap (seen_after first) (sym is)

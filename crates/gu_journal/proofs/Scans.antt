@@ -1,4 +1,4 @@
--- One byte more of a file that is walked through.
+-- One more byte in a pass over a file.
 use Rattle.std.proofs.Common.{IsTrue, nat_eq, zero, ◌-◌, length-append, ◌≡◌, ◌≢◌, inl, inr, ℕ, suc, ◌+◌, ◌<◌, ◌≤◌, Bool, true, false, ◌||◌, ◌&&◌, List, [], ◌∷◌, ◌++◌, length, take, drop, get_or, refl, sym, ◌∙◌, ap, subst, arith, if◌then◌else◌, ◌==◌, append-nil, take-append-drop}
 use Rattle.std.proofs.lemmas.Bool.Decides.{nat_tests}
 use Rattle.std.proofs.lemmas.List.{take_all, take_more, length-take}
@@ -46,12 +46,12 @@ pub used-push_zero : (xs : List ℕ) → used_length (xs ++ 0 ∷ []) ≡ used_l
 used-push_zero [] = refl
 used-push_zero (x ∷ xs) = ap (λ (n : ℕ). if x == 0 && n == 0 then 0 else n + 1) (used-push_zero xs)
 
--- the steps of the walks
+-- steps of the passes
 
 pub no_zero_more : (xs : List ℕ) (i : ℕ) → i < length xs → HasNoZero (take i xs) → get_or xs i 0 ≢ 0 → HasNoZero (take (i + 1) xs)
 no_zero_more xs i lt none isnt = subst HasNoZero (sym (take_more xs i 0 lt)) (no_zero-push (take i xs) (get_or xs i 0) none isnt)
 
--- no byte is 0 where a search of the first bytes finds none
+-- no byte is 0 if a search of the first bytes finds none
 pub none_within : (xs : List ℕ) (n : ℕ) → n ≤ length xs → ((k : ℕ) → 0 ≤ k → k < n → (get_or xs k 0 == 0) ≡ true → ⊥) → HasNoZero (take n xs)
 none_within xs zero within nowhere = tt
 none_within xs (suc n) within nowhere =
@@ -90,7 +90,7 @@ pub used_not_here : (xs : List ℕ) (i : ℕ) → i < length xs → get_or xs i 
 used_not_here xs i lt is =
     ap used_length (take_more xs i 0 lt) ∙ ap used_length (ap (λ (b : ℕ). take i xs ++ b ∷ []) is) ∙ used-push_zero (take i xs)
 
--- what the ends of the walks tell
+-- results at the ends of the passes
 
 pub eq_of : (a b : ℕ) → IsTrue (nat_eq a b) → a ≡ b
 eq_of a b is = grind (arith, nat_tests)
@@ -115,7 +115,7 @@ last_ends ys byte whole = elim (bool_cases (byte == 10)) [
   | inr isnt ↦ absurd (omega (arith, ap length (lines_then ys), length-append (whole_lines ys) (drop (length (whole_lines ys)) ys), ap length (sym whole ∙ not_ended ys byte isnt), length-append ys (byte ∷ [])))
 ]
 
--- a text that has a byte is its first bytes and the last
+-- a non-empty text is its first bytes and the last
 split_last : (xs : List ℕ) → 1 ≤ length xs → xs ≡ take (length xs - 1) xs ++ get_or xs (length xs - 1) 0 ∷ []
 split_last xs some =
     sym (take_all (length xs - 1 + 1) xs (omega (arith, some))) ∙ take_more xs (length xs - 1) 0 (omega (arith, some))

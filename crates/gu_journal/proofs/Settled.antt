@@ -1,4 +1,4 @@
--- Devices that have a log.
+-- Devices with a log.
 use Rattle.std.proofs.Common.{◌≡◌, ℕ, ◌+◌, ◌-◌, ◌≤◌, List, [], ◌++◌, length, replicate, take, refl, sym, ◌∙◌, ap, subst, arith, append_assoc, length-append, Some}
 use Rattle.std.proofs.lemmas.List.{length-replicate}
 use Rattle.gu_journal.specs.Crashes.{Only}
@@ -22,7 +22,7 @@ settle text rest file outcomes at len none whole unused file_is at_is len_is onl
       durable = only;
     }
 
--- zeros alone hold no text
+-- zeros alone contain no text
 pub finds_zeros : (c : List ℕ) (more : ℕ) → Lengthens more [] c → Finds [] c
 finds_zeros c more longer = ap found longer.is ∙ found_unused [] (replicate longer.zeros 0) tt refl (used-zeros longer.zeros)
 

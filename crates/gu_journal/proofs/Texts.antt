@@ -98,7 +98,7 @@ no_zero-whole_lines (byte ∷ rest) none = elim (bool_cases (ends_line (byte ∷
   | inr isnt ↦ subst HasNoZero (sym (lines_none (byte ∷ rest) isnt)) tt
 ]
 
--- a text that ends no line has no lines, and nor has a beginning of it
+-- a text that ends no line has no lines, nor has a prefix of it
 pub none_begun : (text rest : List ℕ) → whole_lines (text ++ rest) ≡ [] → whole_lines text ≡ []
 none_begun text rest none = elim (bool_cases (ends_line text)) [
   | inl ends ↦
@@ -151,7 +151,7 @@ text_whole file = lines_whole (before_zero file)
 pub text_of-append : (text rest : List ℕ) → HasNoZero text → IsWholeLines text → text_of (text ++ rest) ≡ text ++ text_of rest
 text_of-append text rest none whole = ap whole_lines (before_zero-text text rest none) ∙ whole_lines-append text (before_zero rest) whole
 
--- zeros at the end
+-- trailing zeros
 
 pub used_more : (byte : ℕ) (rest : List ℕ) → byte ≢ 0 → used_length (byte ∷ rest) ≡ used_length rest + 1
 used_more byte rest isnt = grind (arith, nat_tests)
@@ -193,7 +193,7 @@ pub used-zeros : (n : ℕ) → used_length (replicate n 0) ≡ 0
 used-zeros zero = refl
 used-zeros (suc n) = used_none 0 (replicate n 0) refl (used-zeros n)
 
--- where nothing is used there are zeros
+-- if nothing is used, the first byte is 0
 pub unused_first : (byte : ℕ) (rest : List ℕ) → used_length (byte ∷ rest) ≡ 0 → byte ≡ 0
 unused_first byte rest none = elim (cases_eq byte 0) [
   | inl is ↦ is
@@ -213,14 +213,14 @@ unused_zeros (byte ∷ rest) none =
 le_some : (n most : ℕ) (text : List ℕ) → n ≤ most → (if nat_le n most then Some text else None) ≡ Some text
 le_some n most text le = grind (arith, nat_tests)
 
--- a text is found where at most a batch is used after it
+-- a text is found if at most a batch is used after it
 pub found-text : (text rest : List ℕ) → HasNoZero text → IsWholeLines text → used_length rest ≤ MAX_BATCH → found (text ++ rest) ≡ Some (text ++ text_of rest)
 found-text text rest none whole short =
     let is : text_of (text ++ rest) ≡ text ++ text_of rest = text_of-append text rest none whole in
     let fits : torn_length (text ++ rest) ≤ MAX_BATCH = omega (arith, ap length is, length-append text (text_of rest), used-append text rest, short) in
     le_some (torn_length (text ++ rest)) MAX_BATCH (text_of (text ++ rest)) fits ∙ ap (λ (l : List ℕ). Some l) is
 
--- and nothing else where nothing is
+-- and nothing else if nothing is
 pub found_unused : (text rest : List ℕ) → HasNoZero text → IsWholeLines text → used_length rest ≡ 0 → found (text ++ rest) ≡ Some text
 found_unused text rest none whole unused =
     found-text text rest none whole (omega arith) ∙ ap (λ (l : List ℕ). Some (text ++ l)) (unused_text rest unused) ∙ ap (λ (l : List ℕ). Some l) (append-nil text)
@@ -253,6 +253,6 @@ some_within n most text other is = elim (bool_cases (nat_le n most)) [
       absurd (cc)
 ]
 
--- a text that is found is the file's, and no more than a batch is after it
+-- a text that is found is the file's, and at most a batch is after it
 pub found_some : (file text : List ℕ) → found file ≡ Some text → (text_of file ≡ text) × (torn_length file ≤ MAX_BATCH)
 found_some file text is = some_within (torn_length file) MAX_BATCH (text_of file) text is

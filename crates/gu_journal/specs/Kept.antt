@@ -1,4 +1,4 @@
--- What a log has.
+-- The contents of a log.
 use Rattle.std.specs.Prelude.{◌≡◌, ℕ, List, Option, Some}
 use Rattle.std.proofs.Common.{◌∙◌, ap}
 use Rattle.gu_journal.specs.declared.device.Device.{Ghosts}

@@ -12,12 +12,12 @@ abbrev pub before_zero : List ℕ → List ℕ
 before_zero [] = []
 before_zero (byte ∷ rest) = if byte == 0 then [] else byte ∷ before_zero rest
 
--- whether a line ends in the text; a line ends with the byte 10
+-- a line ends in the text; a line ends with byte 10
 abbrev pub ends_line : List ℕ → Bool
 ends_line [] = false
 ends_line (byte ∷ rest) = byte == 10 || ends_line rest
 
--- the lines of the text that end in it
+-- the whole lines of the text
 abbrev pub whole_lines : List ℕ → List ℕ
 whole_lines [] = []
 whole_lines (byte ∷ rest) = if ends_line (byte ∷ rest) then byte ∷ whole_lines rest else []
@@ -26,7 +26,7 @@ whole_lines (byte ∷ rest) = if ends_line (byte ∷ rest) then byte ∷ whole_l
 abbrev pub IsWholeLines : List ℕ → Type 0
 IsWholeLines text = whole_lines text ≡ text
 
--- what may be appended: whole lines, with no 0, and no more bytes than a batch may have
+-- a batch that may be appended: whole lines, without a 0, and no more bytes than the maximum
 pub record IsBatch (text : List ℕ) : Type 0 where
   pub lines : IsWholeLines text
   pub no_zero : HasNoZero text
@@ -36,15 +36,15 @@ pub record IsBatch (text : List ℕ) : Type 0 where
 abbrev pub text_of : List ℕ → List ℕ
 text_of file = whole_lines (before_zero file)
 
--- how long a file is without the zeros at its end
+-- the length of a file without its trailing zeros
 abbrev pub used_length : List ℕ → ℕ
 used_length [] = 0
 used_length (byte ∷ rest) = if byte == 0 && used_length rest == 0 then 0 else used_length rest + 1
 
--- how many bytes there are after the text, without the zeros at the end
+-- the number of bytes after the text, without trailing zeros
 abbrev pub torn_length : List ℕ → ℕ
 torn_length file = used_length file - length (text_of file)
 
--- what is found on a device: its text, and nothing if there is more after it than one batch can leave
+-- the text found on a device; none if there is more after it than one batch can leave
 abbrev pub found : List ℕ → Option (List ℕ)
 found file = if nat_le (torn_length file) MAX_BATCH then Some (text_of file) else None

@@ -1,11 +1,11 @@
-//! Calls of a device, each followed by a sync.
+//! Device calls, each followed by a sync.
 ghost use Rattle.std.specs.Prelude.{◌≡◌, ◌+◌, ◌≤◌, ◌++◌, length, replicate, take, OnOk};
 ghost use Rattle.gu_journal.specs.Crashes.{LeavesOnly, Only};
 ghost use Rattle.gu_journal.specs.Device.{Cuts, HasCause, Lengthens, Mixes, written};
 
 use crate::{Device, DeviceError};
 
-/// Writes bytes over others, and waits until the disk has them.
+/// Overwrites bytes, and waits until they are on the disk.
 pub fn write_through<D: Device>(device: &mut D, at: usize, bytes: &[u8]) -> Result<(), DeviceError>
     requires within { D.is_honest device.old → at + length bytes.now ≤ length (D.seen device.old) }
     requires synced { D.is_honest device.old → Only (D.seen device.old) (D.may_leave device.old) }
@@ -20,7 +20,7 @@ pub fn write_through<D: Device>(device: &mut D, at: usize, bytes: &[u8]) -> Resu
     device.sync()
 }
 
-/// Adds zeros at the end, and waits until the disk has them.
+/// Adds zeros at the end, and waits until they are on the disk.
 pub fn lengthen_through<D: Device>(device: &mut D, more: usize) -> Result<(), DeviceError>
     ensures before { D.is_honest device.new → D.is_honest device.old }
     ensures lengthened { OnOk result (D.is_honest device.new → D.seen device.new ≡ D.seen device.old ++ replicate more 0) }
@@ -33,7 +33,7 @@ pub fn lengthen_through<D: Device>(device: &mut D, more: usize) -> Result<(), De
     device.sync()
 }
 
-/// Cuts the file to a length, and waits until the disk has it so.
+/// Cuts the file to a length, and waits until that is on the disk.
 pub fn cut_through<D: Device>(device: &mut D, len: usize) -> Result<(), DeviceError>
     requires { D.is_honest device.old → len ≤ length (D.seen device.old) }
     ensures before { D.is_honest device.new → D.is_honest device.old }

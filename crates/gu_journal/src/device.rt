@@ -7,13 +7,13 @@ ghost use Rattle.gu_journal.specs.Device.{Cuts, Follows, HasCause, Lengthens, Mi
 use std::alloc::{AllocError, AllocFailed, Global};
 use thiserror::Error;
 
-/// Why a call of a device failed.
+/// The reason that a device call failed.
 #[derive(Clone, Copy, Debug, PartialEq, Eq, Error)]
 pub enum DeviceError {
-    /// No memory was left.
+    /// An allocation failed.
     #[error("out of memory")]
     Memory,
-    /// The device failed. What it has of what was written since the last sync is unknown.
+    /// The device failed. How much of what was written since the last sync is on the disk is unknown.
     #[error("device fault")]
     Failed,
     /// The device has no room.
@@ -37,10 +37,10 @@ impl<T: Drop> From<AllocFailed<T>> for DeviceError {
     }
 }
 
-/// A file that is read whole, written within its length, lengthened by zeros, cut and synced. The clauses on a call hold if the
-/// device is honest after it. No contract can say that a file of the system is.
+/// A file that is read whole, written within its length, lengthened with zeros, cut and synced. The contract of a call holds if the device
+/// is honest after it. No contract can say that a system file is.
 pub trait Device: Drop {
-    /// The device has answered each call up to now as a disk answers it.
+    /// So far the device has answered each call as a disk does.
     ghost is_honest: { Self → Type 0 };
 
     /// The bytes that a read returns.
@@ -49,16 +49,16 @@ pub trait Device: Drop {
     /// What a crash at this moment may leave.
     ghost may_leave: { Self → List ℕ → Type 0 };
 
-    /// The moment, as a number that never falls.
+    /// The moment, as a number that never decreases.
     ghost moment: { Self → ℕ };
 
-    /// What a crash at some moment from that one on might have left, during a call or between two.
+    /// What a crash at some moment since that one might have left, during a call or between two.
     ghost left_since: { Self → ℕ → List ℕ → Type 0 };
 
-    /// How many calls have failed.
+    /// The number of calls that failed.
     ghost failures: { Self → ℕ };
 
-    /// How many calls found no room.
+    /// The number of calls that found no room.
     ghost shortages: { Self → ℕ };
 
     /// Returns all the bytes.
@@ -70,8 +70,7 @@ pub trait Device: Drop {
         ensures time { is_honest self.new → Elapses moment left_since self.old self.new (may_leave self.new) }
         ensures cause { is_honest self.new → HasCause failures shortages self.old self.new result };
 
-    /// Writes over bytes that are there, and are there after a crash. Until a sync, a crash may leave each byte as it was or as
-    /// it is written, also after an error.
+    /// Overwrites existing bytes. Until a sync, a crash may leave each byte as it was or as written, even after an error.
     fn write_at(&mut self, at: usize, bytes: &[u8]) -> Result<(), DeviceError>
         requires within { is_honest self.old → at + length bytes.now ≤ length (seen self.old) }
         requires within_left { is_honest self.old → (c : List ℕ) → may_leave self.old c → at + length bytes.now ≤ length c }
@@ -81,7 +80,7 @@ pub trait Device: Drop {
         ensures time { is_honest self.new → Elapses moment left_since self.old self.new (may_leave self.new) }
         ensures cause { is_honest self.new → HasCause failures shortages self.old self.new result };
 
-    /// Adds this number of zeros at the end. Until a sync, a crash may leave some of them.
+    /// Adds this number of zeros at the end. Until a sync, a crash may leave only some of them.
     fn lengthen(&mut self, more: usize) -> Result<(), DeviceError>
         ensures before { is_honest self.new → is_honest self.old }
         ensures lengthened { OnOk result (is_honest self.new → seen self.new ≡ seen self.old ++ replicate more 0) }
@@ -98,7 +97,7 @@ pub trait Device: Drop {
         ensures time { is_honest self.new → Elapses moment left_since self.old self.new (may_leave self.new) }
         ensures cause { is_honest self.new → HasCause failures shortages self.old self.new result };
 
-    /// Waits until the disk has all that was written. After `Ok`, a crash leaves what a read returns. An error promises nothing.
+    /// Waits until everything written is on the disk. After `Ok`, a crash leaves what a read returns. An error promises nothing.
     fn sync(&mut self) -> Result<(), DeviceError>
         ensures before { is_honest self.new → is_honest self.old }
         ensures durable { OnOk result (is_honest self.new → Only (seen self.old) (may_leave self.new)) }
@@ -110,6 +109,6 @@ pub trait Device: Drop {
     /// This moment is one of those since an earlier one.
     ghost counts_now: { (file : Self) (t : ℕ) (c : List ℕ) → t ≤ moment file → may_leave file c → left_since file t c };
 
-    /// Since this moment there is no other.
+    /// There is no other moment since this one.
     ghost only_now: { (file : Self) (c : List ℕ) → left_since file (moment file) c → may_leave file c };
 }

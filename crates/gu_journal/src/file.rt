@@ -1,4 +1,4 @@
-//! A device that is a file of the system.
+//! A device that is a system file.
 ghost use Rattle.std.specs.Prelude.{◌≡◌, [], length, vec_len, IfOk};
 
 use crate::{Device, DeviceError};
@@ -7,21 +7,21 @@ use std::fs::OpenFile;
 use std::io;
 use std::io::{ErrorKind, Read, Seek, SeekFrom, Write};
 
-/// How many zeros are written at a time.
+/// The number of zeros written at a time.
 const CHUNK: usize = 1 << 16;
 
-/// A file as a device. No contract says what a file of the system gives or keeps, so it is never honest: the clauses of `Device`
-/// promise nothing of it.
+/// A file as a device. No contract says what a system file returns or keeps, so it is never honest: the clauses of `Device` promise nothing
+/// about it.
 #[derive(Drop)]
 pub struct FileDevice<F> {
     alloc: Global,
     file: F,
-    /// The length has changed since the last sync.
+    /// Whether the length has changed since the last sync.
     is_resized: bool,
     fault: Option<io::Error>,
 }
 
-/// Returns the error of a device for that of a file.
+/// Returns the device error for a file's error.
 fn device_error(error: &io::Error) -> DeviceError {
     match error.kind() {
         ErrorKind::OutOfMemory => DeviceError::Memory,
@@ -33,7 +33,7 @@ fn device_error(error: &io::Error) -> DeviceError {
 }
 
 impl<F: Read + Write + Seek + OpenFile + Drop> FileDevice<F> {
-    /// Takes a file that is open for reading and writing, and that no other program writes to: who opens it locks it.
+    /// Returns a device for a file that is open for reading and writing, and that no other program writes to: whoever opens it locks it.
     pub fn new(alloc: Global, file: F) -> Self {
         FileDevice {
             alloc,
@@ -43,7 +43,7 @@ impl<F: Read + Write + Seek + OpenFile + Drop> FileDevice<F> {
         }
     }
 
-    /// Returns what the system said when a call failed last.
+    /// Returns the system's error from the last call that failed.
     pub fn fault(&self) -> Option<&io::Error> {
         self.fault.as_ref()
     }
@@ -54,7 +54,7 @@ impl<F: Read + Write + Seek + OpenFile + Drop> FileDevice<F> {
         file
     }
 
-    /// Remembers what the system said.
+    /// Stores the system's error.
     fn answer<T>(&mut self, answer: io::Result<T>) -> Result<T, DeviceError> {
         match answer {
             Ok(value) => Ok(value),
@@ -74,7 +74,7 @@ fn read_whole<F: Read + Seek>(file: &mut F, bytes: &mut Vec<u8>) -> io::Result<(
     Ok(())
 }
 
-/// Writes bytes from a place on.
+/// Writes bytes starting at a position.
 fn write_from<F: Write + Seek>(file: &mut F, place: SeekFrom, bytes: &[u8]) -> io::Result<()> {
     file.seek(place)?;
     file.write_all(bytes)

@@ -1,4 +1,4 @@
-//! A log on a device: text, and zeros after it that are on the disk before text is written over them.
+//! A log on a device: text followed by zeros, which are on the disk before text is written over them.
 ghost use Rattle.std.specs.Prelude.{◌≡◌, ◌⊎◌, ◌+◌, ◌≤◌, ◌++◌, [], None, length, IfOk, IfErr};
 ghost use Rattle.gu_journal.specs.declared.device.DeviceError.{DeviceError};
 ghost use Rattle.gu_journal.specs.declared.opening.OpenError.TheVariants.{Damaged, Device};
@@ -6,7 +6,7 @@ ghost use Rattle.gu_journal.specs.declared.log.TheConstants.{STEP};
 ghost use Rattle.gu_journal.specs.Crashes.{LeavesOnly, Only};
 ghost use Rattle.gu_journal.specs.Device.{HasFailed};
 ghost use Rattle.gu_journal.specs.Log.{Finds, IsSettled, LeavesText, found_since};
-ghost use Rattle.gu_journal.specs.Sink.{HasBegun, HasReason};
+ghost use Rattle.gu_journal.specs.Sink.{HasBegun, HasReason, no_refusals};
 ghost use Rattle.gu_journal.specs.Text.{IsBatch, found, torn_length};
 
 use crate::calls::{cut_through, lengthen_through, write_through};
@@ -14,18 +14,18 @@ use crate::opening::{Found, OpenError, prepare, recover};
 use crate::{Device, DeviceError, MAX_BATCH, Sink, SinkError, Stopped};
 use std::alloc::Global;
 
-/// The most zeros that are added at a time, and as many as a long text should have.
+/// The most zeros added at a time, and the step recommended for a long text.
 pub const STEP: usize = 4 << 20;
 
 /// A sink that writes its text to a device. Its text is on the disk, and so are the zeros after it.
 #[derive(Drop)]
 pub struct Log<D: Device> {
     device: D,
-    /// Where the text ends.
+    /// The end of the text.
     at: usize,
-    /// Where the zeros end.
+    /// The end of the zeros.
     len: usize,
-    /// How many zeros are added at a time.
+    /// The number of zeros added at a time.
     step: usize,
     ghost within: { at ≤ len },
     ghost short: { step ≤ STEP },
@@ -36,16 +36,16 @@ pub struct Log<D: Device> {
 #[derive(Drop)]
 pub struct Opened<D: Device> {
     pub log: Log<D>,
-    /// The text that was found, which the log keeps.
+    /// The text found, which the log keeps.
     pub text: Vec<u8>,
-    /// How many bytes of a torn batch were after it.
+    /// The number of bytes of a torn batch after it.
     pub torn: usize,
 }
 
 impl<D: Device> Log<D> {
     ghost use Rattle.gu_journal.specs.Kept.{device_of, kept_by};
 
-    /// Makes a log of an empty device, to which zeros are added in steps of this length.
+    /// Makes a log on an empty device, to which zeros are added in steps of this length.
     pub fn create(mut device: D, step: usize) -> Result<Self, Stopped<D, DeviceError>>
         requires empty { D.is_honest device → D.seen device ≡ [] }
         requires short { step ≤ STEP }
@@ -73,8 +73,8 @@ impl<D: Device> Log<D> {
         }
     }
 
-    /// Opens a device that a crash left at any moment: its text is the whole lines before its first zero, and what a torn batch
-    /// left after them is blanked. A damaged device stays as it is.
+    /// Opens a device in any state that a crash left: its text is the whole lines before its first zero, and what a torn batch left after
+    /// them is blanked. A damaged device is unchanged.
     pub fn open(
         alloc: Global,
         mut device: D,
@@ -115,14 +115,14 @@ impl<D: Device> Log<D> {
         }
     }
 
-    /// Returns how many bytes of text are kept.
+    /// Returns the number of bytes of text kept.
     pub fn text_len(&self) -> usize
         ensures { D.is_honest (device_of self.now) → result ≡ length (kept_by self.now) }
     {
         self.at
     }
 
-    /// Cuts the zeros off, and gives the device back. Its bytes are the text then.
+    /// Cuts the zeros off, and returns the device, whose bytes are then the text.
     pub fn finish(self) -> Result<D, Stopped<D, DeviceError>>
         ensures before { IfOk result (λ device. D.is_honest device → D.is_honest (device_of self)) }
         ensures before_stopped { IfErr result (λ stopped. D.is_honest stopped.place → D.is_honest (device_of self)) }
@@ -155,7 +155,7 @@ impl<D: Device> Log<D> {
             → LeavesOnly D.moment D.left_since self.device log.device (Finds (kept_by self))) }
         ensures any_moment_stopped { IfErr result (λ stopped. D.is_honest stopped.place
             → LeavesOnly D.moment D.left_since self.device stopped.place (Finds (kept_by self))) }
-        ensures reason { IfErr result (λ stopped. D.is_honest stopped.place → HasReason D.failures D.shortages (kept_by self) self.device stopped) }
+        ensures reason { IfErr result (λ stopped. D.is_honest stopped.place → HasReason D.failures no_refusals D.shortages (kept_by self) self.device stopped) }
         ensures counts { IfOk result (λ log. D.is_honest log.device → (D.failures self.device ≤ D.failures log.device) × (D.shortages self.device ≤ D.shortages log.device)) }
     {
         if self.len - self.at >= more {
@@ -193,7 +193,7 @@ impl<D: Device> Log<D> {
             → LeavesOnly D.moment D.left_since self.device log.device (λ c. HasBegun (kept_by self) batch.now (found c))) }
         ensures any_moment_stopped { IfErr result (λ stopped. D.is_honest stopped.place
             → LeavesOnly D.moment D.left_since self.device stopped.place (λ c. HasBegun (kept_by self) batch.now (found c))) }
-        ensures reason { IfErr result (λ stopped. D.is_honest stopped.place → HasReason D.failures D.shortages (kept_by self) self.device stopped) }
+        ensures reason { IfErr result (λ stopped. D.is_honest stopped.place → HasReason D.failures no_refusals D.shortages (kept_by self) self.device stopped) }
     {
         let Log {
             mut device,
@@ -225,6 +225,8 @@ impl<D: Device> Sink for Log<D> {
     ghost left_since = { found_since D.left_since };
 
     ghost failures = { D.failures };
+
+    ghost refusals = { no_refusals };
 
     ghost shortages = { D.shortages };
 

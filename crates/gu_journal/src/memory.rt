@@ -17,7 +17,7 @@ pub enum Call {
     Sync,
 }
 
-/// A device in memory. It tears as the worst device does: until a sync, a crash may leave each part of each call.
+/// A device in memory. It tears as the worst device does: until a sync, a crash may leave any part of each call.
 #[derive(Drop)]
 pub struct Memory {
     alloc: Global,
@@ -28,7 +28,7 @@ pub struct Memory {
 }
 
 impl Memory {
-    /// A device that has these bytes on its disk.
+    /// Returns a device with these bytes on its disk.
     pub fn new(alloc: Global, first: Vec<u8>) -> Result<Self, AllocError>
         ensures { IfOk result (λ device. device.bytes.items ≡ first.items) }
     {
@@ -41,14 +41,14 @@ impl Memory {
         })
     }
 
-    /// Returns what a read returns.
+    /// Returns the bytes that a read returns.
     pub fn bytes(&self) -> &[u8]
         ensures { result.now ≡ self.now.bytes.items }
     {
         &self.bytes
     }
 
-    /// Returns what it had on its disk at first.
+    /// Returns the bytes that were on its disk at first.
     pub fn first(&self) -> &[u8]
         ensures { result.now ≡ self.now.first.items }
     {
@@ -63,7 +63,7 @@ impl Memory {
     }
 }
 
-/// Returns bytes with others in the place of those from a place on.
+/// Returns bytes with those starting at a position replaced by others.
 fn overwritten(alloc: Global, olds: &[u8], at: usize, bytes: &[u8]) -> Result<Vec<u8>, AllocError>
     requires { at + length bytes.now ≤ length olds.now }
     ensures { IfOk result (λ news. news.items ≡ written at bytes.now olds.now) }
@@ -76,7 +76,7 @@ fn overwritten(alloc: Global, olds: &[u8], at: usize, bytes: &[u8]) -> Result<Ve
     Ok(news)
 }
 
-/// Returns bytes with zeros after them.
+/// Returns bytes followed by zeros.
 fn lengthened(alloc: Global, olds: &[u8], more: usize) -> Result<Vec<u8>, AllocError>
     ensures { IfOk result (λ news. news.items ≡ olds.now ++ replicate more 0) }
 {
@@ -85,7 +85,7 @@ fn lengthened(alloc: Global, olds: &[u8], more: usize) -> Result<Vec<u8>, AllocE
     Ok(news)
 }
 
-/// Returns the first bytes.
+/// Returns the first `len` bytes.
 fn shortened(alloc: Global, olds: &[u8], len: usize) -> Result<Vec<u8>, AllocError>
     requires { len ≤ length olds.now }
     ensures { IfOk result (λ news. news.items ≡ take len olds.now) }

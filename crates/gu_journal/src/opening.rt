@@ -1,4 +1,4 @@
-//! A log is made of an empty device, or found on one that a crash left.
+//! Making a log on an empty device, or finding one that a crash left.
 ghost use Rattle.std.specs.Prelude.{◌≡◌, ◌⊎◌, ◌+◌, ◌≤◌, [], List, None, ℕ, length, replicate, option_map, vec_len, IfOk, IfSome, IfErr, IsErrOf, OnOk};
 ghost use Rattle.gu_journal.specs.declared.device.DeviceError.{DeviceError};
 ghost use Rattle.gu_journal.specs.declared.opening.OpenError.TheVariants.{Damaged, Device};
@@ -14,10 +14,10 @@ use crate::{Device, DeviceError, MAX_BATCH};
 use std::alloc::Global;
 use thiserror::Error;
 
-/// Why a device can't be opened as a log.
+/// The reason that a device can't be opened as a log.
 #[derive(Clone, Copy, Debug, PartialEq, Eq, Error)]
 pub enum OpenError {
-    /// A call of the device failed.
+    /// A device call failed.
     #[error("{0}")]
     Device(DeviceError),
     /// There is more after the text than one batch can leave.
@@ -33,18 +33,18 @@ impl From<DeviceError> for OpenError {
     }
 }
 
-/// What is found on a device.
+/// A log found on a device.
 #[derive(Drop)]
 pub struct Found {
     /// The text.
     pub text: Vec<u8>,
-    /// How many bytes of a torn batch are after it.
+    /// The number of bytes of a torn batch after it.
     pub torn: usize,
     /// The length of the device.
     pub len: usize,
 }
 
-/// Returns what is found in these bytes, or nothing if they are damaged.
+/// Returns the log found in these bytes, or None if they are damaged.
 fn found_in(mut bytes: Vec<u8>) -> Option<Found>
     ensures text { option_map (λ it. it.text.items) result ≡ found bytes.items }
     ensures torn { IfSome result (λ it. it.torn ≡ torn_length bytes.items) }
@@ -65,7 +65,7 @@ fn found_in(mut bytes: Vec<u8>) -> Option<Found>
     })
 }
 
-/// Waits until the disk has all that a read returns, and reads it.
+/// Waits until everything that a read returns is on the disk, and returns it.
 fn settled_bytes<D: Device>(alloc: Global, device: &mut D) -> Result<Vec<u8>, DeviceError>
     ensures before { D.is_honest device.new → D.is_honest device.old }
     ensures bytes { IfOk result (λ bytes. D.is_honest device.new → bytes.items ≡ D.seen device.old) }
@@ -78,7 +78,7 @@ fn settled_bytes<D: Device>(alloc: Global, device: &mut D) -> Result<Vec<u8>, De
     device.read(alloc)
 }
 
-/// Writes zeros over the bytes from a place on, and waits until the disk has them.
+/// Writes zeros over the bytes from a position on, and waits until they are on the disk.
 fn blank<D: Device>(
     alloc: Global,
     device: &mut D,
@@ -98,7 +98,7 @@ fn blank<D: Device>(
     write_through(device, at, &blanks)
 }
 
-/// Adds the first zeros to an empty device, and waits until the disk has them.
+/// Adds the first zeros to an empty device, and waits until they are on the disk.
 pub fn prepare<D: Device>(device: &mut D, count: usize) -> Result<(), DeviceError>
     requires { D.is_honest device.old → D.seen device.old ≡ [] }
     ensures before { D.is_honest device.new → D.is_honest device.old }
@@ -112,7 +112,7 @@ pub fn prepare<D: Device>(device: &mut D, count: usize) -> Result<(), DeviceErro
     lengthen_through(device, count)
 }
 
-/// Finds the text of a device, and blanks what is after it. A damaged device stays as it is.
+/// Finds the text on a device, and blanks what is after it. A damaged device is unchanged.
 pub fn recover<D: Device>(alloc: Global, device: &mut D) -> Result<Found, OpenError>
     ensures before { D.is_honest device.new → D.is_honest device.old }
     ensures text { IfOk result (λ it. D.is_honest device.new → Finds it.text.items (D.seen device.old)) }

@@ -1,11 +1,11 @@
-//! Where the text of a file ends, and where its zeros begin.
+//! The end of a file's text, and the start of its trailing zeros.
 ghost use Rattle.std.specs.Prelude.{◌≡◌, ◌≤◌, ◌↔◌, length, take, IsTrue};
 ghost use Rattle.gu_journal.specs.Text.{HasNoZero, IsBatch, IsWholeLines, before_zero, text_of, used_length, whole_lines};
 
 use crate::MAX_BATCH;
 use memchr::memchr;
 
-/// Returns the place of the first zero, or the length.
+/// Returns the position of the first zero, or the length.
 fn zero_at(bytes: &[u8]) -> usize
     ensures within { result ≤ length bytes.now }
     ensures before { take result bytes.now ≡ before_zero bytes.now }
@@ -16,7 +16,7 @@ fn zero_at(bytes: &[u8]) -> usize
     }
 }
 
-/// Returns the place after the last line feed, or 0.
+/// Returns the position after the last line feed, or 0.
 fn lines_end(text: &[u8]) -> usize
     ensures within { result ≤ length text.now }
     ensures lines { take result text.now ≡ whole_lines text.now }
@@ -31,7 +31,7 @@ fn lines_end(text: &[u8]) -> usize
     0
 }
 
-/// Returns where the text of a file ends.
+/// Returns the end of the text of a file.
 pub fn text_end(bytes: &[u8]) -> usize
     ensures within { result ≤ length bytes.now }
     ensures text { take result bytes.now ≡ text_of bytes.now }

@@ -1,4 +1,4 @@
-//! Where the text of a day goes.
+//! The destination of a day's text.
 ghost use Rattle.std.specs.Prelude.{◌≡◌, ◌++◌, ◌≤◌, List, ℕ, Option, Some, length, IfOk, IfErr};
 ghost use Rattle.gu_journal.specs.declared.sink.SinkError.TheVariants.{Failed, Full, Memory};
 ghost use Rattle.gu_journal.specs.Crashes.{LeavesOnly};
@@ -8,13 +8,13 @@ ghost use Rattle.gu_journal.specs.Text.{IsBatch};
 use crate::{DeviceError, Stopped};
 use thiserror::Error;
 
-/// The most bytes that a batch may have.
-pub const MAX_BATCH: usize = 1 << 20;
+/// The most bytes in a batch.
+pub const MAX_BATCH: usize = 1 << 19;
 
-/// Why a sink stopped.
+/// The reason that a sink stopped.
 #[derive(Clone, Copy, Debug, PartialEq, Eq, Error)]
 pub enum SinkError {
-    /// No memory was left.
+    /// An allocation failed.
     #[error("out of memory")]
     Memory,
     /// Its place failed.
@@ -23,6 +23,9 @@ pub enum SinkError {
     /// Its place has no room, or its text is too long.
     #[error("no room")]
     Full,
+    /// Another writer has the place. A file is never fenced.
+    #[error("another writer leads")]
+    Fenced,
 }
 
 impl From<DeviceError> for SinkError {
@@ -37,25 +40,28 @@ impl From<DeviceError> for SinkError {
     }
 }
 
-/// Where the text of a day goes, in batches of whole lines. What it kept is found after a crash at any later moment. The clauses
+/// A sink for the text of a day, in batches of whole lines. The text that it kept is found after a crash at any later moment. The clauses
 /// hold if its place is honest, as for a `Device`.
 pub trait Sink: Sized {
-    /// What it writes to, and what a crash leaves something of.
+    /// The place that it writes to, of which a crash leaves something.
     type Place: Drop;
 
-    /// The place has answered each call up to now as one that keeps what it says it keeps.
+    /// So far the place has kept what it said it keeps.
     ghost is_honest: { Self.Place → Type 0 };
 
-    /// The moment, as a number that never falls.
+    /// The moment, as a number that never decreases.
     ghost moment: { Self.Place → ℕ };
 
-    /// The text that might have been found after a crash at some moment from that one on. `None`: nothing could be found.
+    /// The text that might have been found after a crash at some moment since that one. `None`: nothing could be found.
     ghost left_since: { Self.Place → ℕ → Option (List ℕ) → Type 0 };
 
-    /// How many calls of the place have failed.
+    /// The number of the place's calls that failed.
     ghost failures: { Self.Place → ℕ };
 
-    /// How many calls of the place found no room.
+    /// The number of the place's calls that were refused because another writer has the place.
+    ghost refusals: { Self.Place → ℕ };
+
+    /// The number of the place's calls that found no room.
     ghost shortages: { Self.Place → ℕ };
 
     /// The place that it writes to.
@@ -64,8 +70,8 @@ pub trait Sink: Sized {
     /// The text that it kept.
     ghost kept: { Self → List ℕ };
 
-    /// Appends a batch, and returns once it is kept. After an error nothing more can be appended, since the sink is spent: what
-    /// a crash leaves is what was kept, and whole lines from the beginning of the batch.
+    /// Appends a batch, and returns once it is kept. After an error nothing more can be appended, since the sink is consumed: a crash then
+    /// leaves what was kept, and whole lines from the start of the batch.
     fn append(self, batch: &[u8]) -> Result<Self, Stopped<Self::Place, SinkError>>
         requires { IsBatch batch.now }
 
@@ -73,14 +79,15 @@ pub trait Sink: Sized {
         ensures before_stopped { IfErr result (λ stopped. is_honest stopped.place → is_honest (place self)) }
         ensures kept { IfOk result (λ sink. is_honest (place sink) → kept sink ≡ kept self ++ batch.now) }
 
-        // A crash at any moment of the call leaves what was kept, and a beginning of the batch.
+        // A crash at any moment of the call leaves what was kept, and a prefix of the batch.
         ensures any_moment { IfOk result (λ sink. is_honest (place sink)
             → LeavesOnly moment left_since (place self) (place sink) (HasBegun (kept self) batch.now)) }
         ensures any_moment_stopped { IfErr result (λ stopped. is_honest stopped.place
             → LeavesOnly moment left_since (place self) stopped.place (HasBegun (kept self) batch.now)) }
 
-        // It doesn't give up by itself.
-        ensures reason { IfErr result (λ stopped. is_honest stopped.place → HasReason failures shortages (kept self) (place self) stopped) };
+        // It reports `Failed`, `Full` or `Fenced` only with cause.
+        ensures reason { IfErr result (λ stopped. is_honest stopped.place
+            → HasReason failures refusals shortages (kept self) (place self) stopped) };
 
     /// What it kept is found after a crash at this moment.
     ghost finds_kept: { (sink : Self) (outcome : Option (List ℕ)) → is_honest (place sink)

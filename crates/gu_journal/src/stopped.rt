@@ -1,7 +1,7 @@
-//! What stopped.
+//! What is left after an error.
 ghost use Rattle.std.specs.Prelude.{◌≡◌};
 
-/// What is left after an error: the error, and the place to which nothing more is written.
+/// What is left after an error: the error, and the place, to which nothing more is written.
 #[derive(Drop)]
 pub struct Stopped<P, E> {
     place: P,
@@ -9,7 +9,7 @@ pub struct Stopped<P, E> {
 }
 
 impl<P, E> Stopped<P, E> {
-    /// Stops at a place. No call gives the place back.
+    /// Returns the place and the error at which something stopped. No call returns the place by value.
     pub fn new(place: P, error: E) -> Self
         ensures place { result.place ≡ place }
         ensures error { result.error ≡ error }
@@ -17,7 +17,7 @@ impl<P, E> Stopped<P, E> {
         Stopped { place, error }
     }
 
-    /// Returns the place, to look at.
+    /// Returns a reference to the place.
     pub fn place(&self) -> &P
         ensures { result.now ≡ self.now.place }
     {
@@ -26,7 +26,7 @@ impl<P, E> Stopped<P, E> {
 }
 
 impl<P, E: Copy> Stopped<P, E> {
-    /// Returns why it stopped.
+    /// Returns the error.
     pub fn error(&self) -> E
         ensures { result ≡ self.now.error }
     {

@@ -1,4 +1,4 @@
--- What a chain says of its entries: how many they are, the day that is open after them, and a digest of 32 bytes.
+-- What a chain says about its entries: their number, the day that is open after them, and a digest of 32 bytes.
 use Rattle.std.proofs.Common.{◌≡◌, ◌+◌, ◌*◌, ◌++◌, ◌∷◌, [], ◌∙◌, ℕ, zero, suc, List, Option, None, Some, length, refl, sym, ap, append-nil, length-append, arith}
 use Rattle.std.proofs.Math.Logic.{∥∥₁_elim, ∥∥₁_map}
 use Rattle.std.specs.Coded.{Coded-set, coded_list, coded_ℕ}
@@ -14,7 +14,7 @@ use Rattle.gu_script.specs.Journals.{open_after}
 use Rattle.gu_keeping.specs.Chains.{IsChainOf, IsCutTo, chain_after, chain_after_all, empty_chain, open_from, shown_after}
 use Rattle.gu_keeping.specs.declared.chain.Chain.{Chain}
 
--- chains that agree in their parts are one
+-- chains with equal parts are equal
 pub same_chain : (a b : Chain) → a.count ≡ b.count → a.today ≡ b.today → a.digest ≡ b.digest → a ≡ b
 same_chain a b counts days digests = λ i. record { count = counts i; today = days i; digest = digests i }
 
@@ -125,6 +125,6 @@ today_of chain entries of =
 pub long_of : (chain : Chain) (entries : List Entry) → IsChainOf chain entries → length chain.digest ≡ 32
 long_of chain entries of = ∥∥₁_elim of (Coded-set coded_ℕ (length chain.digest) 32) (cut_long chain entries)
 
--- with one batch more
+-- with one more batch
 pub chain_more : (chain : Chain) (entries more : List Entry) → IsChainOf chain entries → IsChainOf (chain_after chain more) (entries ++ more)
 chain_more chain entries more of = ∥∥₁_map of (cut_more chain entries more)

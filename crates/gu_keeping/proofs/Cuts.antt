@@ -1,4 +1,4 @@
--- Lines that rows make, and a beginning of them that ends with a line.
+-- Lines made from rows, and a prefix of them that ends with a line.
 use Rattle.std.proofs.Common.{◌≡◌, ◌≢◌, ◌++◌, ◌∷◌, [], ◌∙◌, ◌||◌, ◌==◌, ℕ, suc, Bool, true, false, List, ◌⊎◌, inl, inr, map, take, get_or, refl, sym, ap, subst, append_assoc, arith, if◌then◌else◌}
 use Rattle.std.specs.Prelude.{not}
 use Rattle.std.specs.List.{AllByRecursion, flat_map}
@@ -12,7 +12,7 @@ use Rattle.gu_text.specs.Texts.{line_of, word}
 use Rattle.gu_text.proofs.LineFeedLaws.{leaves_after, leaves_all, leaves_on, lines-parted}
 use Rattle.gu_text.proofs.ReadBackLemmas.{line_of-joined, lines_of_rows}
 
--- ---- a row has no LF but at its end
+-- ---- a row has an LF only at its end
 
 none_of : (p q r : Bool) → not (p || q || r) ≡ true → q ≡ false
 none_of true q r h = cc
@@ -67,13 +67,13 @@ rows_leave (row ∷ rows) all =
     let named : LeavesOpen (line_of row ++ rest) (joined row ∷ []) rest = subst (λ (l : List ℕ). LeavesOpen (line_of row ++ rest) (l ∷ []) rest) (no_return row all.0) open_first in
     leaves_on (line_of row ++ rest) rest [] (joined row ∷ []) (map joined rows) named (rows_leave rows all.1)
 
--- ---- a beginning that ends with a line
+-- ---- a prefix that ends with a line
 
 bool_cases : (b : Bool) → (b ≡ true) ⊎ (b ≡ false)
 bool_cases true = inl refl
 bool_cases false = inr refl
 
--- of whole lines, what comes after the first byte is whole lines too
+-- in whole lines, the bytes after the first are whole lines too
 pub rest_whole : (b : ℕ) (bytes : List ℕ) → IsWholeLines (b ∷ bytes) → (ends_line (b ∷ bytes) ≡ true) × IsWholeLines bytes
 rest_whole b bytes whole = elim (bool_cases (ends_line (b ∷ bytes))) [
   | inl ends ↦
@@ -85,11 +85,11 @@ rest_whole b bytes whole = elim (bool_cases (ends_line (b ∷ bytes))) [
       absurd (cc)
 ]
 
--- where the first byte ends no line, a later one does
+-- if the first byte ends no line, a later one does
 ends_later : (b : ℕ) (bytes : List ℕ) → b ≢ 10 → ends_line (b ∷ bytes) ≡ true → ends_line bytes ≡ true
 ends_later b bytes other ends = ap (λ (t : Bool). t || ends_line bytes) (sym (ne_eqb b 10 other)) ∙ ends
 
--- a beginning of a line and what comes after it has nothing, or all of the line
+-- a prefix of a line and more has none of the line, or all of it
 pub record HasLine (front tail begun rest : List ℕ) : Type 0 where
   pub more : List ℕ
   pub begun_is : begun ≡ front ++ 10 ∷ more
@@ -127,7 +127,7 @@ cut_at_line (f ∷ front) tail (b ∷ bytes) rest none whole same =
       })
     ]
 
--- a beginning of rows that ends with a line is the first rows
+-- a prefix of rows that ends with a line is the first rows
 pub record IsFirstRows (rows : List (List (List ℕ))) (begun : List ℕ) : Type 0 where
   pub count : ℕ
   pub begun_is : begun ≡ flat_map line_of (take count rows)

@@ -34,7 +34,7 @@ take-said_after today zero xs = refl
 take-said_after today (suc n) [] = refl
 take-said_after today (suc n) (x ∷ xs) = ap (λ (said : List Line). entry_said today x ∷ said) (take-said_after (open_after today x) n xs)
 
--- rows that say more entries, after a text that says a day
+-- rows that say more entries, after a text that records a day
 rows_after_day : (before more : List Entry) (today : Option Day) (kept : List ℕ) (rows : List (List (List ℕ))) → SaysDay kept before → today ≡ open_from None before
     → Tell rows (said_after today more) → SaysDay (kept ++ flat_map line_of rows) (before ++ more)
 rows_after_day before more today kept rows day open_is tell =

@@ -1,4 +1,4 @@
--- A line is the digest of one batch of a history at most.
+-- A line is the digest of at most one batch of a history.
 use Rattle.std.proofs.Common.{◌≡◌, ◌≢◌, ◌≤◌, ◌<◌, ◌^◌, ◌+◌, ◌-◌, ◌++◌, ◌∷◌, [], ◌∙◌, inl, inr, ℕ, Bool, true, false, List, Some, IsTrue, length, take, drop, refl, sym, ap, subst, append_assoc, length-append, take-append-drop, arith}
 use Rattle.std.specs.Prelude.{not, slice_get}
 use Rattle.std.specs.Fmt.{decimal}
@@ -43,7 +43,7 @@ between_more history after count entry later within is =
     ap (λ (l : List Entry). drop after l) (next_taken history count entry is)
     ∙ drop-append-le after (take count history) (entry ∷ []) (omega (arith, length-take_within count history within, later))
 
--- they come after those of the chain
+-- they follow those of the chain
 between_parts : (history : List Entry) (after count : ℕ) → after ≤ count → take after history ++ entries_between history after count ≡ take count history
 between_parts history after count later =
     ap (λ (l : List Entry). l ++ entries_between history after count) (sym (take-take after count history later)) ∙ take-append-drop after (take count history)
@@ -78,7 +78,7 @@ to_long history chain count long = chain_long chain (entries_between history cha
 line_parts : (chain : Chain) → digest_line chain ≡ 35 ∷ 32 ∷ (decimal chain.count ++ (32 ∷ encode_lower chain.digest))
 line_parts chain = ap (λ (t : List ℕ). 35 ∷ 32 ∷ t) (append_assoc (decimal chain.count) (32 ∷ []) (encode_lower chain.digest))
 
--- a comment with a digest is so long
+-- the length of a comment with a digest
 pub line_length : (chain : Chain) (line : List ℕ) → length chain.digest ≡ 32 → line ≡ digest_line chain → length line ≡ length (decimal chain.count) + 67
 line_length chain line long is =
     omega (
@@ -89,11 +89,11 @@ line_length chain line long is =
       long,
     )
 
--- and no shorter
+-- it is at least 68
 pub line_long : (chain : Chain) (line : List ℕ) → length chain.digest ≡ 32 → chain.count < 2 ^ 64 → line ≡ digest_line chain → 68 ≤ length line
 line_long chain line long few is = omega (arith, line_length chain line long is, decimal_nonempty chain.count few)
 
--- its number is here
+-- its number is at this place
 pub line_number : (chain : Chain) (line : List ℕ) → length chain.digest ≡ 32 → line ≡ digest_line chain → take (length line - 65 - 2) (drop 2 line) ≡ decimal chain.count
 line_number chain line long is =
     let rest = 32 ∷ encode_lower chain.digest in
@@ -102,7 +102,7 @@ line_number chain line long is =
     ∙ ap (λ (t : List ℕ). take (length (decimal chain.count)) (drop 2 t)) (is ∙ line_parts chain)
     ∙ take_at (decimal chain.count) rest (length (decimal chain.count)) refl
 
--- a line is the digest after one number of entries at most
+-- a line is the digest after at most one number of entries
 pub same_count : (history : List Entry) (chain : Chain) (m n : ℕ) → length chain.digest ≡ 32 → length history < 2 ^ 64
     → chain.count ≤ m → m ≤ length history → chain.count ≤ n → n ≤ length history
     → digest_line (chain_to history chain m) ≡ digest_line (chain_to history chain n) → m ≡ n
@@ -115,7 +115,7 @@ same_count history chain m n long few m_later m_within n_later n_within same =
     sym (line_number a (digest_line a) (to_long history chain m long) refl) ∙ line_number b (digest_line a) (to_long history chain n long) same in
     sym a_count ∙ decimal_same a.count b.count (omega (arith, a_count, m_within, few)) (omega (arith, b_count, n_within, few)) texts ∙ b_count
 
--- no line is that of a number, if the number that was read in it isn't that, or isn't one of the history
+-- no line is that of a number, if the number read in it isn't that, or isn't one of the history
 pub no_number : (history : List Entry) (chain : Chain) (line : List ℕ) (number n : ℕ) → length chain.digest ≡ 32 → length history < 2 ^ 64
     → ((c : Chain) → length c.digest ≡ 32 → c.count < 2 ^ 64 → line ≡ digest_line c → number ≡ c.count)
     → chain.count ≤ n → n ≤ length history → line ≡ digest_line (chain_to history chain n) → number ≡ n
@@ -123,13 +123,13 @@ no_number history chain line number n long few reads later within is =
     let count = to_count history chain n later within in
     reads (chain_to history chain n) (to_long history chain n long) (omega (arith, count, within, few)) is ∙ count
 
--- ---- one line more
+-- ---- one more line
 
 both_tests : (b : Bool) → IsTrue b → IsTrue (not b) → ⊥
 both_tests true is isnt = cc
 both_tests false is isnt = cc
 
--- a line that has no digest changes nothing
+-- a line without a digest changes nothing
 pub agree_silent : (history : List Entry) (chain last : Chain) (line : List ℕ) (lines : List (List ℕ)) → is_digest_line line ≡ false
     → AgreeTo history chain lines last → AgreeTo history chain (line ∷ lines) last
 agree_silent history chain last line lines none agree = inl (ap not none, agree)
@@ -171,7 +171,7 @@ pub no_digest : (history : List Entry) (chain last : Chain) (line : List ℕ) (l
 no_digest history chain last line lines is none (inl agree) = both_tests (is_digest_line line) is agree.0
 no_digest history chain last line lines is none (inr digest) = let found = digest.1 in none found.0 found.1 found.2 found.3
 
--- the first line that is ended
+-- the first ended line
 pub ended_first : (rest front behind line : List ℕ) → IsParted rest front behind → line ≡ strip_carriage_return front → ended_lines rest ≡ line ∷ ended_lines behind
 ended_first rest front behind line is stripped =
     ap ended_lines is.parts ∙ ended_lines-parted front behind is.first ∙ ap (λ (l : List ℕ). l ∷ ended_lines behind) (sym stripped)
@@ -180,7 +180,7 @@ ended_first rest front behind line is stripped =
 pub none_ended : (history : List Entry) (chain last : Chain) (rest : List ℕ) → HasNoLineFeed rest → last ≡ chain_to history chain (length history) → AgreeTo history chain (ended_lines rest) last
 none_ended history chain last rest none is = subst (λ (ls : List (List ℕ)). AgreeTo history chain ls last) (sym (ended_lines-alone rest none)) is
 
--- what is left of a history is one batch more
+-- the rest of a history is one more batch
 pub rest_chain : (history : List Entry) (chain : Chain) → IsChainOf chain (take chain.count history) → chain.count ≤ length history → IsChainOf (chain_to history chain (length history)) history
 rest_chain history chain of within =
     subst (λ (l : List Entry). IsChainOf (chain_to history chain (length history)) l) (take_all (length history) history (omega arith))

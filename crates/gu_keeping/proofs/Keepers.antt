@@ -1,4 +1,4 @@
--- What a keeper has of the entries that were taken from the desk.
+-- The entries that a keeper took from the desk.
 use Rattle.std.proofs.Common.{◌≡◌, ◌≤◌, ◌+◌, ◌++◌, ◌∙◌, ℕ, List, length, take, drop, sym, ap, subst, append_assoc, length-append, take-append-drop, arith}
 use Rattle.std.proofs.lemmas.List.{take-append-le, take_all, take_at}
 use Rattle.gu_terms.specs.declared.entry.Entry.{Entry}
@@ -35,7 +35,7 @@ parts_more chain front waiting more parts chained =
     ∙ append_assoc (kept_entries chain front) waiting more
     ∙ ap (λ (l : List Entry). l ++ (waiting ++ more)) (sym (kept_stays chain front waiting more parts chained))
 
--- the first ones that wait are kept
+-- the first waiting ones are kept
 pub kept_on : (chain : Chain) (front waiting : List Entry) (n : ℕ) → front ≡ kept_entries chain front ++ waiting → IsChainOf chain (kept_entries chain front)
     → kept_entries (chain_after chain (take n waiting)) front ≡ kept_entries chain front ++ take n waiting
 kept_on chain front waiting n parts chained =

@@ -24,12 +24,12 @@ use Rattle.gu_keeping.proofs.ChainLemmas.{all_more, chain_count, same_chain}
 
 -- ---- links
 
--- one entry more
+-- one more entry
 open_from-push : (today : Option Day) (entries : List Entry) (entry : Entry) → open_from today (entries ++ entry ∷ []) ≡ open_after (open_from today entries) entry
 open_from-push today [] entry = refl
 open_from-push today (first ∷ later) entry = open_from-push (open_after today first) later entry
 
--- the text that is shown of one entry more
+-- the text shown for one more entry
 shown_after-push : (count : ℕ) (entries : List Entry) (entry : Entry)
     → shown_after count (entries ++ entry ∷ []) ≡ shown_after count entries ++ shown_text (count + length entries + 1) entry
 shown_after-push count [] entry =
@@ -70,7 +70,7 @@ ended_some chain (entry ∷ later) link ended of some counts days digests =
 
 -- ---- rows
 
--- the rows of one entry more
+-- the rows of one more entry
 rows_more : (today : Option Day) (origins : List (Option Origin)) (entries : List Entry) (rows last : List (List (List ℕ))) (origin : Option Origin) (entry : Entry)
     → AreRows today origins entries rows → AreEntryRows (open_from today entries) origin entry last
     → AreRows today (origins ++ origin ∷ []) (entries ++ entry ∷ []) (rows ++ last)
@@ -88,7 +88,7 @@ rows_more today (o ∷ origins) (e ∷ entries) rows last origin entry are more 
 
 -- ---- batches
 
--- one entry more
+-- one more entry
 entry_added : (chain : Chain) (origins : List (Option Origin)) (entries : List Entry) (origin : Option Origin) (entry : Entry) (old new : Batch)
     → IsBatchOf chain origins entries old → AddsEntry origin entry old new → IsBatchOf chain (origins ++ origin ∷ []) (entries ++ entry ∷ []) new
 entry_added chain origins entries origin entry old new of adds = record {
@@ -113,7 +113,7 @@ same_batch chain origins entries old new of text link = record {
   link = subst (IsLinkOf chain entries) (sym link) of.link;
 }
 
--- the text of a batch that was ended
+-- the text of an ended batch
 pub batch_ended : (chain : Chain) (origins : List (Option Origin)) (entries : List Entry) (batch : Batch) (ended : Chain) (text : List ℕ)
     → IsBatchOf chain origins entries batch → ended ≡ chain_after chain entries → text ≡ batch.text.items ++ line_of (digest_row ended)
     → IsBatchText chain origins entries text
@@ -128,7 +128,7 @@ batch_ended chain origins entries batch ended text of is text_is = record {
       ∙ sym (flat_map-append line_of of.rows (digest_row (chain_after chain entries) ∷ []));
 }
 
--- ---- the first ones of a list, one more
+-- ---- the first elements of a list, and one more
 
 map_some-append : (xs ys : List Origin) → map Some (xs ++ ys) ≡ map Some xs ++ map Some ys
 map_some-append [] ys = refl
@@ -166,7 +166,7 @@ unknown_added chain entries entry old new of adds =
     subst (λ (l : List (Option Origin)). IsBatchOf chain l (entries ++ entry ∷ []) new) (sym (unknown-append entries (entry ∷ [])))
     (entry_added chain (unknown_origins entries) entries None entry old new of adds)
 
--- ---- the batch of the first entries that wait
+-- ---- the batch of the first waiting entries
 
 pub next_batch : (chain : Chain) (origins : List Origin) (waiting : List Entry) (count : ℕ) (text : List ℕ)
     → count ≤ length waiting → count ≤ length origins → 1 ≤ count
@@ -181,7 +181,7 @@ next_batch chain origins waiting count text in_waiting in_origins some batch =
 
 -- ---- openings
 
--- one batch more
+-- one more batch
 batches_more : (chain : Chain) (parts : List (List Entry)) (part : List Entry) (text last : List ℕ) → AreBatches chain parts text
     → IsBatchText (chain_after_all chain parts) (unknown_origins part) part last → AreBatches chain (parts ++ part ∷ []) (text ++ last)
 batches_more chain [] part text last are batch = (last, [], batch, refl, ap (λ (t : List ℕ). t ++ last) are ∙ sym (append-nil last))
@@ -218,7 +218,7 @@ opening_chain entries chain text opening =
     let cut : IsCutTo chain entries = record { batches = opening.parts; all = opening.all; chain_is = opening.chain_is } in
     ∣ cut ∣₁
 
--- ---- the first entries of a history, one more
+-- ---- the first entries of a history, and one more
 
 pub next_taken : (history : List Entry) (place : ℕ) (entry : Entry) → slice_get history place ≡ Some entry → take (place + 1) history ≡ take place history ++ entry ∷ []
 next_taken history place entry is =
@@ -237,7 +237,7 @@ without_feed words items left len long is rest =
 
 -- ---- a batch of a history's entries
 
--- the entries of a batch that was ended after a place of a history
+-- the entries of a batch that was ended at an index of a history
 pub part_count : (chain ended : Chain) (entries : List Entry) (place : ℕ) → chain.count + length entries ≡ place → ended ≡ chain_after chain entries → ended.count ≡ place
 part_count chain ended entries place count is = omega (arith, ap (λ (c : Chain). c.count) is, chain_count chain entries, count)
 

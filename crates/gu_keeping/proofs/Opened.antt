@@ -1,4 +1,4 @@
--- Texts that are written to a sink, one after another.
+-- Texts written to a sink, one after another.
 use Rattle.std.proofs.Common.{◌≡◌, ◌++◌, ◌∷◌, [], ◌∙◌, ◌||◌, ◌==◌, inl, inr, ⊎_elim, ℕ, Bool, true, false, List, Option, Some, refl, sym, ap, subst, append_assoc, arith, if◌then◌else◌}
 use Rattle.gu_journal.specs.Crashes.{LeavesOnly}
 use Rattle.gu_journal.specs.Sink.{HasBegun}
@@ -27,7 +27,7 @@ whole_append (x ∷ xs) ys first second =
     let ends : ends_line (x ∷ (xs ++ ys)) ≡ true = ends_append (x ∷ xs) ys parts.0 in
     ap (λ (t : Bool). if t then x ∷ whole_lines (xs ++ ys) else []) ends ∙ ap (λ (l : List ℕ). x ∷ l) (whole_append xs ys parts.1 second)
 
--- ---- beginnings
+-- ---- prefixes
 
 pub begun_more : (kept text more : List ℕ) (outcome : Option (List ℕ)) → HasBegun kept text outcome → HasBegun kept (text ++ more) outcome
 begun_more kept text more outcome begun = record {

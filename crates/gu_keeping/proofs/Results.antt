@@ -1,4 +1,4 @@
--- What holds where a call succeeded, or where a sink stopped.
+-- What holds if a call succeeded, or if a sink stopped.
 use Rattle.std.proofs.Common.{Result, Ok, Err, OnOk, Option, Some, None, ◌≡◌, refl}
 use Rattle.std.specs.Prelude.{MatchOption}
 use Rattle.gu_journal.specs.declared.sink.SinkError.{SinkError}
@@ -24,7 +24,7 @@ both_stopped (Missing back) A B C a b implies = tt
 both_stopped (TooLong back) A B C a b implies = tt
 both_stopped (Failed stopped) A B C a b implies = implies stopped a b
 
--- where there is nothing
+-- if there is nothing
 pub if_none : {X : Type 0} (option : Option X) (A : Type 0) (B : X → Type 0) → MatchOption option A B → ((x : X) → option ≡ Some x → ⊥) → A
 if_none None A B a none = a
 if_none (Some x) A B b none = absurd (none x refl)

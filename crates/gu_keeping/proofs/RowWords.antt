@@ -35,7 +35,7 @@ use Rattle.gu_keeping.proofs.Tells.{Tell, silent_first, tell-append}
 
 -- ---- words
 
--- a byte above the blank may be in a word
+-- a byte above the space may be in a word
 high : (b : ℕ) → 33 ≤ b → is_word_byte b ≡ true
 high b above =
     let blank = ne_eqb b 32 (λ e. absurd (omega (arith, e, above))) in
@@ -62,20 +62,20 @@ digit_bytes : (ds : List ℕ) → AllDigits 10 ds → AllByRecursion IsWordByte 
 digit_bytes [] all = tt
 digit_bytes (d ∷ ds) all = (high d (let range = digit_from_value d all.0 in omega (arith, range)), digit_bytes ds all.1)
 
--- a number of 64 bits is a word of twenty bytes at most
+-- a number of 64 bits is a word of at most twenty bytes
 decimal_word : (n : ℕ) → n < 2 ^ 64 → IsWord (decimal n) × (length (decimal n) ≤ 20)
 decimal_word n small =
     let digits : AllDigits 10 (decimal n) = digits_decimal own n small in
     let some = decimal_nonempty n small in
     (word_of_bytes (decimal n) (omega (arith, some)) (digit_bytes (decimal n) digits), length-decimal-le 20 n (omega arith) (omega (arith, small)) small)
 
--- two numbers that are written alike are the same
+-- two numbers with the same text are the same
 pub decimal_same : (m n : ℕ) → m < 2 ^ 64 → n < 2 ^ 64 → decimal m ≡ decimal n → m ≡ n
 decimal_same m n m_small n_small same = sym (digits_value-decimal own m m_small) ∙ ap (digits_value 10) same ∙ digits_value-decimal own n n_small
 
 -- ---- names
 
--- a group of this name
+-- a group with this name
 abbrev group_of : List ℕ → Group
 group_of name = record { name = name }
 
@@ -130,7 +130,7 @@ stamp_word moment text writes =
 
 -- ---- digests in hexadecimal digits
 
--- a byte at a place of word bytes is one; past them there is a 0
+-- a byte at an index of word bytes is one; beyond them it is 0
 byte_at : (bytes : List ℕ) → AllByRecursion IsWordByte bytes → (k : ℕ) → IsWordByte (slice_index bytes k)
 byte_at [] all zero = refl
 byte_at [] all (suc k) = refl
@@ -149,7 +149,7 @@ hex_bytes (b ∷ bytes) =
 
 -- ---- comments
 
--- the bytes of words, and one more for each
+-- the total length of words, plus one for each
 abbrev size_of : List (List ℕ) → ℕ
 size_of [] = 0
 size_of (w ∷ ws) = length w + 1 + size_of ws
@@ -225,7 +225,7 @@ entry_rows_tell today origin entry rows are typed is =
     subst (λ (r : List (List (List ℕ))). Tell r (entry_said today entry ∷ [])) (sym are.rows_are)
     (silent_first are.comments (entry_rows today entry) (entry_said today entry ∷ []) (origins_are_silent origin are.comments are.says typed) (entry_tells today entry is))
 
--- and those of entries say them
+-- the rows of several entries say them
 pub rows_tell : (today : Option Day) (origins : List (Option Origin)) (entries : List Entry) (rows : List (List (List ℕ)))
     → AreRows today origins entries rows → AllByRecursion IsWritableOrigin origins → AllByRecursion IsWritableEntry entries
     → Tell rows (said_after today entries)
@@ -239,7 +239,7 @@ rows_tell today (origin ∷ origins) (entry ∷ entries) rows are typed all =
     (entry_rows_tell today origin entry are.0 are.2 typed.0 all.0)
     (rows_tell next origins entries are.1 are.3 typed.1 all.1))
 
--- and so do those of a batch
+-- so do the rows of a batch
 pub batch_rows_tell : (today : Option Day) (origins : List (Option Origin)) (entries : List Entry) (rows : List (List (List ℕ))) (last : Chain)
     → AreRows today origins entries rows → AllByRecursion IsWritableOrigin origins → AllByRecursion IsWritableEntry entries
     → length last.digest ≡ 32 → last.count < 2 ^ 64 → Tell (rows ++ digest_row last ∷ []) (said_after today entries)

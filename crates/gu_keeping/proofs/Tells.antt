@@ -1,4 +1,4 @@
--- Rows of words that say lines of a script, one after another.
+-- Rows of words that say script lines, one after another.
 use Rattle.std.proofs.Common.{◌≤◌, ◌++◌, ◌∷◌, [], ℕ, zero, suc, List, ◌⊎◌, inl, inr, IsTrue, length, map, take, arith}
 use Rattle.std.specs.List.{AllByRecursion}
 use Rattle.gu_text.specs.Lines.{is_silent}
@@ -22,7 +22,7 @@ tell_are_words (row ∷ rows) [] all = (all.0.are, tell_are_words rows [] all.1)
 tell_are_words (row ∷ rows) (said ∷ others) (inl (silent, all)) = (silent.are, tell_are_words rows (said ∷ others) all)
 tell_are_words (row ∷ rows) (said ∷ others) (inr (says, all)) = (says.are, tell_are_words rows others all)
 
--- and say that
+-- and they say that
 pub tell_say : (rows : List (List (List ℕ))) (said : List Line) → Tell rows said → SayAll (map joined rows) said
 tell_say [] [] all = tt
 tell_say [] (said ∷ others) all = all

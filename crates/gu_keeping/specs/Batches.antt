@@ -1,5 +1,4 @@
--- A batch of a day's text: the lines of entries, each entry's after a comment that says who made it and when, and at the end a comment
--- with the digest.
+-- A batch of a day's text: the lines of entries, each after a comment that says who made it and when, and a final comment with the digest.
 use Rattle.std.specs.Prelude.{◌≡◌, ℕ, List, [], ◌∷◌, ◌++◌, codes, Option, Some, None}
 use Rattle.std.specs.Fmt.{decimal}
 use Rattle.std.specs.List.{flat_map}
@@ -19,24 +18,24 @@ abbrev pub message_words : Option FirmMessage → List (List ℕ)
 message_words None = []
 message_words (Some message) = message.firm.name ∷ decimal message.connection ∷ decimal message.number ∷ []
 
--- a comment, as words, that says when an entry was made, and by which message of a firm, if it was one
+-- a comment, as words, that says when an entry was made, and by which message of a firm, if any
 pub record IsOriginRow (origin : Origin) (row : List (List ℕ)) : Type 0 where
   pub stamp : List ℕ
   pub writes : WritesMoment origin.moment stamp
   pub row_is : row ≡ codes "#" ∷ stamp ∷ message_words origin.message
 
--- the comment before an entry's lines; there is none where its origin isn't known
+-- the comment before an entry's lines; none if its origin isn't known
 abbrev pub AreOriginRows : Option Origin → List (List (List ℕ)) → Type 0
 AreOriginRows None rows = rows ≡ []
 AreOriginRows (Some origin) rows = (row : List (List ℕ)) × IsOriginRow origin row × (rows ≡ row ∷ [])
 
--- the lines of an entry after its comment, as words, where this day is open before it
+-- the lines of an entry after its comment, as words, given the day that is open before it
 pub record AreEntryRows (today : Option Day) (origin : Option Origin) (entry : Entry) (rows : List (List (List ℕ))) : Type 0 where
   pub comments : List (List (List ℕ))
   pub says : AreOriginRows origin comments
   pub rows_are : rows ≡ comments ++ entry_rows today entry
 
--- the lines of entries, each entry's after its comment
+-- the lines of entries, each entry's after its comment, given the day that is open before them
 abbrev pub AreRows : Option Day → List (Option Origin) → List Entry → List (List (List ℕ)) → Type 0
 AreRows today [] [] rows = rows ≡ []
 AreRows today (origin ∷ origins) (entry ∷ entries) rows =
@@ -44,11 +43,11 @@ AreRows today (origin ∷ origins) (entry ∷ entries) rows =
     × AreEntryRows today origin entry first × AreRows (open_after today entry) origins entries others × (rows ≡ first ++ others)
 AreRows today origins entries rows = ⊥
 
--- the comment with a digest: how many entries there are, and the digest of what they show, batch by batch
+-- the comment with a digest: the number of entries, and the digest of what they show, batch by batch
 abbrev pub digest_row : Chain → List (List ℕ)
 digest_row chain = codes "#" ∷ decimal chain.count ∷ encode_lower chain.digest ∷ []
 
--- a batch of these entries, which come after those of a chain
+-- a batch of these entries, following those of a chain
 pub record IsBatchText (chain : Chain) (origins : List (Option Origin)) (entries : List Entry) (text : List ℕ) : Type 0 where
   pub rows : List (List (List ℕ))
   pub are : AreRows chain.today origins entries rows

@@ -1,4 +1,4 @@
--- A day's entries in short: how many there are, the day that is open after them, and a digest of what they show.
+-- A summary of a day's entries: their number, the day that is open after them, and a digest of what they show.
 use Rattle.std.specs.Prelude.{◌≡◌, ℕ, ◌+◌, List, [], ◌∷◌, ◌++◌, Option, None, codes, length, replicate}
 use Rattle.std.specs.Fmt.{decimal}
 use Rattle.std.specs.List.{flat_map}
@@ -13,7 +13,7 @@ use Rattle.gu_text.specs.WrittenCommands.{sweep_rows}
 use Rattle.gu_script.specs.Journals.{open_after}
 use Rattle.gu_keeping.specs.declared.chain.Chain.{Chain}
 
--- what is shown of a sweep: `number SWEPT group lots`, and then its lines
+-- what is shown of a sweep: `number SWEPT group lots`, followed by its lines
 abbrev pub swept_text : ℕ → SweepEntry → List ℕ
 swept_text number sweep =
     line_of (decimal number ∷ codes "SWEPT" ∷ sweep.group.name ∷ decimal sweep.lots ∷ []) ++ flat_map line_of (sweep_rows sweep)
@@ -23,12 +23,12 @@ abbrev pub shown_text : ℕ → Entry → List ℕ
 shown_text number (Asked command reply) = reply_text number reply
 shown_text number (Swept sweep) = swept_text number sweep
 
--- what is shown of entries that come after so many others, one after another
+-- what is shown of entries that follow this many others, one after another
 abbrev pub shown_after : ℕ → List Entry → List ℕ
 shown_after count [] = []
 shown_after count (entry ∷ later) = shown_text (count + 1) entry ++ shown_after (count + 1) later
 
--- the day that is open after entries, where this day is open before them
+-- the day that is open after entries, given the day that is open before them
 abbrev pub open_from : Option Day → List Entry → Option Day
 open_from today [] = today
 open_from today (entry ∷ later) = open_from (open_after today entry) later
@@ -37,8 +37,8 @@ open_from today (entry ∷ later) = open_from (open_after today entry) later
 abbrev pub empty_chain : Chain
 empty_chain = record { count = 0; today = None; digest = replicate 32 0 }
 
--- a day with one batch more: its digest is SHA-256 of the digest before it and of what is shown of all its entries. A batch without entries
--- changes nothing
+-- a day with one more batch: its digest is SHA-256 of the previous digest followed by what is shown of all the batch's entries. A batch
+-- without entries changes nothing
 abbrev pub chain_after : Chain → List Entry → Chain
 chain_after chain [] = chain
 chain_after chain (entry ∷ later) = record {
@@ -52,12 +52,12 @@ abbrev pub chain_after_all : Chain → List (List Entry) → Chain
 chain_after_all chain [] = chain
 chain_after_all chain (batch ∷ later) = chain_after_all (chain_after chain batch) later
 
--- these entries are cut into batches, and have this chain then
+-- these entries, cut into batches, have this chain
 pub record IsCutTo (chain : Chain) (entries : List Entry) : Type 0 where
   pub batches : List (List Entry)
   pub all : flat_map (λ batch. batch) batches ≡ entries
   pub chain_is : chain ≡ chain_after_all empty_chain batches
 
--- a chain of these entries: that of some batches into which they are cut, whichever
+-- the chain of these entries, cut into batches in some way
 abbrev pub IsChainOf : Chain → List Entry → Type 0
 IsChainOf chain entries = ∥ IsCutTo chain entries ∥₁

@@ -1,4 +1,4 @@
--- What a text says of a day.
+-- The day that a text records.
 use Rattle.std.specs.Prelude.{◌≡◌, ℕ, ◌+◌, ◌≤◌, ◌<◌, ◌^◌, List, [], ◌++◌, Option, Some, None, length, take, IsTrue}
 use Rattle.std.specs.List.{AllByRecursion}
 use Rattle.std.specs.Str.Lines.{lines}
@@ -15,35 +15,35 @@ use Rattle.gu_keeping.specs.Batches.{IsBatchText}
 use Rattle.gu_keeping.specs.Chains.{IsChainOf}
 use Rattle.gu_keeping.specs.declared.chain.Chain.{Chain}
 
--- a text says a day with these entries: each of its lines is ended, and is a comment or says the next entry
+-- a text records a day with these entries: each of its lines is ended, and is silent or says the next entry
 pub record SaysDay (text : List ℕ) (entries : List Entry) : Type 0 where
   pub ended : LeavesOpen text (lines text) []
   pub says : SayAll (lines text) (said_after None entries)
 
--- what the types of a message keep
+-- the invariants of a message's types
 abbrev pub IsWritableMessage : Option FirmMessage → Type 0
 IsWritableMessage None = Unit {0}
 IsWritableMessage (Some message) = IsTrue (is_name message.firm.name) × (message.connection < 2 ^ 64) × (message.number < 2 ^ 64)
 
--- what the types of an origin keep
+-- the invariants of an origin's types
 abbrev pub IsWritableOrigin : Option Origin → Type 0
 IsWritableOrigin None = Unit {0}
 IsWritableOrigin (Some origin) = IsMoment origin.moment × IsWritableMessage origin.message
 
--- what the types of a batch keep, and that of its entries a script can write each
+-- the invariants of a batch's types; a script can write each of its entries, and there are at most 1,000,000 with those before
 pub record AreWritable (before : List Entry) (origins : List (Option Origin)) (entries : List Entry) : Type 0 where
   pub origins_are : AllByRecursion IsWritableOrigin origins
   pub entries_are : AllByRecursion IsWritableEntry entries
   pub few : length before + length entries ≤ 1000000
 
--- a text that says a day says it with the entries of a batch, once the batch comes after it, whatever batches came before
+-- if a text records a day, then with a batch after it it records the day with the batch's entries, whatever the batches before
 abbrev pub ABatchSaysItsEntries : Type 0
 ABatchSaysItsEntries =
     (chain : Chain) (before : List Entry) (origins : List (Option Origin)) (entries : List Entry) (kept text : List ℕ)
     → IsChainOf chain before → AreWritable before origins entries → SaysDay kept before → IsBatchText chain origins entries text
     → SaysDay (kept ++ text) (before ++ entries)
 
--- what is found after a crash says a day with all entries that were kept, and the first ones of the batch that was under way
+-- the text found after a crash records a day with all entries kept, followed by the first entries of the batch in progress
 pub record SaysFirstEntries (before entries : List Entry) (kept : List ℕ) (outcome : Option (List ℕ)) : Type 0 where
   pub lines_more : List ℕ
   pub count : ℕ

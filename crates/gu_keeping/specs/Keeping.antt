@@ -14,23 +14,23 @@ use Rattle.gu_keeping.specs.declared.chain.Chain.{Chain}
 use Rattle.gu_keeping.specs.declared.error.Unkept.{Unkept}
 use Rattle.gu_keeping.specs.declared.error.Unkept.TheVariants.{Memory, Missing, TooLong, Failed}
 
--- the entries that are kept: the first ones of those that were taken from the desk
+-- the entries kept: the first of those taken from the desk
 abbrev pub kept_entries : Chain → List Entry → List Entry
 kept_entries chain front = take chain.count front
 
--- if a failure gave back what was to be kept with, this holds of it
+-- if a failure returned the keeper or sink, it has this property
 abbrev pub IfGivenBack : {T P : Type 0} → Unkept T P → (T → Type 0) → Type 0
 IfGivenBack (Memory back) P = P back
 IfGivenBack (Missing back) P = P back
 IfGivenBack (TooLong back) P = P back
 IfGivenBack (Failed stopped) P = Unit {0}
 
--- if the sink stopped, this holds of what is left
+-- if the sink stopped, what is left has this property
 abbrev pub IfStopped : {T P : Type 0} → Unkept T P → (Stopped P SinkError → Type 0) → Type 0
 IfStopped (Failed stopped) P = P stopped
 IfStopped unkept P = Unit {0}
 
--- a text is written to a sink: a crash at any moment leaves what was kept, and a beginning of the text in whole lines
+-- a text is written to a sink: if its place is honest, a crash at any moment leaves what was kept, and a prefix of the text in whole lines
 abbrev pub Writes : {P : Type 0} → (P → Type 0) → (P → ℕ) → (P → ℕ → Option (List ℕ) → Type 0) → P → P → List ℕ → List ℕ → Type 0
 Writes is_honest moment left_since old new kept text = is_honest new → LeavesOnly moment left_since old new (HasBegun kept text)
 
@@ -40,11 +40,11 @@ pub record IsNextBatch (origins : List Origin) (chain : Chain) (entries : List E
   pub within : length entries ≤ length origins
   pub batch : IsBatchText chain (map Some (take (length entries) origins)) entries text
 
--- an entry that has no origin in the text, for each of these
+-- no known origin, for each of these entries
 abbrev pub unknown_origins : List Entry → List (Option Origin)
 unknown_origins entries = map (λ entry. None) entries
 
--- batches, one after another, of these parts of a day's entries, after those of a chain
+-- batches of these parts of a day's entries, one after another, following those of a chain
 abbrev pub AreBatches : Chain → List (List Entry) → List ℕ → Type 0
 AreBatches chain [] text = text ≡ []
 AreBatches chain (part ∷ parts) text =

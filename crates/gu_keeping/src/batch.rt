@@ -19,13 +19,13 @@ use gu_script::append_entry;
 use gu_terms::{Day, Entry};
 use std::alloc::{AllocError, Global};
 
-/// The bytes that the lines of a batch have at most. The comment with the digest comes after them.
+/// The most bytes in the lines of a batch. The comment with the digest follows them.
 const MOST_LINES: usize = MAX_BATCH - 88;
 
-/// The bytes that a batch is given at first for each entry that is planned.
+/// The bytes initially allocated for each entry expected in a batch.
 const ENTRY_ROOM: usize = 160;
 
-/// A batch that is being made: the lines of some entries, and the link that they make of the day's chain.
+/// A batch being made: the lines of some entries, and their link in the day's chain.
 #[derive(Drop)]
 pub(crate) struct Batch {
     alloc: Global,
@@ -44,7 +44,7 @@ fn append_comment(output: &mut Vec<u8>, origin: Option<&Origin>) -> Result<(), A
     }
 }
 
-/// Appends the lines of an entry after its comment, if this day is open before it.
+/// Appends the lines of an entry after its comment, given the day that is open before it.
 fn append_lines(
     output: &mut Vec<u8>,
     today: Option<Day>,
@@ -59,7 +59,7 @@ fn append_lines(
 }
 
 impl Batch {
-    /// Creates a batch without lines, after those of a chain. It has room for this number of entries of a usual length.
+    /// Returns a batch without lines, following a chain. It has room for this number of entries of a usual length.
     pub(crate) fn new(alloc: Global, chain: Chain, entries: usize) -> Result<Self, AllocError>
         ensures { IfOk result (λ batch. IsBatchOf chain [] [] batch) }
     {
@@ -68,7 +68,7 @@ impl Batch {
         Ok(Batch { alloc, text, link })
     }
 
-    /// Adds an entry, and returns whether there was room for its lines. After an error the batch is of no use.
+    /// Adds an entry, and returns whether there was room for its lines. After an error the batch is unusable.
     pub(crate) fn add(&mut self, origin: Option<&Origin>, entry: &Entry) -> Result<bool, AllocError>
         requires { self.old.link.count + 1 < 2 ^ 64 }
         ensures added { IfOk result (λ is_added. is_added ≡ true → AddsEntry (option_copied origin.entry) entry.now self.old self.new) }
@@ -86,7 +86,7 @@ impl Batch {
         Ok(true)
     }
 
-    /// Makes a batch of the first of these entries with their origins, as many as it has room for. Returns it, and how many these are.
+    /// Returns a batch of the first of these entries with their origins, as many as it has room for, and their number.
     pub(crate) fn of(
         alloc: Global,
         chain: Chain,
@@ -107,7 +107,7 @@ impl Batch {
         Ok((batch, most))
     }
 
-    /// Ends the batch with its digest, and returns its text, and the chain with its entries.
+    /// Ends the batch with its digest, and returns its text and the chain with its entries.
     pub(crate) fn end(self) -> Result<(Vec<u8>, Chain), AllocError>
         ensures { IfOk result (λ made. (chain : ChainOf) (origins : List (Option OriginOf)) (entries : List EntryOf)
             → IsBatchOf chain origins entries self

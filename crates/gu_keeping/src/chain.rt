@@ -1,4 +1,4 @@
-//! A day's entries in short.
+//! A summary of a day's entries.
 
 ghost use Rattle.std.specs.Prelude.{◌≡◌, ◌++◌, ◌+◌, ◌<◌, ◌^◌, [], List, IfOk, OnOk};
 ghost use Rattle.sha2.specs.Sha256.{sha256};
@@ -13,8 +13,8 @@ use gu_terms::{Day, Entry};
 use sha2::{Digest, Sha256};
 use std::alloc::{AllocError, Global};
 
-/// A day's entries in short: how many there are, the day that is open after them, and a digest of what they show, batch by batch. The
-/// digest of a batch stands on that of the batch before it, so equal digests mean equal answers from the first entry on.
+/// A summary of a day's entries: their number, the day that is open after them, and a digest of what they show, batch by batch. The digest
+/// of a batch includes that of the batch before it, so equal digests mean equal answers from the first entry on.
 #[derive(Clone, Copy, Debug, PartialEq, Eq)]
 pub struct Chain {
     count: usize,
@@ -22,7 +22,7 @@ pub struct Chain {
     digest: [u8; 32],
 }
 
-/// Returns the digest of a text after another digest.
+/// Returns the digest of another digest and a text.
 fn digest_of(before: [u8; 32], shown: &[u8]) -> [u8; 32]
     ensures { result ≡ sha256 (before ++ shown.now) }
 {
@@ -33,7 +33,7 @@ fn digest_of(before: [u8; 32], shown: &[u8]) -> [u8; 32]
 }
 
 impl Chain {
-    /// Creates the chain of a day without entries.
+    /// Returns the chain of a day without entries.
     pub fn new() -> Self
         ensures value { result ≡ empty_chain }
         ensures chain { IsChainOf result [] }
@@ -45,7 +45,7 @@ impl Chain {
         }
     }
 
-    /// Returns how many entries there are.
+    /// Returns the number of entries.
     pub fn count(&self) -> usize
         ensures { result ≡ self.now.count }
     {
@@ -60,16 +60,16 @@ impl Chain {
     }
 }
 
-/// How many entries a batch is given room for at first, at most.
+/// The most entries for which a batch initially has room.
 pub(crate) const MOST_PLANNED: usize = 1_024;
 
-/// The bytes that a link is given at first for what is shown of each entry that is planned.
+/// The bytes initially allocated in a link for what is shown of each expected entry.
 const SHOWN_ROOM: usize = 24;
 
-/// The bytes that it is given besides: a reply is appended only if there is room for the longest.
+/// The extra bytes allocated: a reply is appended only if there is room for the longest.
 const REPLY_ROOM: usize = 192;
 
-/// A batch more for a chain, while entries come to it: it has what is shown of them, so that one digest is made of it all.
+/// One more batch for a chain, while entries are added: it collects what is shown of them, so that one digest is made of it all.
 #[derive(Drop)]
 pub(crate) struct Link {
     chain: Chain,
@@ -79,7 +79,7 @@ pub(crate) struct Link {
 }
 
 impl Link {
-    /// Creates a link without entries. It has room for this number of them, of a usual length.
+    /// Returns a link without entries. It has room for this number of them, of a usual length.
     pub(crate) fn new(alloc: Global, chain: Chain, entries: usize) -> Result<Self, AllocError>
         ensures { IfOk result (λ link. IsLinkOf chain [] link) }
     {
@@ -98,7 +98,7 @@ impl Link {
         self.today
     }
 
-    /// Adds an entry. After an error the link is of no use.
+    /// Adds an entry. After an error the link is unusable.
     pub(crate) fn add(&mut self, entry: &Entry) -> Result<(), AllocError>
         requires { self.old.count + 1 < 2 ^ 64 }
         ensures { OnOk result (AddsToLink entry.now self.old self.new) }
@@ -110,7 +110,7 @@ impl Link {
         Ok(())
     }
 
-    /// Returns the chain with the entries as one batch more.
+    /// Returns the chain with the entries as one more batch.
     pub(crate) fn end(&self) -> Chain
         ensures { (chain : ChainOf) (entries : List EntryOf) → IsLinkOf chain entries self.now → result ≡ chain_after chain entries }
     {

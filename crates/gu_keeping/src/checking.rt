@@ -1,4 +1,4 @@
-//! The digests of a text that was found, and the history that it was played to.
+//! Checking the digests in a recovered text against the history that it was played to.
 
 ghost use Rattle.std.specs.Prelude.{◌≡◌, ◌≢◌, ◌≤◌, ◌<◌, ◌^◌, ◌↔◌, ℕ, false, true, length, take, IfOk, IsErrOf, IsTrue};
 ghost use Rattle.std.specs.Fmt.{decimal};
@@ -27,7 +27,7 @@ fn is_hexadecimal(byte: u8) -> bool
     is_decimal(byte) || matches!(byte, b'a'..=b'f')
 }
 
-/// Returns whether a line has `# ` at its beginning, and a blank before its last 64 bytes.
+/// Returns whether a line begins with `# ` and has a space before its last 64 bytes.
 fn has_marks(line: &[u8]) -> bool
     requires { 68 ≤ length line.now }
     ensures { result ≡ has_marks line.now }
@@ -59,7 +59,7 @@ fn is_digest_line(line: &[u8]) -> bool
         && are_hexadecimal(&line[line.len() - 64..])
 }
 
-/// Returns the number that digits write, or the greatest if it is greater.
+/// Returns the value of digits, or the greatest number if it is greater.
 fn number_of(digits: &[u8]) -> u64
     ensures { (n : ℕ) → n < 2 ^ 64 → digits.now ≡ decimal n → result ≡ n }
 {
@@ -72,7 +72,7 @@ fn number_of(digits: &[u8]) -> u64
     number
 }
 
-/// Returns the number in a line with a digest, or the greatest if it is greater.
+/// Returns the number in a line with a digest, or the greatest number if it is greater.
 fn number_in(line: &[u8]) -> u64
     ensures { (chain : ChainOf) → length chain.digest ≡ 32 → chain.count < 2 ^ 64 → line.now ≡ digest_line chain → result ≡ chain.count }
 {
@@ -92,7 +92,7 @@ fn is_digest_of(alloc: Global, chain: &Chain, line: &[u8]) -> Result<bool, Alloc
     Ok(comment.as_slice() == line)
 }
 
-/// Returns a chain with one batch more: the entries of a history up to a number.
+/// Returns a chain with one more batch: the entries of a history up to a number.
 fn chain_to(
     alloc: Global,
     chain: Chain,
@@ -111,8 +111,8 @@ fn chain_to(
     Ok(link.end())
 }
 
-/// Adds one batch more to a chain: the entries of a history up to the number in a line. Returns whether the line is the comment with its
-/// digest, and else adds nothing. What is added costs the digest of what is shown of it, and no more.
+/// Adds one more batch to a chain, the entries of a history up to the number in a line, and returns true, if the line is the comment with
+/// its digest; otherwise adds nothing. The cost is that of digesting what is shown of the batch.
 fn reach(
     alloc: Global,
     chain: &mut Chain,
@@ -140,7 +140,7 @@ fn reach(
 }
 
 /// Compares the digests in the lines of a text with those of the history that it was played to. Returns the chain of the history, in which
-/// the entries after the last digest are a batch: what comes next in the text is its digest (`resume_text`).
+/// the entries after the last digest are one batch, whose digest is to come next in the text (`resume_text`).
 pub fn check_digests(alloc: Global, text: &[u8], history: &History) -> Result<Chain, DigestFault>
     ensures chain { IfOk result (λ chain. IsChainOf chain history.now) }
     ensures agree { IfOk result (λ chain. AgreeTo history.now empty_chain (ended_lines text.now) chain) }

@@ -11,7 +11,7 @@ use gu_msgs::moment_text;
 use gu_text::texts::{append_last_number, append_last_word, append_number, append_word};
 use std::alloc::{AllocError, Global};
 
-/// Appends the words that name a firm's message, which end a line.
+/// Appends the words that name a firm's message, which end the line.
 fn append_message(output: &mut Vec<u8>, message: &FirmMessage) -> Result<(), AllocError>
     ensures { OnOk result (output.new.items ≡ output.old.items
         ++ line_of (message.now.firm.name ∷ decimal message.now.connection ∷ decimal message.now.number ∷ [])) }
@@ -21,7 +21,7 @@ fn append_message(output: &mut Vec<u8>, message: &FirmMessage) -> Result<(), All
     append_last_number(output, message.number)
 }
 
-/// Appends the comment that says when an entry was made, and by which message of a firm.
+/// Appends the comment that says when an entry was made, and by which message of a firm, if any.
 pub(crate) fn append_origin(output: &mut Vec<u8>, origin: &Origin) -> Result<(), AllocError>
     ensures { OnOk result ((row : List (List ℕ)) × IsOriginRow origin.now row × (output.new.items ≡ output.old.items ++ line_of row)) }
 {
@@ -50,8 +50,8 @@ pub(crate) fn append_digest(
     append_last_word(output, digest.as_bytes())
 }
 
-/// Returns what comes next in the text of a day that goes on: comments, and then the comment with the digest of its chain, so that the
-/// entries after the last digest, of a batch whose end a crash cut off, have theirs.
+/// Returns the next text for a day that is resumed: comments, and then the comment with the digest of its chain, so that entries after the
+/// last digest, from a batch whose end a crash cut off, are covered by one.
 pub fn resume_text(alloc: Global, comments: &[u8], chain: &Chain) -> Result<Vec<u8>, AllocError>
     ensures { IfOk result (λ text. text.items ≡ comments.now ++ line_of (digest_row chain.now)) }
 {

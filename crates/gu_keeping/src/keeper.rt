@@ -1,4 +1,4 @@
-//! A day's text as it is kept.
+//! Keeping a day's text.
 
 ghost use Rattle.std.specs.Prelude.{◌≡◌, ◌+◌, ◌≤◌, ◌++◌, List, ℕ, drop, length, take, IfErr, IfOk, IsErrOf, OnOk};
 ghost use mathlib.Core.List.{IsPrefix};
@@ -17,15 +17,15 @@ use gu_terms::Entry;
 use std::alloc::{AllocError, Global};
 use std::sync::Wait;
 
-/// The entries that are taken from the desk at a time, at most.
+/// The most entries taken from the desk at a time.
 const MOST_TAKEN: usize = 1_024;
 
-/// A day's text as it is kept: a sink, and the beginning of the desk's one history whose lines the sink has.
+/// A keeper of a day's text: a sink, and the prefix of the desk's one history whose lines the sink has.
 pub struct Keeper<E: EntryLedger, K: Sink> {
     sink: K,
-    /// The entries that are kept.
+    /// The entries already kept.
     chain: Chain,
-    /// The beginning of the desk's history that was taken from the desk.
+    /// The prefix of the desk's history taken from the desk.
     front: Front<E>,
     /// The last entries of the front, which aren't kept yet.
     waiting: Vec<Entry>,
@@ -34,7 +34,7 @@ pub struct Keeper<E: EntryLedger, K: Sink> {
     ghost few: { length front ≤ 1000000 },
 }
 
-// By hand, so that each exit of a caller drops it by one call.
+// By hand, so that each exit of a caller drops it with one call.
 impl<E: EntryLedger, K: Sink + Drop> Drop for Keeper<E, K> {
     fn drop(self) {
         let Keeper {
@@ -49,7 +49,7 @@ impl<E: EntryLedger, K: Sink + Drop> Drop for Keeper<E, K> {
     }
 }
 
-/// Takes the first entries away.
+/// Removes the first entries.
 fn drop_first(entries: &mut Vec<Entry>, count: usize)
     requires { count ≤ length entries.old.items }
     ensures { entries.new.items ≡ drop count entries.old.items }
@@ -62,7 +62,7 @@ fn drop_first(entries: &mut Vec<Entry>, count: usize)
 }
 
 impl<E: EntryLedger, K: Sink> Keeper<E, K> {
-    /// Creates a keeper that goes on with a sink that has the lines of these entries already.
+    /// Returns a keeper that continues with a sink that already has the lines of these entries.
     pub fn new(alloc: Global, sink: K, front: Front<E>, chain: Chain) -> Self
         requires chain { IsChainOf chain front }
         requires few { length front ≤ 1000000 }
@@ -78,14 +78,14 @@ impl<E: EntryLedger, K: Sink> Keeper<E, K> {
         }
     }
 
-    /// Returns how many entries are kept.
+    /// Returns the number of entries kept.
     pub fn count(&self) -> usize
         ensures { result ≡ length (kept_entries self.now.chain self.now.front) }
     {
         self.chain.count()
     }
 
-    /// Gives back the sink, and the beginning of the history that was taken from the desk, which begins with what is kept.
+    /// Returns the sink, and the prefix of the history that was taken from the desk, which begins with the entries kept.
     pub fn into_parts(self) -> (K, Front<E>)
         ensures sink { result.0 ≡ self.sink }
         ensures front { IsPrefix (kept_entries self.chain self.front) result.1 }
@@ -100,7 +100,7 @@ impl<E: EntryLedger, K: Sink> Keeper<E, K> {
         (sink, front)
     }
 
-    /// Takes entries from the desk until so many wait, or all that the desk has. It may wait for the lock, which it holds once.
+    /// Takes entries from the desk until this many are waiting, or all that the desk has. It may wait for the lock, which it holds once.
     fn take_in<S: LotLedger, R: Wait>(
         &mut self,
         rt: &R,
@@ -117,8 +117,7 @@ impl<E: EntryLedger, K: Sink> Keeper<E, K> {
             .entries_from(&mut self.front, place, most, &mut self.waiting)
     }
 
-    /// Makes a batch of the first entries that wait, as many as it has room for. Returns its text, the chain after it, and how many
-    /// these are.
+    /// Makes a batch of the first waiting entries, as many as it has room for. Returns its text, the chain after it, and their number.
     fn batch(
         &self,
         alloc: Global,
@@ -134,7 +133,7 @@ impl<E: EntryLedger, K: Sink> Keeper<E, K> {
         Ok((text, chain, count))
     }
 
-    /// Appends the text of a batch of the first entries that wait, and returns once it is kept.
+    /// Appends the text of a batch of the first waiting entries, and returns once it is kept.
     fn put(self, text: &[u8], chain: Chain, count: usize) -> Result<Self, Unkept<Self, K::Place>>
         requires batch { IsBatch text.now }
         requires within { count ≤ length self.waiting.items }
@@ -152,7 +151,7 @@ impl<E: EntryLedger, K: Sink> Keeper<E, K> {
         ensures any_moment_stopped { IfErr result (λ unkept. IfStopped unkept (λ stopped.
             Writes K.is_honest K.moment K.left_since (K.place self.sink) stopped.place (K.kept self.sink) text.now)) }
         ensures reason { IfErr result (λ unkept. IfStopped unkept (λ stopped. K.is_honest stopped.place
-            → HasReason K.failures K.shortages (K.kept self.sink) (K.place self.sink) stopped)) }
+            → HasReason K.failures K.refusals K.shortages (K.kept self.sink) (K.place self.sink) stopped)) }
     {
         let Keeper {
             sink,
@@ -175,8 +174,8 @@ impl<E: EntryLedger, K: Sink> Keeper<E, K> {
     }
 
     /// Keeps the next entries of the desk's history, each with its origin, as many as one batch has room for, and returns once they are
-    /// kept. `origins` are those of the entries after `count`, in order. It may wait for the desk's lock, which it holds once, for at
-    /// most 1,024 entries, and not while it writes.
+    /// kept. `origins` are those of the entries after `count`, in order. It may wait for the desk's lock, which it holds once, for at most
+    /// 1,024 entries, and not while it writes.
     pub fn keep<S: LotLedger, R: Wait>(
         mut self,
         alloc: Global,
@@ -187,23 +186,23 @@ impl<E: EntryLedger, K: Sink> Keeper<E, K> {
         requires { 1 ≤ length origins.now }
         ensures before { IfOk result (λ keeper. K.is_honest (K.place keeper.sink) → K.is_honest (K.place self.sink)) }
 
-        // Some entries more are kept, and their batch was appended: a crash at any moment left a beginning of it.
+        // Some more entries are kept, and their batch was appended: a crash at any moment left a prefix of it.
         ensures kept { IfOk result (λ keeper. (entries : List EntryOf) × (text : List ℕ)
             × IsNextBatch origins.now self.chain entries text × (keeper.chain ≡ chain_after self.chain entries)
             × (kept_entries keeper.chain keeper.front ≡ kept_entries self.chain self.front ++ entries)
             × (K.is_honest (K.place keeper.sink) → K.kept keeper.sink ≡ K.kept self.sink ++ text)
             × Writes K.is_honest K.moment K.left_since (K.place self.sink) (K.place keeper.sink) (K.kept self.sink) text) }
 
-        // After a failure of the place a crash leaves a beginning of a batch too.
+        // After a failure of the place, a crash also leaves a prefix of a batch.
         ensures before_stopped { IfErr result (λ unkept. IfStopped unkept (λ stopped.
             K.is_honest stopped.place → K.is_honest (K.place self.sink))) }
         ensures stopped { IfErr result (λ unkept. IfStopped unkept (λ stopped. (entries : List EntryOf) × (text : List ℕ)
             × IsNextBatch origins.now self.chain entries text
             × Writes K.is_honest K.moment K.left_since (K.place self.sink) stopped.place (K.kept self.sink) text)) }
         ensures reason { IfErr result (λ unkept. IfStopped unkept (λ stopped. K.is_honest stopped.place
-            → HasReason K.failures K.shortages (K.kept self.sink) (K.place self.sink) stopped)) }
+            → HasReason K.failures K.refusals K.shortages (K.kept self.sink) (K.place self.sink) stopped)) }
 
-        // Any other failure gives the keeper back, and what it keeps is as it was.
+        // Any other failure returns the keeper, which keeps the same entries as before.
         ensures given_back { IfErr result (λ unkept. IfGivenBack unkept (λ keeper. (keeper.sink ≡ self.sink) × (keeper.chain ≡ self.chain)
             × (kept_entries keeper.chain keeper.front ≡ kept_entries self.chain self.front))) }
     {

@@ -1,13 +1,13 @@
-//! What the lines of batches say.
+//! Laws of the lines of batches.
 
 ghost use Rattle.gu_keeping.specs.Days.{ABatchSaysItsEntries, ACrashLeavesFirstEntries};
 
-/// Once a batch comes after a text that says a day, the text says the day with the batch's entries.
+/// If a text records a day, then with a batch after it it records the day with the batch's entries.
 pub fn a_batch_says_its_entries()
     ensures { ABatchSaysItsEntries }
 {}
 
-/// What is found after a crash says a day with all entries that were kept, and with the first ones of the batch that was under way.
+/// The text found after a crash records a day with all entries kept, followed by the first entries of the batch in progress.
 pub fn a_crash_leaves_the_first_entries()
     ensures { ACrashLeavesFirstEntries }
 {}

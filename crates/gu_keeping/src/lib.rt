@@ -1,4 +1,4 @@
-//! A day's text while the day goes on: entries are taken from the desk, written to a sink in batches, and known to be kept.
+//! Keeping a day's text while the day goes on: entries are taken from the desk, written to a sink in batches, and known to be kept.
 #![tactic(auto)]
 
 mod batch;

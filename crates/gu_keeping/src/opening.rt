@@ -1,4 +1,4 @@
-//! The opening of a day: what the day's text begins with.
+//! The opening of a day: the start of the day's text.
 
 ghost use Rattle.std.specs.Prelude.{◌≡◌, ◌≤◌, ◌<◌, ◌++◌, List, ℕ, length, take, IfErr, IfOk, OnOk};
 ghost use mathlib.Core.List.{IsPrefix};
@@ -39,7 +39,7 @@ fn put<K: Sink>(sink: K, text: &[u8]) -> Result<K, Unkept<K, K::Place>>
     }
 }
 
-/// Makes a batch of a history's entries after those of a chain, as many as it has room for. Returns its text, and the chain after it.
+/// Makes a batch of a history's entries after those of a chain, as many as it has room for. Returns its text and the chain after it.
 fn next_batch(
     alloc: Global,
     chain: Chain,
@@ -92,8 +92,8 @@ fn keep_next<K: Sink>(
     }
 }
 
-/// Writes the opening of a day to a sink, and returns once it is kept: a heading of comments, and the lines of the entries of a history,
-/// in batches. Returns the sink and the chain after these.
+/// Writes the opening of a day to a sink, and returns once it is kept: a heading of comments, and the lines of a history's entries, in
+/// batches. Returns the sink and the chain after these.
 pub fn keep_opening<K: Sink>(
     alloc: Global,
     sink: K,
@@ -106,7 +106,7 @@ pub fn keep_opening<K: Sink>(
         × (K.is_honest (K.place made.0) → K.kept made.0 ≡ K.kept sink ++ (heading.now ++ text))
         × Writes K.is_honest K.moment K.left_since (K.place sink) (K.place made.0) (K.kept sink) (heading.now ++ text)) }
 
-    // If the sink stops, a crash leaves a beginning of the opening of the first entries.
+    // If the sink stops, a crash leaves a prefix of the opening with the first entries.
     ensures before_stopped { IfErr result (λ unkept. IfStopped unkept (λ stopped.
         K.is_honest stopped.place → K.is_honest (K.place sink))) }
     ensures stopped { IfErr result (λ unkept. IfStopped unkept (λ stopped. (first : List EntryOf) × (chain : ChainOf) × (text : List ℕ)

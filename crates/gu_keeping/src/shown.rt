@@ -1,4 +1,4 @@
-//! What the digest of a day is made of.
+//! The text that a day's digest covers.
 
 ghost use Rattle.std.specs.Prelude.{◌≡◌, ◌++◌, OnOk};
 ghost use Rattle.gu_keeping.specs.Chains.{shown_text, swept_text};
@@ -19,7 +19,7 @@ fn append_swept(output: &mut Vec<u8>, number: u64, sweep: &SweepEntry) -> Result
     append_sweep(output, sweep)
 }
 
-/// Appends what is shown of the entry of a number: the reply to a command, or what a sweep took.
+/// Appends what is shown of the entry with a number: the reply to a command, or what a sweep took.
 pub(crate) fn append_shown(
     output: &mut Vec<u8>,
     number: u64,

@@ -1,4 +1,4 @@
--- All that was said, and what an intake keeps of it.
+-- Everything sent so far, and the part that an intake keeps.
 use Rattle.std.proofs.Common.{◌≡◌, List, ℕ, [], ◌∷◌, ◌++◌, Option, None, IfNone, IfSome, MatchOption, Some, subst, inl}
 use Rattle.gu_fix.specs.Stream.{AreFrames, HasNoFrameYet, IsFirstFrame, LeadsOn}
 use Rattle.gu_fix.proofs.StreamLaws.{frames_exist, leads_on_then}
@@ -22,12 +22,12 @@ found_so (Some a) found P is holds = subst (λ n. IfSome n P) is holds
 pub none_yet : (said kept piece taken : List ℕ) → LeadsOn said [] kept → taken ≡ kept ++ piece → AreFrames taken [] → HasNoFrameYet (said ++ piece)
 none_yet said kept piece taken leads is none = leads piece [] (subst (λ (s : List ℕ). AreFrames s []) is none)
 
--- and what is kept then leads on from all that was said
+-- and the kept bytes then lead on from everything sent
 pub goes_on : (said kept piece taken next : List ℕ) → LeadsOn said [] kept → taken ≡ kept ++ piece → LeadsOn taken [] next → LeadsOn (said ++ piece) [] next
 goes_on said kept piece taken next leads is more =
     leads_on_then said kept piece next [] [] leads (subst (λ (s : List ℕ). LeadsOn s [] next) is more)
 
--- the first frame of what is kept, with a piece more, is the first of all that was said with it
+-- the first frame of the kept bytes with one more piece is the first of everything sent up to it
 pub judged_first : (rows : List SecretRow) (firms : List FirmId) (said kept piece taken message rest : List ℕ) (answer : Option FirmId)
     → LeadsOn said [] kept → taken ≡ kept ++ piece → IsFirstFrame taken message rest → Judges rows firms message answer → JudgesFirst rows firms (said ++ piece) answer
 judged_first rows firms said kept piece taken message rest answer leads is first judged =
@@ -36,7 +36,7 @@ judged_first rows firms said kept piece taken message rest answer leads is first
     let are : AreFrames (said ++ piece) (message ∷ later.0) = leads piece (message ∷ later.0) (rest, begun, later.1) in
     record { message = message; rest = are.0; first = are.1; judged = judged }
 
--- who is let in by the first frame is let in by all that was said
+-- a firm that is let in by the first frame is let in by everything sent
 pub enters : (rows : Option (List SecretRow)) (firms : List FirmId) (said kept piece taken message rest : List ℕ) (firm : Option FirmId)
     → LeadsOn said [] kept → taken ≡ kept ++ piece → IsFirstFrame taken message rest → AdmitsFirst rows firms message firm → EntersAs rows firms (said ++ piece) firm
 enters (Some rows) firms said kept piece taken message rest (Some firm) leads is first admits =
@@ -45,7 +45,7 @@ enters (Some rows) firms said kept piece taken message rest None leads is first 
 enters None firms said kept piece taken message rest (Some firm) leads is first admits = absurd admits
 enters None firms said kept piece taken message rest None leads is first admits = tt
 
--- and so is who is turned away
+-- and the same for a connection that is turned away
 pub turned_away : (rows : Option (List SecretRow)) (firms : List FirmId) (said kept piece taken message rest : List ℕ) (glance : Glance)
     → LeadsOn said [] kept → taken ≡ kept ++ piece → IsFirstFrame taken message rest → AnswersFirst rows firms message (judged.Refuses glance)
     → IsTurnedAway rows firms (said ++ piece)

@@ -11,7 +11,7 @@ use Rattle.gu_secrets.specs.declared.row.SecretRow.{SecretRow}
 use Rattle.gu_terms.specs.declared.firm.FirmId.{FirmId}
 use Rattle.gu_knocks.specs.declared.guard.TheConstants.{PASSWORD}
 
--- the one of these firms that a message's SenderCompID (49) names, where that is there exactly once
+-- the one of these firms that a message's SenderCompID (49) names, if that is there exactly once
 abbrev pub caller_in : List FirmId → List TagValue → Option FirmId
 caller_in firms fields = option_and_then (firm_named firms) (only_value SENDER_COMP_ID fields)
 
@@ -32,7 +32,7 @@ pub record Judges (rows : List SecretRow) (firms : List FirmId) (message : List 
   pub read : HasFields message fields fault
   pub let_in : IsLetIn rows firms fields answer
 
--- the same by the first message of all that was said
+-- the same by the first message of everything sent
 pub record JudgesFirst (rows : List SecretRow) (firms : List FirmId) (said : List ℕ) (answer : Option FirmId) : Type 0 where
   pub message : List ℕ
   pub rest : List ℕ

@@ -1,4 +1,4 @@
--- A connection that is listened to: what it says is read from its stream, until its first message is whole.
+-- A connection that is listened to: its stream is read until its first message is whole.
 use Rattle.std.specs.Prelude.{◌≡◌, ◌⊎◌, ◌++◌, ⊤, ℕ, List, Option}
 use Rattle.std.specs.Io.KnownBytes.{Consumes, IsAtEnd, Keeps}
 use Rattle.gu_secrets.specs.declared.row.SecretRow.{SecretRow}
@@ -9,7 +9,7 @@ use Rattle.gu_knocks.specs.declared.listening.Listened.{Listened}
 use Rattle.gu_knocks.specs.declared.listening.Listened.TheVariants.{Waits, LetsIn, Refuses, Ends, Fails}
 use Rattle.gu_knocks.specs.declared.listening.Listening.{Listening}
 
--- with these bytes more it is heard so, and its stream is the same
+-- with these further bytes this becomes known, and its stream is the same
 abbrev pub Hears : {T : Type 0} → Option (List SecretRow) → List FirmId → Listening T → List ℕ → Listened T → Type 0
 Hears rows firms old piece (Waits new) = IsHeard rows firms (old.knock ++ piece) (heard.Waits new.knock) × (new.stream ≡ old.stream)
 Hears rows firms old piece (LetsIn glance said stream) =
@@ -21,8 +21,8 @@ Hears rows firms old piece _ = ⊥
 abbrev pub Reads : {T : Type 0} → (T → Option (List ℕ)) → T → T → List ℕ → Type 0
 Reads remaining old new piece = Consumes (remaining old) (remaining new) piece
 
--- It is listened to once. While it waits, nothing has come, or a piece without a whole message; what lets it in, or turns it away, is all that it has
--- said, with a piece that comes now. Its peer has ended only if its stream is at its end; a stream may fail at any time.
+-- It is listened to once. While it waits, nothing has come, or a piece without a whole message; what lets it in, or turns it away, is all
+-- that it has said, with a piece that comes now. Its peer has ended only if its stream is at its end; a stream may fail at any time.
 abbrev pub Listens : {T : Type 0} → (T → Option (List ℕ)) → Option (List SecretRow) → List FirmId → Listening T → Listened T → Type 0
 Listens remaining rows firms old (Waits new) =
     ((new.knock ≡ old.knock) × Keeps (remaining old.stream) (remaining new.stream))

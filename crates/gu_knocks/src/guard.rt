@@ -19,7 +19,7 @@ use std::alloc::{AllocError, Global};
 /// The tag of Password.
 const PASSWORD: u32 = 554;
 
-/// The firms that may be let in where a connection comes in, and their secrets, if they need one.
+/// The firms that may be let in at a connection's way in, and their secrets, if they need one.
 #[derive(Clone, Copy)]
 pub struct Guard<'a> {
     /// The secrets, if there are any. Without them nobody is turned away.

@@ -1,4 +1,4 @@
--- Lots that are charged or given back under several keys, one key after another.
+-- Lots charged or given back under several keys, one key after another.
 use Rattle.std.proofs.Common.{◌≡◌, ◌∙◌, sym, refl, ap, subst, ℕ, zero, suc, ◌+◌, ◌-◌, ◌≤◌, ◌<◌, ◌&&◌, ◌||◌, Bool, true, false, cond, List, [], ◌∷◌, ◌++◌, map, length, take, get_or, Option, Some, None, inl, inr, is_some, arith}
 use Rattle.std.specs.List.{All, IsDistinct}
 use Rattle.std.specs.Option.{option_map, option_map_or}
@@ -16,7 +16,7 @@ use Rattle.gu_limits.specs.Changes.{Charges, Returns, SameLimits, limits_after_c
 use Rattle.gu_limits.specs.Limits.{GroupLimit, limit_for, room_in, used_in}
 use Rattle.gu_limits.proofs.LimitLemmas.{found_place, limit_for-map, same_limits, used-map}
 
--- what holds of all keys holds of one that is among them
+-- a property of all keys is one of each of them
 pub holds_of_key : (P : LimitKey → Type 0) (keys : List LimitKey) (k : LimitKey) → All P keys → has_key keys k ≡ true → P k
 holds_of_key P [] k all among = cc
 holds_of_key P (j ∷ keys) k all among =
@@ -25,7 +25,7 @@ holds_of_key P (j ∷ keys) k all among =
       | inr miss ↦ holds_of_key P keys k (All-tail P j keys all) (rw miss at among)
     ]
 
--- a key of keys that are apart isn't among those before it
+-- distinct keys: a key isn't among those before it
 pub not_before : (keys : List LimitKey) (i : ℕ) (d : LimitKey) → IsDistinct key_eq keys → i < length keys → has_key (take i keys) (get_or keys i d) ≡ false
 not_before [] i d apart inside = absurd (omega arith)
 not_before (j ∷ keys) zero d apart inside = refl
@@ -33,7 +33,7 @@ not_before (j ∷ keys) (suc i) d apart inside =
     let other : key_eq j (get_or keys i d) ≡ false = apart_from_distinct key_eq (j ∷ keys) 0 (suc i) d apart (omega arith) inside in
     rw (other) (not_before keys i d (IsDistinct-tail key_eq j keys apart) (omega arith))
 
--- the lots under one more key, which is not among the others
+-- the lots under one more key, which isn't among the others
 pub lots_under-push : (group : Group) (keys : List LimitKey) (k : LimitKey) (lots : ℕ) (at : Group) (on : LimitKey) → has_key keys k ≡ false
     → lots_under group (keys ++ k ∷ []) lots at on ≡ lots_under group keys lots at on + lots_under group (k ∷ []) lots at on
 lots_under-push group keys k lots at on apart =
@@ -49,29 +49,29 @@ lots_under-push group keys k lots at on apart =
     by true true true e f =
         let both : has_key keys k ≡ true = ap (has_key keys) (key_eq-same k on f) ∙ e in cc
 
--- no lots count under a key that is not among them
+-- no lots count under a key that isn't among them
 pub lots_under-none : (group : Group) (keys : List LimitKey) (k : LimitKey) (lots : ℕ) (at : Group) → has_key keys k ≡ false → lots_under group keys lots at k ≡ 0
 lots_under-none group keys k lots at apart =
     rw apart (elim (same_group at group) as (λ b. cond (b && false) lots 0 ≡ 0) [ true ↦ refl | false ↦ refl ])
 
--- two changes of each limit, one after the other, are one
+-- two changes of each limit in succession are one change
 twice : (f g h : GroupLimit → GroupLimit) → ((l : GroupLimit) → g (f l) ≡ h l) → (ls : List GroupLimit) → map g (map f ls) ≡ map h ls
 twice f g h agree [] = refl
 twice f g h agree (l ∷ ls) = λ i. agree l i ∷ twice f g h agree ls i
 
--- ---- lots that count under keys change the use of each limit: they are added to it, or taken off it
+-- ---- lots that count under keys change the use of each limit: they are added to it, or subtracted from it
 
 module _ (change : ℕ → ℕ → ℕ) (still : (used : ℕ) → change used 0 ≡ used) (both : (used a b : ℕ) → change (change used a) b ≡ change used (a + b)) (lots : ℕ) where
   abbrev pub after : Group → List LimitKey → List GroupLimit → List GroupLimit
   after group keys ls = map (λ (l : GroupLimit). record l { used = change l.used (lots_under group keys lots l.group l.key) }) ls
 
-  -- where none count, nothing changes
+  -- if no lots count, nothing changes
   pub after-nothing : (group : Group) (keys : List LimitKey) → ((at : Group) (on : LimitKey) → lots_under group keys lots at on ≡ 0) → (ls : List GroupLimit) → after group keys ls ≡ ls
   after-nothing group keys none [] = refl
   after-nothing group keys none (l ∷ ls) = λ i. (record l { used = (ap (change l.used) (none l.group l.key) ∙ still l.used) i }) ∷ after-nothing group keys none ls i
 
   module _ (group : Group) where
-    -- so it is under no key
+    -- nothing changes under no keys
     pub after-none : (ls : List GroupLimit) → after group [] ls ≡ ls
     after-none = after-nothing group [] (λ at on. elim (same_group at group) as (λ b. cond (b && false) lots 0 ≡ 0) [ true ↦ refl | false ↦ refl ])
 
@@ -80,7 +80,7 @@ module _ (change : ℕ → ℕ → ℕ) (still : (used : ℕ) → change used 0 
     after-push keys k apart ls =
         twice _ _ _ (λ l. ap (λ used. record l { used = used }) (both l.used _ _ ∙ ap (change l.used) (sym (lots_under-push group keys k lots l.group l.key apart)))) ls
 
-    -- the limit of a key that isn't among them is as it was
+    -- the limit of a key that isn't among them is unchanged
     pub after-apart : (keys : List LimitKey) (k : LimitKey) → has_key keys k ≡ false → (ls : List GroupLimit) → limit_for (after group keys ls) group k ≡ limit_for ls group k
     after-apart keys k apart ls = limit_for-map _ (λ g k l. refl) ls group k ∙ by (limit_for ls group k) refl
       where
@@ -92,7 +92,7 @@ module _ (change : ℕ → ℕ → ℕ) (still : (used : ℕ) → change used 0 
             λ i. Some (record l { used = (ap (change l.used) none ∙ still l.used) i })
 
 module _ (ls : List GroupLimit) (group : Group) (lots : ℕ) (keys : List LimitKey) where
-  -- limits stay, and a use that is there grows by what counts under its key
+  -- limits stay, and each use grows by the lots that count under its key
   pub charged : All (λ key. lots ≤ room_in ls group key) keys → Charges ls (limits_after_charge ls group keys lots) group keys lots
   charged room = record {
     rows = refl;
@@ -105,7 +105,7 @@ module _ (ls : List GroupLimit) (group : Group) (lots : ℕ) (keys : List LimitK
       no_room None h = refl
       no_room (Some l) h = cc
 
-      -- none count under a limit that isn't there, since it has no room
+      -- no lots count under a limit that wasn't set, since it has no room
       nowhere : (at : Group) (on : LimitKey) → limit_for ls at on ≡ None → (here among : Bool) → same_group at group ≡ here → has_key keys on ≡ among → cond (here && among) lots 0 ≡ 0
       nowhere at on absent true true h a =
           let fits : lots ≤ room_in ls group on = holds_of_key (λ key. lots ≤ room_in ls group key) keys on room a in
@@ -119,7 +119,7 @@ module _ (ls : List GroupLimit) (group : Group) (lots : ℕ) (keys : List LimitK
       grown at on None e = let nothing = nowhere at on e (same_group at group) (has_key keys on) refl refl in omega arith
       grown at on (Some l) e = refl
 
-  -- and falls by it, where so many lots are used
+  -- each use falls by the lots that count under its key, if at least that many are used
   pub returned : All (λ key. lots ≤ used_in ls group key) keys → Returns ls (limits_after_return ls group keys lots) group keys lots
   returned used = record {
     rows = refl;

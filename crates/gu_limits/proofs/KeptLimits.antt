@@ -1,4 +1,4 @@
--- Limits as they are kept: what a look-up finds, one that is set or charged, and a day that begins.
+-- Limits as stored: look-ups, setting or charging one, and the start of a day.
 use Rattle.std.proofs.Common.{◌≡◌, ◌∙◌, sym, refl, ap, subst, ℕ, zero, suc, ◌+◌, ◌-◌, ◌≤◌, ◌&&◌, ◌||◌, ◌==◌, Bool, true, false, cond, List, [], ◌∷◌, ◌++◌, map, length, Option, Some, None, is_some, slice_get, inl, inr, eq-eqb, arith}
 use Rattle.std.specs.Cmp.{IsEquivalence}
 use Rattle.std.specs.List.{All, AllByRecursion, IsDistinct}
@@ -24,7 +24,7 @@ use Rattle.gu_limits.specs.Kept.{IsWithin, limit_on, set_to, unused, used_on}
 use Rattle.gu_limits.specs.Limits.{GroupLimit, has_limit, is_of, limit_and_use, limit_for, limit_in, room_in, same_limit, same_place, used_in}
 use Rattle.gu_limits.proofs.LimitLemmas.{same_place-one, same_place-refl, same_place-sym}
 
--- ---- the `==` of groups and keys, by which the map finds limits
+-- ---- the `==` of groups and keys, with which the map finds limits
 
 abbrev pub same : GroupKey → GroupKey → Bool
 same = group_key.eq-value.it
@@ -32,7 +32,7 @@ same = group_key.eq-value.it
 same_as : (a b : GroupKey) → same a b ≡ same_place a.group a.key b.group b.key
 same_as a b = ap (λ keys. same_group a.group b.group && keys) (eq_is a.key b.key)
 
--- is that of a limit's group and key
+-- it compares a limit's group and key
 pub same_is : (a b : GroupKey) → same a b ≡ same_place b.group b.key a.group a.key
 same_is a b = same_as a b ∙ same_place-sym a.group a.key b.group b.key
 
@@ -48,7 +48,7 @@ same-laws = record {
   congr = λ a b c h. ap (λ k. same k c) (same-one a b h);
 }
 
--- ---- what a look-up finds
+-- ---- look-ups
 
 module _ (day : ℕ) (on : GroupKey) where
   pub limit_for-kept : (es : List (GroupKey × KeptLimit)) → limit_for (map (limit_on day) es) on.group on.key ≡ option_map (λ kept. limit_on day (on, kept)) (lookup (same on) es)
@@ -64,7 +64,7 @@ module _ (day : ℕ) (on : GroupKey) where
       by false h = refl
 
   module _ (es : List (GroupKey × KeptLimit)) where
-    -- whether a limit is there
+    -- whether a limit was set
     pub known-kept : has_limit (map (limit_on day) es) on.group on.key ≡ is_some (lookup (same on) es)
     known-kept =
         ap is_some (limit_for-kept es)
@@ -76,13 +76,13 @@ module _ (day : ℕ) (on : GroupKey) where
         ap (λ o. option_map_or (λ (l : GroupLimit). l.limit) o 0) (limit_for-kept es)
         ∙ elim (lookup (same on) es) as (λ o. option_map_or (λ (l : GroupLimit). l.limit) (option_map (λ kept. limit_on day (on, kept)) o) 0 ≡ option_map_or (λ (kept : KeptLimit). kept.limit) o 0) [ None ↦ refl | Some kept ↦ refl ]
 
-    -- what is used of it
+    -- its use
     pub used-kept : used_in (map (limit_on day) es) on.group on.key ≡ option_map_or (used_on day) (lookup (same on) es) 0
     used-kept =
         ap (λ o. option_map_or (λ (l : GroupLimit). l.used) o 0) (limit_for-kept es)
         ∙ elim (lookup (same on) es) as (λ o. option_map_or (λ (l : GroupLimit). l.used) (option_map (λ kept. limit_on day (on, kept)) o) 0 ≡ option_map_or (used_on day) o 0) [ None ↦ refl | Some kept ↦ refl ]
 
-    -- both of them
+    -- its lots and its use
     pub limit_and_use-kept : limit_and_use (map (limit_on day) es) on.group on.key ≡ option_map (λ kept. (kept.limit, used_on day kept)) (lookup (same on) es)
     limit_and_use-kept =
         ap (option_map (λ (l : GroupLimit). (l.limit, l.used))) (limit_for-kept es)
@@ -90,7 +90,7 @@ module _ (day : ℕ) (on : GroupKey) where
         (λ o. option_map (λ (l : GroupLimit). (l.limit, l.used)) (option_map (λ kept. limit_on day (on, kept)) o) ≡ option_map {U = ℕ × ℕ} (λ kept. (kept.limit, used_on day kept)) o)
         [ None ↦ refl | Some kept ↦ refl ]
 
-    -- the room that is left, by what a look-up finds
+    -- the room left, from the result of a look-up
     pub room-kept : (o : Option KeptLimit) → lookup (same on) es ≡ o
         → room_in (map (limit_on day) es) on.group on.key ≡ option_map_or (λ (kept : KeptLimit). kept.limit - used_on day kept) o 0
     room-kept o found =
@@ -102,7 +102,7 @@ none-apart : IsDistinct same_limit []
 unfolding IsDistinct
 none-apart = tt
 
--- groups and keys that are apart are those of limits that are
+-- distinct groups and keys in the map make limits distinct
 pub once-kept : (day : ℕ) (es : List (GroupKey × KeptLimit)) → IsDistinct same (keys_of es) → IsDistinct same_limit (map (limit_on day) es)
 once-kept day [] apart = none-apart
 once-kept day (e ∷ es) apart =
@@ -114,19 +114,19 @@ once-kept day (e ∷ es) apart =
     others [] h = tt
     others (f ∷ es) h = (sym (same_as e.0 f.0) ∙ h.0, others es h.1)
 
--- ---- one that is written
+-- ---- writing one limit
 
 module _ (on : GroupKey) (to : KeptLimit → KeptLimit) where
   -- the entry is written, if it is of that group and key
   abbrev pub step : GroupKey × KeptLimit → GroupKey × KeptLimit
   step e = cond (same on e.0) (e.0, to e.1) e
 
-  -- where none is, nothing is
+  -- if there is no such entry, nothing is written
   untouched : (es : List (GroupKey × KeptLimit)) → NonePasses (same on) es → map step es ≡ es
   untouched [] h = refl
   untouched (e ∷ es) h = rw h.0 (ap (λ rest. e ∷ rest) (untouched es h.1))
 
-  -- where one is, it alone is
+  -- if there is one, only that is written
   pub written : (es : List (GroupKey × KeptLimit)) (kept : KeptLimit) → IsDistinct same (keys_of es) → lookup (same on) es ≡ Some kept → set_value (same on) es (to kept) ≡ map step es
   written [] kept apart found = cc
   written (e ∷ es) kept apart found =
@@ -138,7 +138,7 @@ module _ (on : GroupKey) (to : KeptLimit → KeptLimit) where
         | inr miss ↦ rw miss (ap (λ rest. e ∷ rest) (written es kept (IsDistinct-tail same e.0 (keys_of es) apart) (rw miss at found)))
       ]
 
--- what holds of all entries holds after one is written, if it holds of that
+-- a property of all entries still holds after a write, if it holds of the entry written
 pub All-written : (P : KeptLimit → Type 0) (test : GroupKey → Bool) (es : List (GroupKey × KeptLimit)) (w : KeptLimit) → All (λ e. P e.1) es → P w → All (λ e. P e.1) (set_value test es w)
 All-written P test [] w all new = All-nil (λ e. P e.1)
 All-written P test (e ∷ es) w all new =
@@ -147,7 +147,7 @@ All-written P test (e ∷ es) w all new =
       | inr miss ↦ rw miss (All-cons (λ e. P e.1) e (set_value test es w) (All-head (λ e. P e.1) e es all) (All-written P test es w (All-tail (λ e. P e.1) e es all) new))
     ]
 
--- and so of the one that a look-up finds
+-- and it holds of the entry that a look-up finds
 pub All-found : (P : KeptLimit → Type 0) (test : GroupKey → Bool) (es : List (GroupKey × KeptLimit)) (kept : KeptLimit) → All (λ e. P e.1) es → lookup test es ≡ Some kept → P kept
 All-found P test [] kept all found = cc
 All-found P test (e ∷ es) kept all found =
@@ -169,7 +169,7 @@ after-map : (f : GroupLimit → GroupLimit) (of : GroupKey × KeptLimit → Grou
 after-map f of [] = refl
 after-map f of (e ∷ es) = ap (λ rest. f (of e) ∷ rest) (after-map f of es)
 
--- a limit that is written is the limit that is changed
+-- writing a stored limit changes that limit
 pub changed : (day : ℕ) (on : GroupKey) (to : KeptLimit → KeptLimit) (f : GroupLimit → GroupLimit)
     → ((e : GroupKey × KeptLimit) → same on e.0 ≡ true → limit_on day (e.0, to e.1) ≡ f (limit_on day e))
     → ((e : GroupKey × KeptLimit) → same on e.0 ≡ false → limit_on day e ≡ f (limit_on day e))
@@ -186,9 +186,9 @@ changed day on to f here others es =
           | inr miss ↦ ap (λ b. limit_on day (cond b (e.0, to e.1) e)) miss ∙ others e miss
         ]
 
--- ---- lots that are charged or given back under one key
+-- ---- lots charged or given back under one key
 
--- lots count under one key where it is that
+-- lots count under one key if it is that key
 lots_under-one : (g : Group) (k : LimitKey) (lots : ℕ) (at : Group) (on : LimitKey) → lots_under g (k ∷ []) lots at on ≡ cond (same_place at on g k) lots 0
 lots_under-one g k lots at on =
     rw (key_eq-sym on k)
@@ -197,12 +197,12 @@ lots_under-one g k lots at on =
       | false ↦ refl
     ])
 
--- what is used on its own day
+-- the use on the limit's own day
 used_on-own : (day used limit : ℕ) → used_on day (record { limit = limit; used = used; day = day }) ≡ used
 used_on-own day used limit = ap (λ b. cond b used 0) (eq-eqb day day refl)
 
 module _ (day : ℕ) (on : GroupKey) (lots : ℕ) where
-  -- a limit whose use is changed on a day
+  -- a limit after its use is changed on a day
   abbrev pub using : (ℕ → ℕ) → KeptLimit → KeptLimit
   using change kept = record kept { used = change (used_on day kept); day = day }
 
@@ -221,7 +221,7 @@ module _ (day : ℕ) (on : GroupKey) (lots : ℕ) where
       (λ e miss. let none = charged e false miss in let same_use : used_on day e.1 ≡ used_on day e.1 - lots_under on.group (on.key ∷ []) lots e.0.group e.0.key = omega arith in ap (λ used. record (limit_on day e) { used = used }) same_use)
       es
 
--- ---- a limit that is set
+-- ---- setting a limit
 
 insert-present : (es : List (GroupKey × KeptLimit)) (on : GroupKey) (kept w : KeptLimit) → lookup (same on) es ≡ Some kept → insert_entry same es on w ≡ set_value (same on) es w
 insert-present [] on kept w found = cc
@@ -243,7 +243,7 @@ module _ (day : ℕ) (on : GroupKey) (lots : ℕ) where
   abbrev pub setting : KeptLimit → KeptLimit
   setting kept = record kept { limit = lots }
 
-  -- where it was set before
+  -- if it was set before
   pub set-present : (es new : List (GroupKey × KeptLimit)) (kept : KeptLimit) → lookup (same on) es ≡ Some kept → new ≡ insert_entry same es on (setting kept) → IsDistinct same (keys_of new)
       → (map (limit_on day) new ≡ limits_after_setting (map (limit_on day) es) on.group on.key lots)
   set-present es new kept found is apart =
@@ -257,7 +257,7 @@ module _ (day : ℕ) (on : GroupKey) (lots : ℕ) where
       es
       ∙ sym (ap (λ b. cond b (map (λ (l : GroupLimit). record l { limit = cond (is_of on.group on.key l) lots l.limit }) (map (limit_on day) es)) (map (limit_on day) es ++ (record { group = on.group; key = on.key; limit = lots; used = 0 }) ∷ [])) known)
 
-  -- where it was not
+  -- if it wasn't
   pub set-absent : (es new : List (GroupKey × KeptLimit)) → lookup (same on) es ≡ None → new ≡ insert_entry same es on (record { limit = lots; used = 0; day = day })
       → (map (limit_on day) new ≡ limits_after_setting (map (limit_on day) es) on.group on.key lots)
   set-absent es new none is =
@@ -268,7 +268,7 @@ module _ (day : ℕ) (on : GroupKey) (lots : ℕ) where
       ∙ ap (λ used. map (limit_on day) es ++ (record { group = on.group; key = on.key; limit = lots; used = used }) ∷ []) (used_on-own day 0 lots)
       ∙ sym (ap (λ b. cond b (map (λ (l : GroupLimit). record l { limit = cond (is_of on.group on.key l) lots l.limit }) (map (limit_on day) es)) (map (limit_on day) es ++ (record { group = on.group; key = on.key; limit = lots; used = 0 }) ∷ [])) unknown)
 
-  -- whether it was or not
+  -- in either case
   pub set-kept : (es new : List (GroupKey × KeptLimit)) → new ≡ insert_entry same es on (set_to day lots (lookup (same on) es)) → IsDistinct same (keys_of new)
       → (map (limit_on day) new ≡ limits_after_setting (map (limit_on day) es) on.group on.key lots)
   set-kept es new is apart = by (lookup (same on) es) refl
@@ -277,7 +277,7 @@ module _ (day : ℕ) (on : GroupKey) (lots : ℕ) where
       by None e = set-absent es new e (is ∙ ap (λ o. insert_entry same es on (set_to day lots o)) e)
       by (Some kept) e = set-present es new kept e (is ∙ ap (λ o. insert_entry same es on (set_to day lots o)) e) apart
 
-  -- it is within what a limit may be
+  -- it is at most the highest limit
   pub set-within : (es : List (GroupKey × KeptLimit)) → All (λ e. IsWithin day e.1) es → lots ≤ 1000000000 → IsWithin day (set_to day lots (lookup (same on) es))
   set-within es all most = by (lookup (same on) es) refl
     where
@@ -285,7 +285,7 @@ module _ (day : ℕ) (on : GroupKey) (lots : ℕ) where
       by None e = record { limit = most; used = omega arith; charged = omega arith }
       by (Some kept) e = let own = All-found (IsWithin day) (same on) es kept all e in record { limit = most; used = own.used; charged = own.charged }
 
--- what holds of all holds after an insert, if it holds of the new one
+-- a property of all entries still holds after an insertion, if it holds of the new one
 pub All-inserted : (P : KeptLimit → Type 0) (es : List (GroupKey × KeptLimit)) (on : GroupKey) (w : KeptLimit) → All (λ e. P e.1) es → P w → All (λ e. P e.1) (insert_entry same es on w)
 All-inserted P [] on w all new = All-cons (λ e. P e.1) (on, w) [] new all
 All-inserted P (e ∷ es) on w all new =
@@ -296,7 +296,7 @@ All-inserted P (e ∷ es) on w all new =
 
 -- ---- a day begins
 
--- what was charged by some day is not used on the next
+-- lots charged on an earlier day aren't used on the next
 later : (day : ℕ) (kept : KeptLimit) → kept.day ≤ day → used_on (day + 1) kept ≡ 0
 later day kept before =
     elim (cases_Bool (kept.day == day + 1)) [
@@ -320,7 +320,7 @@ within-unused day (e ∷ es) all =
     let own = All-head (λ e. IsWithin day e.1) e es all in
     All-cons (λ e. IsWithin 0 e.1) (unused e) (map unused es) (record { limit = own.limit; used = omega arith; charged = omega arith }) (within-unused day es (All-tail (λ e. IsWithin day e.1) e es all))
 
--- the first entries are unused, and the others as they were
+-- the first entries are unused, and the others are unchanged
 abbrev pub unused_before : ℕ → List (GroupKey × KeptLimit) → List (GroupKey × KeptLimit)
 unused_before place [] = []
 unused_before zero (e ∷ es) = e ∷ es
@@ -348,12 +348,12 @@ length-unused_before place [] = refl
 length-unused_before zero (e ∷ es) = refl
 length-unused_before (suc place) (e ∷ es) = ap suc (length-unused_before place es)
 
--- ---- what the type keeps, and room and use
+-- ---- the invariant of the type, room and use
 
 pub used_on-le : (day : ℕ) (kept : KeptLimit) → IsWithin day kept → used_on day kept ≤ 1000000000
 used_on-le day kept within = elim (kept.day == day) as (λ b. cond b kept.used 0 ≤ 1000000000) [ true ↦ within.used | false ↦ omega arith ]
 
--- no limit and no use is above what a limit may be
+-- no limit and no use is above the highest limit
 pub limits-within : (day : ℕ) (es : List (GroupKey × KeptLimit)) → All (λ e. IsWithin day e.1) es → (g : Group) (k : LimitKey) → limit_in (map (limit_on day) es) g k ≤ 1000000000
 limits-within day es all g k = rw (limit-kept day (record { group = g; key = k }) es) (by (lookup (same (record { group = g; key = k })) es) refl)
   where

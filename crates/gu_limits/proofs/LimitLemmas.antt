@@ -1,4 +1,4 @@
--- What a change of limits does to the limit and the use of each group and key.
+-- How a change of limits affects the limit and the use of each group and key.
 use Rattle.std.proofs.Common.{◌≡◌, ◌∙◌, sym, refl, ap, ℕ, ◌||◌, Bool, true, false, cond, List, [], ◌∷◌, ◌++◌, map, Option, Some, None, is_some, inl, inr}
 use Rattle.std.specs.List.{find}
 use Rattle.std.specs.Option.{option_map, option_map_or, option_or}
@@ -16,11 +16,11 @@ use Rattle.gu_limits.specs.Limits.{GroupLimit, has_limit, is_of, limit_for, limi
 
 -- ---- groups and keys
 
--- one place is its own
+-- a group and key are the same as themselves
 pub same_place-refl : (g : Group) (k : LimitKey) → same_place g k g k ≡ true
 same_place-refl g k = rw (same_group-own g, key_eq-refl k) refl
 
--- two places that are the same are one
+-- a group and key that compare as the same are equal
 pub same_place-one : (g : Group) (k : LimitKey) (h : Group) (j : LimitKey) → same_place g k h j ≡ true → (g ≡ h) × (k ≡ j)
 same_place-one g k h j e =
     let p = both (same_group g h) (key_eq k j) e in
@@ -31,7 +31,7 @@ turned g k h j e =
     let one = same_place-one g k h j e in
     rw (one.0, one.1) (same_place-refl h j)
 
--- whichever is named first
+-- the order of the two doesn't matter
 pub same_place-sym : (g : Group) (k : LimitKey) (h : Group) (j : LimitKey) → same_place g k h j ≡ same_place h j g k
 same_place-sym g k h j =
     elim (cases_Bool (same_place g k h j)) [
@@ -39,7 +39,7 @@ same_place-sym g k h j =
       | inr miss ↦ miss ∙ sym (false_from_ne_true (same_place h j g k) (λ hit. let both = turned h j g k hit in cc))
     ]
 
--- what a search finds passes its test
+-- the result of a search passes its test
 pub found_passes : {X : Type 0} (test : X → Bool) (xs : List X) (x : X) → find test xs ≡ Some x → test x ≡ true
 found_passes test [] x e = cc
 found_passes test (y ∷ ys) x e =
@@ -48,11 +48,11 @@ found_passes test (y ∷ ys) x e =
       | inr miss ↦ found_passes test ys x (rw miss at e)
     ]
 
--- the limit that is found is of that group and key
+-- the limit that is found is for that group and key
 pub found_place : (ls : List GroupLimit) (g : Group) (k : LimitKey) (l : GroupLimit) → limit_for ls g k ≡ Some l → (l.group ≡ g) × (l.key ≡ k)
 found_place ls g k l e = same_place-one l.group l.key g k (found_passes (is_of g k) ls l e)
 
--- ---- a change of each limit that leaves groups and keys
+-- ---- a change of each limit that keeps groups and keys
 
 module _ (f : GroupLimit → GroupLimit) (own : (g : Group) (k : LimitKey) (l : GroupLimit) → is_of g k (f l) ≡ is_of g k l) where
   pub limit_for-map : (ls : List GroupLimit) (g : Group) (k : LimitKey) → limit_for (map f ls) g k ≡ option_map f (limit_for ls g k)
@@ -61,7 +61,7 @@ module _ (f : GroupLimit → GroupLimit) (own : (g : Group) (k : LimitKey) (l : 
       rw (own g k l, limit_for-map ls g k)
       (elim (is_of g k l) as (λ b. cond b (Some (f l)) (option_map f (limit_for ls g k)) ≡ option_map f (cond b (Some l) (limit_for ls g k))) [ true ↦ refl | false ↦ refl ])
 
-  -- what is read of the limit that is found
+  -- a value read from the limit that is found
   read : {Y : Type 0} (of : GroupLimit → Y) (none : Y) (ls : List GroupLimit) (g : Group) (k : LimitKey)
       → option_map_or of (limit_for (map f ls) g k) none ≡ option_map_or (λ l. of (f l)) (limit_for ls g k) none
   read of none ls g k =
@@ -72,14 +72,14 @@ module _ (f : GroupLimit → GroupLimit) (own : (g : Group) (k : LimitKey) (l : 
   known-map ls g k =
       ap is_some (limit_for-map ls g k) ∙ elim (limit_for ls g k) as (λ o. is_some (option_map f o) ≡ is_some o) [ None ↦ refl | Some l ↦ refl ]
 
-  -- where each limit keeps its lots, none changes
+  -- if each limit keeps its lots, none changes
   pub same_limits : ((l : GroupLimit) → (f l).limit ≡ l.limit) → (ls : List GroupLimit) → SameLimits ls (map f ls)
   same_limits keeps ls = record {
     known = known-map ls;
     lots = λ g k. read (λ l. l.limit) 0 ls g k ∙ elim (limit_for ls g k) as (λ o. option_map_or (λ l. (f l).limit) o 0 ≡ option_map_or (λ l. l.limit) o 0) [ None ↦ refl | Some l ↦ keeps l ];
   }
 
-  -- where each use becomes one that its group and key decide
+  -- if each use becomes a function of its group, its key and itself
   pub used-map : (to : Group → LimitKey → ℕ → ℕ) → ((l : GroupLimit) → (f l).used ≡ to l.group l.key l.used) → (ls : List GroupLimit) (g : Group) (k : LimitKey)
       → used_in (map f ls) g k ≡ option_map_or (λ l. to g k l.used) (limit_for ls g k) 0
   used-map to becomes ls g k = read (λ l. l.used) 0 ls g k ∙ by (limit_for ls g k) refl
@@ -90,9 +90,9 @@ module _ (f : GroupLimit → GroupLimit) (own : (g : Group) (k : LimitKey) (l : 
           let one = found_place ls g k l e in
           becomes l ∙ ap (λ h. to h l.key l.used) one.0 ∙ ap (λ j. to g j l.used) one.1
 
--- ---- a limit is set
+-- ---- setting a limit
 
--- what is found for each group and key
+-- the result of a search for each group and key
 pub limit_for-setting : (ls : List GroupLimit) (g : Group) (k : LimitKey) (lots : ℕ) (at : Group) (on : LimitKey)
     → limit_for (limits_after_setting ls g k lots) at on
     ≡ cond (same_place at on g k) (Some (record { group = g; key = k; limit = lots; used = used_in ls g k })) (limit_for ls at on)
@@ -147,13 +147,13 @@ module _ (ls : List GroupLimit) (g : Group) (k : LimitKey) (lots : ℕ) where
   abbrev set_here : GroupLimit
   set_here = record { group = g; key = k; limit = lots; used = used_in ls g k }
 
-  -- a limit is there then, and each other one is there or not as before
+  -- that limit is then set, and each other one is set or not as before
   pub known-setting : (at : Group) (on : LimitKey) → has_limit (limits_after_setting ls g k lots) at on ≡ (same_place at on g k || has_limit ls at on)
   known-setting at on =
       ap is_some (limit_for-setting ls g k lots at on)
       ∙ elim (same_place at on g k) as (λ b. is_some (cond b (Some set_here) (limit_for ls at on)) ≡ (b || has_limit ls at on)) [ true ↦ refl | false ↦ refl ]
 
-  -- it has these lots, and each other one has its own
+  -- it has these lots, and each other one keeps its own
   pub limit-setting : (at : Group) (on : LimitKey) → limit_in (limits_after_setting ls g k lots) at on ≡ cond (same_place at on g k) lots (limit_in ls at on)
   limit-setting at on =
       ap (λ o. option_map_or (λ (l : GroupLimit). l.limit) o 0) (limit_for-setting ls g k lots at on)

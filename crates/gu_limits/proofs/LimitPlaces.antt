@@ -1,4 +1,4 @@
--- The places of limits: where a look-up finds one, what is kept there, and what a change there does.
+-- The indexes of limits: what a look-up finds, what is stored there, and the effect of a change there.
 use Rattle.std.proofs.Common.{◌≡◌, ◌∙◌, ◌+◌, ◌-◌, ◌<◌, ◌≤◌, ◌&&◌, ◌⊎◌, sym, ap, refl, subst, inl, inr, ℕ, zero, suc, Bool, true, false, cond, List, [], ◌∷◌, ◌++◌, map, length, get_or, not, nat_lt, position, slice_get, slice_index, take, Option, Some, None, arith}
 use Rattle.std.specs.List.{All, IsDistinct, find, position_or_len}
 use Rattle.std.specs.Map.{keys_of, values_of}
@@ -24,7 +24,7 @@ use Rattle.gu_limits.proofs.Bookings.{after, after-apart, after-nothing, after-p
 use Rattle.gu_limits.proofs.KeptLimits.{All-written, charge-kept, return-kept, same, same-laws, same-one, same_is, step, used_on-le, using, written}
 use Rattle.gu_limits.proofs.LimitLemmas.{found_place}
 
--- the first item that passes a test is at its place
+-- the first item that passes a test is at its index
 pub placed : {X : Type 0} (test : X → Bool) (xs : List X) (n : ℕ) → position test xs ≡ Some n → (n < length xs) × (slice_get xs n ≡ find test xs)
 placed test xs n at = by (nat_lt (position_or_len test xs) (length xs)) refl at
   where
@@ -34,7 +34,7 @@ placed test xs n at = by (nat_lt (position_or_len test xs) (length xs)) refl at
         (subst (λ k. k < length xs) one (ltb-true (position_or_len test xs) (length xs) e), ap (slice_get xs) (sym one) ∙ sym (find_at test xs))
     by false e h = cc
 
--- and one that is nowhere isn't found
+-- an item at no index isn't found
 not_placed : {X : Type 0} (test : X → Bool) (xs : List X) → position test xs ≡ None → find test xs ≡ None
 not_placed test xs at = by (nat_lt (position_or_len test xs) (length xs)) refl at
   where
@@ -48,7 +48,7 @@ item-at [] n inside = absurd (omega arith)
 item-at (x ∷ xs) zero inside = (x, refl)
 item-at (x ∷ xs) (suc n) inside = item-at xs n (omega arith)
 
--- a place is the same among items that pass as these do
+-- an index is the same in a list whose items pass alike
 module _ {X Y : Type 0} (test : X → Bool) (other : Y → Bool) (f : X → Y) (alike : (x : X) → other (f x) ≡ test x) where
   before-map : (xs : List X) → position_or_len other (map f xs) ≡ position_or_len test xs
   before-map [] = refl
@@ -67,9 +67,9 @@ number-kept day on es =
     (position-map (λ e. same on e.0) (is_of on.group on.key) (limit_on day) (λ e. sym (same_is on e.0)) es
     ∙ sym (position-map (λ e. same on e.0) (same on) (λ e. e.0) (λ e. refl) es))
 
--- what is kept at a place
+-- what is stored at an index
 module _ (day n : ℕ) (es : List (GroupKey × KeptLimit)) where
-  -- by what is seen there
+  -- in terms of the limit seen there
   pub kept-at : (l : GroupLimit) → slice_get (map (limit_on day) es) n ≡ Some l → (e : GroupKey × KeptLimit) × (slice_get es n ≡ Some e) × (limit_on day e ≡ l)
   kept-at l at = by (slice_get es n) refl (sym (slice_get-map (limit_on day) es n) ∙ at)
     where
@@ -78,7 +78,7 @@ module _ (day n : ℕ) (es : List (GroupKey × KeptLimit)) where
       by None e h = cc
       by (Some kept) e h = (kept, e, cc)
 
-  -- and so of the limits that are seen
+  -- for the limits seen
   pub entry-at : (ls : List GroupLimit) → map (limit_on day) es ≡ ls → n < length ls
       → (e : GroupKey × KeptLimit) × (slice_get es n ≡ Some e) × (slice_get ls n ≡ Some (limit_on day e))
   entry-at ls view inside =
@@ -96,7 +96,7 @@ module _ (day n : ℕ) (es : List (GroupKey × KeptLimit)) where
     pub within-at : All (λ e. IsWithin day e.1) es → IsWithin day e.1
     within-at all = subst (λ (e : GroupKey × KeptLimit). IsWithin day e.1) (get_or_from_slice_get es n e e here) (all n e (slice_get_within es n e here))
 
-    -- lots for which there is room fit
+    -- lots for which there is room don't overflow
     pub fits-at : (lots : ℕ) → All (λ e. IsWithin day e.1) es → lots ≤ e.1.limit - used_on day e.1 → used_on day e.1 + lots ≤ 1000000000
     fits-at lots all room =
         let own = within-at all in
@@ -105,12 +105,12 @@ module _ (day n : ℕ) (es : List (GroupKey × KeptLimit)) where
         omega arith
 
     module _ (apart : IsDistinct same (keys_of es)) where
-      -- what is written there is written for its key, and is within what a limit may be where that is
+      -- a write there is a write for its key, and keeps within the highest limit if the value does
       pub written-within : (w : KeptLimit) → All (λ e. IsWithin day e.1) es → IsWithin day w → All (λ e. IsWithin day e.1) (set_value_at es n w)
       written-within w all own =
           subst (All (λ e. IsWithin day e.1)) (sym (set_value_at-standing same same-laws same-one es e.0 n stands apart w)) (All-written (IsWithin day) (same e.0) es w all own)
 
-      -- a use that is written there is that of the limit that is seen there
+      -- a use written there is that of the limit seen there
       use-at : (change : ℕ → ℕ) (lots : ℕ) → map (limit_on day) (set_value_at es n (using day e.0 lots change e.1)) ≡ map (limit_on day) (map (step e.0 (using day e.0 lots change)) es)
       use-at change lots =
           ap (map (limit_on day))
@@ -125,10 +125,10 @@ module _ (day n : ℕ) (es : List (GroupKey × KeptLimit)) where
           ≡ limits_after_return (map (limit_on day) es) e.0.group (e.0.key ∷ []) lots
       return-at lots = use-at (λ used. used - lots) lots ∙ return-kept day e.0 lots es
 
--- the limit that is seen at a place, with what is used of it
+-- the limit seen at an index, with its use
 module _ (day n : ℕ) (es : List (GroupKey × KeptLimit)) (ls : List GroupLimit) (view : map (limit_on day) es ≡ ls) (known : n < length ls) (used : ℕ)
     (own : (l : GroupLimit) → slice_get ls n ≡ Some l → used ≡ l.used) (lots : ℕ) where
-  -- and lots for which it has room
+  -- with room for these lots
   pub with_room : All (λ e. IsWithin day e.1) es → ((l : GroupLimit) → slice_get ls n ≡ Some l → lots ≤ l.limit - l.used)
       → (e : GroupKey × KeptLimit) × (slice_get es n ≡ Some e) × (used ≡ used_on day e.1) × (used + lots ≤ 1000000000)
   with_room all room =
@@ -136,7 +136,7 @@ module _ (day n : ℕ) (es : List (GroupKey × KeptLimit)) (ls : List GroupLimit
       let is = own (limit_on day e.0) e.2 in
       (e.0, e.1, is, omega (arith, is, fits-at day n es e.0 e.1 lots all (room (limit_on day e.0) e.2)))
 
-  -- or that are used of it
+  -- or with these lots used
   pub with_use : ((l : GroupLimit) → slice_get ls n ≡ Some l → lots ≤ l.used) → (e : GroupKey × KeptLimit) × (slice_get es n ≡ Some e) × (used ≡ used_on day e.1) × (lots ≤ used)
   with_use fits =
       let e = entry-at day n es ls view known in
@@ -172,21 +172,21 @@ module _ (change : ℕ → ℕ → ℕ) (still : (used : ℕ) → change used 0 
     apart : has_key (take i keys) k ≡ false
     apart = ap (has_key (take i keys)) (sym key_is) ∙ not_before keys i k once key_inside
 
-    -- its limit is as it was, so the lots fit
+    -- its limit is unchanged, so the lots fit
     fits-now : lots ≤ option_map_or of (limit_for now group k) 0
     fits-now =
         subst (λ o. lots ≤ option_map_or of o 0)
         (sym (ap (λ ls. limit_for ls group k) so_far ∙ after-apart change still both lots group (take i keys) k apart ls))
         (subst (λ key. lots ≤ option_map_or of (limit_for ls group key) 0) key_is (fits i k key_inside))
 
-    -- and with them all are changed up to it
+    -- so with it all are changed up to that key
     one-more : then_after group (k ∷ []) ≡ after change still both lots group (take (i + 1) keys) ls
     one-more =
         ap (after change still both lots group (k ∷ [])) so_far
         ∙ after-push change still both lots group (take i keys) k apart ls
         ∙ ap (λ ks. after change still both lots group ks ls) (ap (λ key. take i keys ++ key ∷ []) (sym key_is) ∙ sym (take_more keys i k key_inside))
 
-  -- where there is no limit no lots fit, so nothing changes
+  -- if there is no limit, no lots fit, so nothing changes
   pub none-more : number ≡ 0 → now ≡ after change still both lots group (take (i + 1) keys) ls
   none-more none = by (slice_get_cases keys i).1
     where
@@ -211,7 +211,7 @@ module _ (change : ℕ → ℕ → ℕ) (still : (used : ℕ) → change used 0 
           so_far
           ∙ ap (λ ks. after change still both lots group ks ls) (take_all i keys past.0 ∙ sym (take_all (i + 1) keys (omega (arith, past.0))))
 
-  -- where there is one, it is at its place
+  -- if there is one, it is at its index
   placed-at : 0 < number → (k : LimitKey) × (slice_get keys i ≡ Some k) × (position (is_of group k) now ≡ Some (number - 1))
   placed-at some = by (slice_get keys i) refl
     where
@@ -243,7 +243,7 @@ module _ (change : ℕ → ℕ → ℕ) (still : (used : ℕ) → change used 0 
         let own = found_place now group k.0 l.0 (sym found-there ∙ l.1) in
         changed l.0 l.1 ∙ (λ j. then_after (own.0 j) (own.1 j ∷ [])) ∙ one-more k.0 k.1
 
--- ---- what is charged, and what is given back
+-- ---- charging and giving back
 
 module _ (ls : List GroupLimit) (group : Group) (keys : List LimitKey) (lots : ℕ) (found : PathLimits) (i : ℕ) (inside : i < length found.numbers) (now : List GroupLimit) where
   abbrev number_ : ℕ

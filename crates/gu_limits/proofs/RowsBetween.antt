@@ -1,4 +1,4 @@
--- The agreement between a firm and an account is the one that its name finds, and its path is through the firm that carries the account.
+-- The agreement between a firm and an account is the one found by its name, and its path goes through the firm that carries the account.
 use Rattle.std.proofs.Common.{◌≡◌, ◌∙◌, sym, refl, ap, subst, is_some, Bool, true, false, cond, List, [], ◌∷◌, Option, None, Some}
 use Rattle.std.specs.List.{AllByRecursion, IsDistinct, find}
 use Rattle.std.specs.Option.{option_and_then, option_map}
@@ -20,7 +20,7 @@ use Rattle.gu_ref.specs.declared.partner.Partner.{Partner}
 use Rattle.gu_limits.specs.Paths.{path_of}
 use Rattle.gu_limits.proofs.CarriedAccounts.{account_is_there}
 
--- what is found passes the test by which it was found
+-- what is found passes the test of the search
 found_passes : {X : Type 0} (wanted : X → Bool) (rows : List X) (row : X) → find wanted rows ≡ Some row → wanted row ≡ true
 found_passes wanted [] row found = cc
 found_passes wanted (first ∷ rows) row found = by (wanted first) refl (found_passes wanted rows row) found
@@ -29,7 +29,7 @@ found_passes wanted (first ∷ rows) row found = by (wanted first) refl (found_p
     by true e later h = let same : first ≡ row = cc in ap wanted (sym same) ∙ e
     by false e later h = later h
 
--- and is what all rows are
+-- and has every property of all rows
 found_is : {X : Type 0} (P : X → Type 0) (wanted : X → Bool) (rows : List X) (row : X) → AllByRecursion P rows → find wanted rows ≡ Some row → P row
 found_is P wanted [] row all found = cc
 found_is P wanted (first ∷ rows) row all found = by (wanted first) (found_is P wanted rows row all.1) found
@@ -38,7 +38,7 @@ found_is P wanted (first ∷ rows) row all found = by (wanted first) (found_is P
     by true later h = let same : first ≡ row = cc in subst P same all.0
     by false later h = later h
 
--- where no two rows have one name, a row that is found is found by its name too
+-- if no two rows have the same name, a row that is found is found by its name too
 found_by_name : {X : Type 0} (same : X → X → Bool) → ((x : X) → same x x ≡ true) → (wanted : X → Bool) (rows : List X) (row : X) → IsDistinct same rows → find wanted rows ≡ Some row
     → find (λ x. same x row) rows ≡ Some row
 unfolding IsDistinct
@@ -70,12 +70,12 @@ row_between reference sound executing account id between = by (agreement_for ref
 abbrev partner : AgreementId → FirmId → Partner
 partner agreement carrying = record { agreement = agreement; carrying = carrying }
 
--- where a firm has an agreement for an account, the account is there
+-- if a firm has an agreement for an account, the account is in the reference
 pub carried_between : (reference : Tables) → IsSound reference → (executing : FirmId) (account : AccountId) (id : AgreementId) → agreement_between reference executing account ≡ Some id
     → is_some (account_row reference account) ≡ true
 carried_between reference sound executing account id between = account_is_there reference sound id _ (row_between reference sound executing account id between)
 
--- with the agreement stands the firm that carries the account
+-- the agreement comes with the firm that carries the account
 pub partner-none : (reference : Tables) → IsSound reference → (executing : FirmId) (account : AccountId) → partner_between reference executing account ≡ None
     → agreement_between reference executing account ≡ None
 partner-none reference sound executing account none = by (agreement_between reference executing account) refl (account_row reference account) refl none
@@ -86,7 +86,7 @@ partner-none reference sound executing account none = by (agreement_between refe
     by (Some id) e None f h = let never : true ≡ false = sym (carried_between reference sound executing account id e) ∙ ap is_some f in cc
     by (Some id) e (Some row) f h = cc
 
--- it is that agreement, and its path is through that firm
+-- it is that agreement, and its path goes through that firm
 pub partner-path : (reference : Tables) → IsSound reference → (executing : FirmId) (account : AccountId) (p : Partner) → partner_between reference executing account ≡ Some p
     → (agreement_between reference executing account ≡ Some p.agreement)
     × (path_of reference p.agreement ≡ Some (path_through executing p.agreement account p.carrying (guarantor_of reference p.carrying)))

@@ -1,17 +1,17 @@
-//! Why no limit was set.
+//! Why a limit is not set.
 
 ghost use Rattle.std.specs.Prelude.{◌≡◌};
 
 use std::alloc::AllocError;
 use thiserror::Error;
 
-/// Why a limit was not set. The limits are as they were.
+/// The reason that a limit is not set. The limits are unchanged.
 #[derive(Debug, Drop, Clone, Copy, PartialEq, Eq, Error)]
 pub enum SetError {
     /// An allocation failed.
     #[error("Memory")]
     Memory,
-    /// It is above 1,000,000,000 lots.
+    /// The limit is above 1,000,000,000 lots.
     #[error("TooHigh")]
     TooHigh,
 }

@@ -1,4 +1,4 @@
-//! Limits: the keys that an agreement's offers come under, and the lots that may be taken under each.
+//! Limits: the keys that apply to an agreement's offers, and the lots that may be taken under each.
 #![tactic(auto)]
 
 mod error;

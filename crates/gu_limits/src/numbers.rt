@@ -1,19 +1,19 @@
-//! The numbers of limits.
+//! Limit numbers.
 
 ghost use Rattle.std.specs.Prelude.{◌≡◌, replicate};
 
-/// As many keys as a path has at most.
+/// The most keys in a path.
 const MOST_KEYS: usize = 5;
 
-/// The limits of the keys of a path, in the order of the path, by their numbers: how many limits were set up to it, and itself. Of a
-/// limit that was never set, and after the last key, it is 0. No limit is removed, so the numbers stay right.
+/// The limits of a path's keys, in the order of the path, by number: the first limit set is 1. A limit never set, and any place after the
+/// last key, has 0. No limit is removed, so numbers stay valid.
 #[derive(Clone, Copy, Debug)]
 pub struct PathLimits {
     pub(crate) numbers: [usize; MOST_KEYS],
 }
 
 impl PathLimits {
-    /// Those of no key.
+    /// Returns the limits of a path without keys.
     pub fn none() -> Self
         ensures { result.numbers ≡ replicate 5 0 }
     {

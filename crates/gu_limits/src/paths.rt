@@ -11,7 +11,7 @@ ghost use Rattle.gu_limits.specs.Paths.{path_of};
 use gu_ref::{Partner, Reference};
 use gu_terms::{AccountId, AgreementId, FirmId, Path};
 
-/// The path through an executing firm, its agreement, the agreement's account and the firm that carries it.
+/// Returns the path through an executing firm, its agreement, the agreement's account and its carrying firm.
 #[tactic(auto, using(crate::proofs::PathKeys::kinds_differ))]
 fn through(
     reference: &Reference,
@@ -27,14 +27,14 @@ fn through(
     Path::new(*executing, *agreement, *account, *carrying, guarantor)
 }
 
-/// The keys that an agreement's offers come under, in order: executing firm, agreement, account, the firm that carries the
-/// account, and that firm's guarantor, where it has one. A guarantor's own guarantor isn't followed, and no key is there twice.
+/// Returns the keys that apply to an agreement's offers, in order: executing firm, agreement, account, the firm that carries the account,
+/// and that firm's guarantor if it has one. A guarantor's own guarantor isn't followed, and no key occurs twice.
 pub fn path(reference: &Reference, agreement: AgreementId) -> Option<Path>
     ensures keys { result ≡ path_of reference.now agreement }
     ensures once { IfSome result (IsDistinct key_eq) }
     ensures unknown { IsNone result ↔ (agreement_row reference.now agreement ≡ None) }
 {
-    // Shows the prover: what the type of the reference keeps.
+    // Shows the prover: the rules of the reference.
     reference.rules();
     let parties = reference.agreement(agreement)?;
     let carrying = reference.account(parties.account)?.firm;
@@ -47,7 +47,7 @@ pub fn path(reference: &Reference, agreement: AgreementId) -> Option<Path>
     ))
 }
 
-/// The path of the agreement that is known to be between an executing firm and an account.
+/// Returns the path of an agreement that is known to be between this executing firm and this account.
 pub fn path_by(
     reference: &Reference,
     executing: &FirmId,
@@ -58,7 +58,7 @@ pub fn path_by(
     ensures keys { path_of reference.now partner.now.agreement ≡ Some result }
     ensures once { IsDistinct key_eq result }
 {
-    // Shows the prover: what the type of the reference keeps.
+    // Shows the prover: the rules of the reference.
     reference.rules();
     through(
         reference,
@@ -69,7 +69,7 @@ pub fn path_by(
     )
 }
 
-/// The agreement by which an executing firm gives trades up to an account, with its path.
+/// Returns the agreement by which an executing firm gives trades up to an account, and its path.
 pub fn path_between(
     reference: &Reference,
     executing: FirmId,
@@ -79,7 +79,7 @@ pub fn path_between(
     ensures keys { IfSome result (λ p. path_of reference.now p.0 ≡ Some p.1) }
     ensures once { IfSome result (λ p. IsDistinct key_eq p.1) }
 {
-    // Shows the prover: what the type of the reference keeps.
+    // Shows the prover: the rules of the reference.
     reference.rules();
     let partner = reference.partner(executing, account)?;
     let path = path_by(reference, &executing, &account, &partner);

@@ -1,4 +1,4 @@
-//! The limits of the house, and what is used of them today.
+//! The limits of the house and their use today.
 
 ghost use Rattle.std.specs.Prelude.{◌≡◌, ◌+◌, ◌-◌, ◌<◌, ◌≤◌, ◌↔◌, ◌||◌, [], ◌∷◌, All, IfOk, IsErrOf, List, OnErr, OnOk, find, length, nat_lt, slice_get, if◌then◌else◌, map};
 ghost use Rattle.std.specs.List.{IsDistinct};
@@ -19,14 +19,14 @@ use indexmap::IndexMap;
 use std::alloc::{AllocError, Global};
 use std::marker::Model;
 
-/// What a limit is set on. No two limits have the same.
+/// The group and key that a limit applies to. No two limits have the same.
 #[derive(Clone, Copy, Debug, PartialEq, Eq, Hash)]
 struct GroupKey {
     group: Group,
     key: LimitKey,
 }
 
-/// A limit, and its use on the day of its last charge. On another day nothing is used of it.
+/// A limit and its use on the day when it was last charged. On any other day its use is 0.
 #[derive(Clone, Copy, Debug)]
 struct KeptLimit {
     limit: u64,
@@ -34,11 +34,10 @@ struct KeptLimit {
     day: u64,
 }
 
-/// The limits that were set, each group and key once. To a contract it is the list of them, in the order in which they were set
-/// first.
+/// A table of the limits that were set, each group and key once. To a contract it is their list, in the order in which they were first set.
 pub struct LimitTable {
     limits: IndexMap<GroupKey, KeptLimit>,
-    /// The number of the day, so that a day begins without a walk.
+    /// The number of the day, so that a new day needs no pass over the limits.
     day: u64,
 }
 
@@ -63,7 +62,7 @@ impl Model for LimitTable {
 }
 
 impl KeptLimit {
-    /// What is used on a day.
+    /// Returns the lots used on a day.
     fn used_on(&self, day: u64) -> u64
         ensures { result ≡ used_on day self.now }
     {
@@ -72,7 +71,7 @@ impl KeptLimit {
 }
 
 impl LimitTable {
-    /// No limits.
+    /// Returns an empty table.
     pub fn new(alloc: Global) -> Self
         ensures { result ≡ [] }
     {
@@ -82,17 +81,17 @@ impl LimitTable {
         }
     }
 
-    /// What holds of all limits: a group and key has one at most, and neither a limit nor a use is above 1,000,000,000 lots.
+    /// Shows the prover: each group and key has at most one limit, and neither it nor its use is above 1,000,000,000 lots.
     pub fn rules(&self)
         ensures once { IsDistinct same_limit self.now }
         ensures limits { (group : GroupOf) (key : LimitKeyOf) → limit_in self.now group key ≤ MOST_LIMIT }
         ensures uses { (group : GroupOf) (key : LimitKeyOf) → used_in self.now group key ≤ MOST_LIMIT }
     {
-        // Shows the prover: the keys of the map are apart.
+        // Shows the prover: the keys of the map are distinct.
         let _ = self.limits.len();
     }
 
-    /// The lots that were set and those that are used of a limit, where one was set.
+    /// Returns a limit's lots and the lots of it used today, if it was set.
     fn limit_and_use(&self, group: &Group, key: &LimitKey) -> Option<(u64, u64)>
         ensures { result ≡ limit_and_use self.now group.now key.now }
     {
@@ -104,7 +103,7 @@ impl LimitTable {
         Some((kept.limit, kept.used_on(self.day)))
     }
 
-    /// A limit as it is now, where one was set.
+    /// Returns a limit as it is now, if it was set.
     pub fn row(&self, group: &Group, key: &LimitKey) -> Option<LimitRow>
         ensures { result ≡ row_in self.now group.now key.now }
     {
@@ -117,7 +116,7 @@ impl LimitTable {
         })
     }
 
-    /// The room that is left under a limit. A limit that was never set has none.
+    /// Returns the room left under a limit: 0 if it was never set.
     pub fn room(&self, group: &Group, key: &LimitKey) -> u64
         ensures { result ≡ room_in self.now group.now key.now }
     {
@@ -125,7 +124,7 @@ impl LimitTable {
         room
     }
 
-    /// The same, and the number of the limit, 0 where none was set.
+    /// Returns the room, and the number of the limit: 0 if it was never set.
     fn room_and_number(&self, group: &Group, key: &LimitKey) -> (u64, usize)
         ensures room { result.0 ≡ room_in self.now group.now key.now }
         ensures number { result.1 ≡ number_in self.now group.now key.now }
@@ -137,13 +136,13 @@ impl LimitTable {
         let Some((place, _, kept)) = self.limits.get_full(&on) else {
             return (0, 0);
         };
-        // Shows the prover: a place is below the number of limits.
+        // Shows the prover: an index is below the number of limits.
         let _ = self.limits.len();
         let room = kept.limit.saturating_sub(kept.used_on(self.day));
         (room, place + 1)
     }
 
-    /// The limits of a path in a group, where each has room for these lots; else the first key under which there is less.
+    /// Returns the limits of a path in a group if each has room for these lots, or else the first key that has less.
     pub fn limits_with_room(
         &self,
         group: &Group,
@@ -164,7 +163,7 @@ impl LimitTable {
         Ok(limits)
     }
 
-    /// The limits of a path in a group.
+    /// Returns the limits of a path in a group.
     pub fn limits_of(&self, group: &Group, path: &Path) -> PathLimits
         ensures { AreLimitsOf self.now group.now path.now result }
     {
@@ -174,7 +173,7 @@ impl LimitTable {
         }
     }
 
-    /// Sets a limit. What is used of it stays, also where that is more.
+    /// Sets a limit. Its use is unchanged, even if it exceeds the new limit.
     pub fn set(&mut self, group: &Group, key: &LimitKey, lots: u64) -> Result<(), SetError>
         ensures rows { OnOk result (self.new ≡ limits_after_setting self.old group.now key.now lots) }
         ensures known { OnOk result ((at : GroupOf) (on : LimitKeyOf) →
@@ -194,7 +193,7 @@ impl LimitTable {
         Ok(())
     }
 
-    /// The same, where the lots are known to be no more than a limit may be.
+    /// Sets a limit whose lots are known to be within the maximum.
     pub fn set_within(&mut self, group: &Group, key: &LimitKey, lots: u64) -> Result<(), AllocError>
         requires { lots ≤ MOST_LIMIT }
         ensures set { OnOk result (Sets self.old self.new group.now key.now lots) }
@@ -204,7 +203,7 @@ impl LimitTable {
         Ok(())
     }
 
-    /// Charges lots to all limits of a path in a group.
+    /// Charges lots to every limit of a path in a group.
     pub fn charge(&mut self, group: &Group, path: &Path, lots: u64)
         requires room { All (λ key. lots ≤ room_in self.old group.now key) path.now }
         requires once { IsDistinct key_eq path.now }
@@ -217,7 +216,7 @@ impl LimitTable {
         self.charge_at(&limits, lots);
     }
 
-    /// The same, by the limits: none is looked up.
+    /// Charges lots to these limits without looking them up.
     pub fn charge_at(&mut self, limits: &PathLimits, lots: u64)
         requires { (group : GroupOf) × (keys : List LimitKeyOf) × MayCharge self.old group keys lots limits.now }
         ensures { (group : GroupOf) (keys : List LimitKeyOf) → MayCharge self.old group keys lots limits.now → Charges self.old self.new group keys lots }
@@ -229,7 +228,7 @@ impl LimitTable {
         }
     }
 
-    /// Charges lots to the limit at a place.
+    /// Charges lots to the limit at an index.
     fn charge_limit(&mut self, place: usize, lots: u64)
         requires known { place < length self.old }
         requires room { ForSome (slice_get self.old place) (λ l. lots ≤ l.limit - l.used) }
@@ -239,7 +238,7 @@ impl LimitTable {
         write_use(&mut self.limits, place, self.day, used + lots);
     }
 
-    /// Gives back lots that were charged today to all limits of a path in a group.
+    /// Returns lots that were charged today to every limit of a path in a group.
     pub fn give_back(&mut self, group: &Group, path: &Path, lots: u64)
         requires used { All (λ key. lots ≤ used_in self.old group.now key) path.now }
         requires once { IsDistinct key_eq path.now }
@@ -252,7 +251,7 @@ impl LimitTable {
         self.give_back_at(&limits, lots);
     }
 
-    /// The same, by the limits: none is looked up.
+    /// Returns lots to these limits without looking them up.
     pub fn give_back_at(&mut self, limits: &PathLimits, lots: u64)
         requires { (group : GroupOf) × (keys : List LimitKeyOf) × MayReturn self.old group keys lots limits.now }
         ensures { (group : GroupOf) (keys : List LimitKeyOf) → MayReturn self.old group keys lots limits.now → Returns self.old self.new group keys lots }
@@ -264,7 +263,7 @@ impl LimitTable {
         }
     }
 
-    /// Gives back lots to the limit at a place.
+    /// Returns lots to the limit at an index.
     fn return_to_limit(&mut self, place: usize, lots: u64)
         requires known { place < length self.old }
         requires used { ForSome (slice_get self.old place) (λ l. lots ≤ l.used) }
@@ -274,7 +273,7 @@ impl LimitTable {
         write_use(&mut self.limits, place, self.day, used - lots);
     }
 
-    /// What is used of the limit at a place.
+    /// Returns the lots used of the limit at an index.
     fn used_at(&self, place: usize) -> u64
         requires { place < length self.now }
         ensures { ForSome (slice_get self.now place) (λ l. result ≡ l.used) }
@@ -282,7 +281,7 @@ impl LimitTable {
         self.limits[place].used_on(self.day)
     }
 
-    /// Begins a day: nothing is used of any limit, and the limits stay.
+    /// Starts a new day: the limits stay, and nothing of them is used.
     pub fn new_day(&mut self)
         ensures rows { self.new ≡ limits_of_new_day self.old }
         ensures limits { SameLimits self.old self.new }
@@ -297,7 +296,7 @@ impl LimitTable {
     }
 }
 
-/// Sets a limit in its place, or last where it has none yet.
+/// Sets a limit in its place, or last if it is new.
 fn put(
     limits: &mut IndexMap<GroupKey, KeptLimit>,
     group: &Group,
@@ -324,21 +323,21 @@ fn put(
     Ok(())
 }
 
-/// Writes the use of the limit at a place on a day.
+/// Writes the use on a day of the limit at an index.
 fn write_use(limits: &mut IndexMap<GroupKey, KeptLimit>, place: usize, day: u64, used: u64)
     requires { place < index_map_len limits.old }
     ensures written { ForSome (slice_get (values limits.old) place) (λ kept.
         limits.new.entries ≡ set_value_at limits.old.entries place (record kept { used = used; day = day })) }
     ensures apart { IsUnique ⟦<GroupKey as PartialEq>⟧.eq limits.old }
 {
-    // Shows the prover: the keys of the map are apart.
+    // Shows the prover: the keys of the map are distinct.
     let _ = limits.len();
     let kept = &mut limits[place];
     kept.used = used;
     kept.day = day;
 }
 
-/// Forgets all uses, on day 0.
+/// Resets all uses to 0, on day 0.
 fn forget_uses(limits: &mut IndexMap<GroupKey, KeptLimit>)
     ensures { limits.new.entries ≡ map unused limits.old.entries }
 {

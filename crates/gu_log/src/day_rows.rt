@@ -7,7 +7,7 @@ use crate::fields::{append_number, append_number_if, append_shown, append_text};
 use gu_terms::{Day, MOST_ENTRIES};
 use std::alloc::AllocError;
 
-/// What is said where there are neither doors nor secrets.
+/// The warning that is logged if there are neither doors nor secrets.
 const ANY_FIRM: &[u8] = b"whoever reaches the port is any firm";
 
 /// Appends a day, if there is one.
@@ -47,7 +47,7 @@ pub(crate) fn append_opened(
     append_journal_if(line, journal)
 }
 
-/// Appends where a listener is.
+/// Appends the place of a listener.
 fn append_place(line: &mut Vec<u8>, place: &[u8]) -> Result<(), AllocError>
     ensures { Continues line.old.items line.new.items }
 {
@@ -55,7 +55,7 @@ fn append_place(line: &mut Vec<u8>, place: &[u8]) -> Result<(), AllocError>
     append_text(line, "at", place)
 }
 
-/// Appends where connections come in.
+/// Appends a way in for connections.
 pub(crate) fn append_listening(line: &mut Vec<u8>, listener: Listener<'_>) -> Result<(), AllocError>
     ensures { Continues line.old.items line.new.items }
 {
@@ -133,7 +133,7 @@ pub(crate) fn append_cut(line: &mut Vec<u8>, number: u64) -> Result<(), AllocErr
     append_number(line, "n", number)
 }
 
-/// Appends how far the journal is behind.
+/// Appends how far the journal is behind the book.
 pub(crate) fn append_behind(line: &mut Vec<u8>, ms: u64, entries: u64) -> Result<(), AllocError>
     ensures { Continues line.old.items line.new.items }
 {

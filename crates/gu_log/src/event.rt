@@ -1,10 +1,10 @@
-//! What the log tells of a day.
+//! The events of a day that the log reports.
 
 use gu_terms::{Day, FirmId, Group};
 use std::io;
 use std::io::ErrorKind;
 
-/// Where connections come in.
+/// A way in for connections.
 #[derive(Clone, Copy, Debug)]
 pub enum Listener<'a> {
     /// The port of this number.
@@ -17,7 +17,7 @@ pub enum Listener<'a> {
     Watch(&'a str),
 }
 
-/// By which way a firm came in.
+/// The way by which a firm came in.
 #[derive(Clone, Copy, Debug, PartialEq, Eq)]
 pub enum Way {
     /// By the port, from this port of its own.
@@ -35,7 +35,7 @@ pub enum Refusal {
     Closing,
 }
 
-/// What was wrong with what came in place of a right Logon.
+/// What was wrong with a connection's first message.
 #[derive(Clone, Copy, Debug, PartialEq, Eq)]
 pub enum LogonFault {
     /// MsgType (35): the first message is no Logon.
@@ -134,11 +134,11 @@ pub struct CommittedSweep {
     pub entry: u64,
     /// How many lots it took.
     pub lots: u64,
-    /// How often it was proposed: more than once where its group changed meanwhile.
+    /// How often it was proposed: more than once if its group changed meanwhile.
     pub tries: u64,
 }
 
-/// What the log tells of a day before its thread begins.
+/// An event that is logged before the log's thread begins.
 #[derive(Clone, Copy, Debug)]
 pub enum Beginning<'a> {
     /// The day is open, with this many entries.
@@ -154,7 +154,7 @@ pub enum Beginning<'a> {
     AnyFirm,
 }
 
-/// What the log tells of a day while it goes on.
+/// An event that is logged while the day goes on.
 #[derive(Clone, Copy, Debug)]
 pub enum Event {
     /// A connection was let in.
@@ -197,7 +197,7 @@ pub enum Event {
         group: Group,
         reason: SweepFault,
     },
-    /// The book has this many of the entries that it may have, so that the day will be full before long.
+    /// The book has this many entries, so it will be full before long.
     BookFilling {
         entries: u64,
     },
@@ -209,7 +209,7 @@ pub enum Event {
     OperatorCut {
         number: u64,
     },
-    /// The journal is this far behind.
+    /// The journal is this far behind the book.
     JournalBehind {
         ms: u64,
         entries: u64,

@@ -7,10 +7,10 @@ use gu_terms::FirmId;
 use itoa::Buffer;
 use std::alloc::AllocError;
 
-/// How many bytes are written of a value at most, between its quotes.
+/// The most bytes of a value that are written between its quotes.
 const LONGEST_VALUE: usize = 1_024;
 
-/// What a value that was cut ends with.
+/// The end of a value that was cut short.
 const CUT: &[u8] = b"..";
 
 /// Returns whether a byte of a value is written as it is, without quotes about the value.
@@ -35,7 +35,7 @@ fn hex_digit(number: u8) -> u8
     }
 }
 
-/// Appends a byte that a line may have. In the place of another one it appends `?`: none is written so.
+/// Appends a byte that a line may have, and `?` instead of any other.
 fn push_shown(line: &mut Vec<u8>, byte: u8) -> Result<(), AllocError>
     ensures { Continues line.old.items line.new.items }
 {
@@ -47,7 +47,7 @@ fn push_shown(line: &mut Vec<u8>, byte: u8) -> Result<(), AllocError>
     Ok(())
 }
 
-/// Appends bytes that a line may have.
+/// Appends bytes, each as it may appear in a line.
 pub(crate) fn append_shown(line: &mut Vec<u8>, text: &[u8]) -> Result<(), AllocError>
     ensures { Continues line.old.items line.new.items }
 {
@@ -80,7 +80,7 @@ fn append_escaped(line: &mut Vec<u8>, byte: u8) -> Result<(), AllocError>
     }
 }
 
-/// Appends a text as it is written between quotes, cut where it is too long.
+/// Appends a text as it is written between quotes, cut short if it is too long.
 fn append_all_escaped(line: &mut Vec<u8>, text: &[u8]) -> Result<(), AllocError>
     ensures { Continues line.old.items line.new.items }
 {
@@ -96,7 +96,7 @@ fn append_all_escaped(line: &mut Vec<u8>, text: &[u8]) -> Result<(), AllocError>
     Ok(())
 }
 
-/// Appends a value: as it is, where it is plain, and else between quotes.
+/// Appends a value, with quotes unless it is plain.
 fn append_value(line: &mut Vec<u8>, text: &[u8]) -> Result<(), AllocError>
     ensures { Continues line.old.items line.new.items }
 {

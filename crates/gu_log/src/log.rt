@@ -26,16 +26,16 @@ pub(crate) struct Note {
 /// The day's log. Any thread notes what happens, and none waits for it to be written.
 #[derive(Drop)]
 pub struct EventLog {
-    /// Where notes go, and None where its thread is only woken. A silent log has none.
+    /// The sender of notes; a None wakes the thread without one. A silent log has no sender.
     to: Option<Sender<Option<Note>>>,
-    /// How many notes were dropped since it was said last.
+    /// How many notes were dropped since their last report.
     lost: AtomicU64,
     /// The moment of the last note, in milliseconds.
     last: AtomicU64,
     has_ended: AtomicBool,
 }
 
-/// Where the log's thread takes notes.
+/// The receiver from which the log's thread takes notes.
 #[derive(Drop)]
 pub struct LogReader {
     from: Receiver<Option<Note>>,
@@ -56,7 +56,7 @@ pub(crate) enum Taken {
     Over,
 }
 
-/// Returns the moment by a clock, where it can be had.
+/// Returns the clock's moment, unless the clock fails.
 fn moment_by<R: Clock>(rt: &R) -> Option<Moment> {
     let time = SystemTime::now(rt).ok()?;
     let since = time.duration_since(UNIX_EPOCH).ok()?;
@@ -64,7 +64,7 @@ fn moment_by<R: Clock>(rt: &R) -> Option<Moment> {
 }
 
 impl EventLog {
-    /// Creates the log of a day, and where its thread takes the notes: 1,024 at most that aren't written yet.
+    /// Creates a day's log and the reader for its thread. At most 1,024 notes may wait to be written.
     pub fn new(alloc: Global) -> Result<(Self, LogReader), AllocError> {
         let (to, from) = crossbeam_channel::bounded(alloc, MOST_NOTES)?;
         let reader = LogReader {
@@ -89,7 +89,7 @@ impl EventLog {
         }
     }
 
-    /// Notes what happens now. Where too many notes wait, or nobody takes them any more, it is dropped and counted.
+    /// Notes what happens now. If too many notes wait, or nobody takes them any more, it is dropped and counted.
     pub fn note<R: Wait + Clock>(&self, rt: &R, event: Event) {
         match &self.to {
             Some(to) => self.send(rt, to, event),
@@ -113,11 +113,11 @@ impl EventLog {
         self.to.is_none()
     }
 
-    /// Says that nothing more is noted, and wakes the log's thread where it waits for a note.
+    /// Ends the notes, and wakes the log's thread if it waits for one.
     pub fn end<R: Wait>(&self, rt: &R) {
         self.has_ended.store(true, Ordering::SeqCst);
         if let Some(to) = &self.to {
-            // Where no room is left, it doesn't wait.
+            // If no room is left, it doesn't wait.
             let _ = to.try_send(rt, None);
         }
     }
@@ -127,7 +127,7 @@ impl EventLog {
         self.has_ended.load(Ordering::SeqCst)
     }
 
-    /// Returns the moment: where the clock fails, that of the last note.
+    /// Returns the moment; if the clock fails, that of the last note.
     pub(crate) fn moment<R: Clock>(&self, rt: &R) -> Moment {
         if let Some(moment) = moment_by(rt) {
             self.last.store(moment.get(), Ordering::SeqCst);

@@ -11,7 +11,7 @@ use std::sync::Wait;
 use std::thread;
 use std::thread::{Scope, Threads};
 
-/// Where a log is written, and what is to be written there.
+/// The writer of a log, and the notes that it is to write.
 #[derive(Drop)]
 pub struct LogOutput<W> {
     pub reader: LogReader,
@@ -26,14 +26,14 @@ impl<W: Write> LogOutput<W> {
     }
 }
 
-/// What work returned, and where its log is written on, unless no thread could be started for it.
+/// The result of work, and the writer of its log, unless no thread could be started.
 #[derive(Drop)]
 pub struct Logged<D, W> {
     pub done: D,
     pub output: Option<LogOutput<W>>,
 }
 
-/// Works, and writes the log by a thread of its own meanwhile.
+/// Does work while a thread of its own writes the log.
 fn work_beside<
     's,
     X,
@@ -62,7 +62,7 @@ fn work_beside<
     Logged { done, output }
 }
 
-/// Returns what this work returns. A thread writes the log meanwhile, and ends with it; if none can be started, the log is lost.
+/// Returns the result of work. Meanwhile a thread writes the log, and ends with the work; if none can be started, the log is lost.
 pub fn run_logged<R: Threads + Wait + Clock + Sync, W: Write + Send + Drop, D, F: FnOnce() -> D>(
     rt: &R,
     alloc: Global,

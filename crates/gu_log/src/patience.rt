@@ -1,4 +1,4 @@
-//! How long a writer that takes nothing is waited for.
+//! How long to wait for a writer that accepts nothing.
 
 use crate::log::EventLog;
 use std::io::ErrorKind;
@@ -6,13 +6,13 @@ use std::rt::Clock;
 use std::time::Duration;
 use std::{io, thread};
 
-/// How long it waits at once, in milliseconds.
+/// The length of one wait, in milliseconds.
 const WAIT_MS: u64 = 20;
 
-/// How often it waits at most once nothing more is noted: a second in all.
+/// The most waits once nothing more is noted: one second in all.
 const MOST_WAITS: u32 = 50;
 
-/// How long a writer that takes nothing is waited for: as long as the day goes on, and a second after that.
+/// Waits for a writer that accepts nothing: as long as the day goes on, and one second after it ends.
 #[derive(Drop)]
 pub(crate) struct Patience {
     waits_left: u32,
@@ -26,7 +26,7 @@ impl Patience {
         }
     }
 
-    /// Waits after an error that may pass. Returns whether it is to be tried again.
+    /// Waits after an error that may pass. Returns whether to try again.
     pub(crate) fn waits<R: Clock>(&mut self, rt: &R, log: &EventLog, error: &io::Error) -> bool {
         if !matches!(error.kind(), ErrorKind::WouldBlock | ErrorKind::Interrupted) {
             return false;

@@ -17,7 +17,7 @@ use gu_msgs::moment_text;
 use gu_terms::Moment;
 use std::alloc::AllocError;
 
-/// How many bytes a line has at most, with its LF: a pipe takes so many at once.
+/// How many bytes a line has at most, with its LF: a pipe takes this many at once.
 pub const LONGEST_LINE: usize = 4_096;
 
 /// Appends what happened.
@@ -87,16 +87,16 @@ fn append_begun(line: &mut Vec<u8>, beginning: &Beginning<'_>) -> Result<(), All
     }
 }
 
-/// What a line says.
+/// What a line reports: an event, a beginning, or lost lines.
 #[derive(Clone, Copy)]
 enum Told<'a> {
     Event(&'a Event),
     Beginning(&'a Beginning<'a>),
-    /// So many lines were lost.
+    /// This many lines were lost.
     Lost(u64),
 }
 
-/// Appends the moment, and what a line says.
+/// Appends the moment, and what a line reports.
 fn append_told(line: &mut Vec<u8>, moment: Moment, told: Told<'_>) -> Result<(), AllocError>
     ensures { Continues line.old.items line.new.items }
 {
@@ -108,7 +108,7 @@ fn append_told(line: &mut Vec<u8>, moment: Moment, told: Told<'_>) -> Result<(),
     }
 }
 
-/// Ends a line that begins after so many bytes, cut where it is too long.
+/// Ends a line that begins after this many bytes, cut if it is too long.
 fn end_line(line: &mut Vec<u8>, begun: usize) -> Result<(), AllocError>
     requires { begun ≤ length line.old.items }
     ensures line { OnOk result ((start : List ℕ) → length start ≡ begun → GoesOn start line.old.items → GoesOnByLine start line.new.items) }
@@ -119,7 +119,7 @@ fn end_line(line: &mut Vec<u8>, begun: usize) -> Result<(), AllocError>
     Ok(())
 }
 
-/// Appends a line: one, whatever bytes a path has. Where an allocation fails, what was there has some bytes behind it.
+/// Appends exactly one line, whatever bytes a path has. If an allocation fails, part of a line may have been appended.
 fn append_whole(line: &mut Vec<u8>, moment: Moment, told: Told<'_>) -> Result<(), AllocError>
     ensures line { OnOk result (GoesOnByLine line.old.items line.new.items) }
     ensures front { take (length line.old.items) line.new.items ≡ line.old.items }
@@ -129,7 +129,7 @@ fn append_whole(line: &mut Vec<u8>, moment: Moment, told: Told<'_>) -> Result<()
     end_line(line, begun)
 }
 
-/// Appends a line, or nothing.
+/// Appends a line, or nothing if an allocation fails.
 fn append_row(line: &mut Vec<u8>, moment: Moment, told: Told<'_>) -> Result<(), AllocError>
     ensures line { OnOk result (GoesOnByLine line.old.items line.new.items) }
     ensures refused { OnErr result (line.new.items ≡ line.old.items) }

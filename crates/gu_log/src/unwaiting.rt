@@ -11,20 +11,20 @@ use std::net::Net;
 use std::os::fd::{AsRawFd, RawFd};
 use std::time::Duration;
 
-/// How many bytes are written at once at most: a pipe that is writable takes so many.
+/// How many bytes are written at once at most: a pipe that is writable takes this many.
 const LONGEST_WRITE: usize = 4_096;
 
 /// The token of the descriptor, the only one that is watched.
 const OUTPUT: Token = Token(0);
 
-/// What tells whether a descriptor is writable.
+/// A watch that reports whether a descriptor is writable.
 #[derive(Drop)]
 struct Watch {
     poll: Poll,
     events: Events,
 }
 
-/// A writer that doesn't wait, over a descriptor that does: a pipe, a socket, a terminal. Where that would wait, a write answers
+/// A writer that doesn't wait, over a descriptor that does: a pipe, a socket, a terminal. If a write would wait, it answers
 /// `WouldBlock`. A file doesn't wait, and is written at once.
 #[derive(Drop)]
 pub struct Unwaiting<W> {
@@ -32,7 +32,7 @@ pub struct Unwaiting<W> {
     watch: Option<Watch>,
 }
 
-/// Returns what watches a descriptor, unless it is a file's.
+/// Returns a watch on a descriptor, unless it belongs to a file.
 fn watch_of<N: Net>(rt: &N, alloc: Global, descriptor: RawFd) -> io::Result<Option<Watch>> {
     let poll = Poll::new(rt)?;
     let registered = poll
@@ -49,7 +49,7 @@ fn watch_of<N: Net>(rt: &N, alloc: Global, descriptor: RawFd) -> io::Result<Opti
 }
 
 impl Watch {
-    /// Returns whether a write doesn't wait. The system says once that a descriptor is writable, so it is asked anew.
+    /// Returns whether a write doesn't wait. The system reports only once that a descriptor is writable, so this asks again.
     fn is_ready(&mut self, descriptor: RawFd) -> io::Result<bool> {
         self.poll
             .registry()
@@ -60,7 +60,7 @@ impl Watch {
 }
 
 impl<W: AsRawFd> Unwaiting<W> {
-    /// Creates one over a writer, whose descriptor is this until it is dropped.
+    /// Creates one over a writer that keeps this descriptor until it is dropped.
     pub fn new<N: Net>(rt: &N, alloc: Global, writer: W) -> io::Result<Self>
     where
         W: Drop,

@@ -1,9 +1,9 @@
-//! The words of the log for what is one of a few.
+//! The log's words for faults, ends and causes.
 
 use crate::event::{EndCause, LogonFault, Refusal, SweepFault};
 
 impl Refusal {
-    /// Its word.
+    /// Returns its word.
     pub(crate) fn word(self) -> &'static [u8] {
         match self {
             Refusal::Full => b"full",
@@ -13,7 +13,7 @@ impl Refusal {
 }
 
 impl LogonFault {
-    /// Its word: the name of the field that is wrong, where it is one's that has a name.
+    /// Returns its word: the name of the wrong field, if that field has a name.
     pub(crate) fn word(self) -> &'static [u8] {
         match self {
             LogonFault::NotALogon => b"not-a-logon",
@@ -31,7 +31,7 @@ impl LogonFault {
         }
     }
 
-    /// The tag of the field that is wrong, where it is one's.
+    /// Returns the tag of the wrong field, if it is known.
     pub(crate) fn tag(self) -> Option<u64> {
         match self {
             LogonFault::NotALogon => Some(35),
@@ -49,7 +49,7 @@ impl LogonFault {
 }
 
 impl EndCause {
-    /// Its word.
+    /// Returns its word.
     pub(crate) fn word(self) -> &'static [u8] {
         match self {
             EndCause::Done => b"done",
@@ -67,7 +67,7 @@ impl EndCause {
 }
 
 impl SweepFault {
-    /// Its word.
+    /// Returns its word.
     pub(crate) fn word(self) -> &'static [u8] {
         match self {
             SweepFault::Stale => b"stale",

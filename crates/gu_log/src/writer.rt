@@ -10,17 +10,17 @@ use std::io::Write;
 use std::rt::Clock;
 use std::sync::{Wait, WaitMethods};
 
-/// What the log's thread keeps from one line to the next.
+/// The state of the log's thread between two lines.
 #[derive(Drop)]
 struct Pen {
     /// The line.
     line: Vec<u8>,
     patience: Patience,
-    /// Whether lines are still written. They aren't any more after an error that doesn't pass.
+    /// Whether lines are still written: false after an error that doesn't pass.
     is_open: bool,
 }
 
-/// Creates room for a line, where there is memory for it.
+/// Creates the buffer of a line, if there is memory for it.
 fn room(alloc: Global) -> Vec<u8> {
     match Vec::with_capacity(alloc, LONGEST_LINE) {
         Ok(line) => line,
@@ -28,7 +28,7 @@ fn room(alloc: Global) -> Vec<u8> {
     }
 }
 
-/// Writes a text whole. Returns whether it was.
+/// Writes a whole text, and returns whether that succeeded.
 fn write_whole<R: Wait + Clock, W: Write>(
     rt: &R,
     log: &EventLog,
@@ -59,7 +59,7 @@ fn write_whole<R: Wait + Clock, W: Write>(
     is_whole
 }
 
-/// Flushes a writer. Returns whether it was.
+/// Flushes a writer, and returns whether that succeeded.
 fn flush<R: Wait + Clock, W: Write>(
     rt: &R,
     log: &EventLog,
@@ -124,7 +124,7 @@ impl Pen {
             && flush(rt, log, &mut self.patience, writer);
     }
 
-    /// Writes the line of a note. Where there is no memory for it, it is lost.
+    /// Writes the line of a note. Without memory for it, the line is lost.
     fn write_note<R: Wait + Clock, W: Write>(
         &mut self,
         rt: &R,
@@ -141,7 +141,7 @@ impl Pen {
         }
     }
 
-    /// Says how many lines were lost since it was said last, if any were.
+    /// Writes how many lines were lost since the last such report, if any were.
     fn write_lost<R: Wait + Clock, W: Write>(&mut self, rt: &R, log: &EventLog, writer: &mut W) {
         if !self.is_open {
             return;
@@ -158,7 +158,7 @@ impl Pen {
 }
 
 /// Writes what is noted, each line at once, until no more comes. A writer that takes nothing for now (`WouldBlock`) is tried again, up to a
-/// second after the end was said. After any other error nothing is written any more, and notes are taken and dropped.
+/// second after the notes end. After any other error nothing more is written, and notes are taken and dropped.
 pub fn write_all<R: Wait + Clock, W: Write>(
     rt: &R,
     alloc: Global,

@@ -21,7 +21,7 @@ length-allocs (entry ∷ entries) (line ∷ lines) are = let same = length-alloc
 length-allocs [] (line ∷ lines) are = absurd are
 length-allocs (entry ∷ entries) [] are = absurd are
 
--- the texts of entries stand for the lots of the lines that they say
+-- the texts in entries are the lots of the lines in them
 lots_of_allocs : (entries : List (List TagValue)) (lines : List Line) → AreAllocs entries lines
     → AreLots (filter_map (first_value ALLOC_QTY) entries) (map (λ (l : Line). l.lots) lines)
 lots_of_allocs [] [] are = tt

@@ -1,4 +1,4 @@
--- The years of days that are counted from 1970-01-01.
+-- The years of days counted from 1970-01-01.
 use Rattle.std.proofs.Common.{◌≡◌, ◌≤◌, ◌⊎◌, inl, inr, ℕ, ℤ, pos, arith}
 use Rattle.std.specs.Prelude.{◌<ℤ◌, ◌≤ℤ◌, negsuc, unsigned_abs}
 use Rattle.std.proofs.lemmas.Bool.{cases_order}
@@ -39,7 +39,7 @@ late_year d n e =
 pub year_number : (d : Date) → pos 1970 ≤ℤ d.year → pos (unsigned_abs d.year) ≡ d.year
 year_number d late = omega (arith, ints)
 
--- such a day is one of the years 1 to 9999
+-- such a day is in the years 1 to 9999
 pub is_day : (d : Date) → pos 1970 ≤ℤ d.year → IsDay (unsigned_abs d.year) d.month d.day
 is_day d late =
     let range = d.year_in in

@@ -1,4 +1,4 @@
--- Each text is allowed, or it isn't for one reason.
+-- Each text is allowed, or isn't for a reason.
 use Rattle.std.proofs.Common.{◌≡◌, ◌⊎◌, inl, inr, ℕ, ◌*◌, ◌/◌, ◌^◌, ◌≤◌, ◌++◌, Bool, true, false, ℤ, pos, List, [], ◌∷◌, length, codes, refl, sym, ap, ◌∙◌, subst, arith}
 use Rattle.std.specs.Prelude.{negsuc}
 use Rattle.std.specs.Char.{digit_value}
@@ -28,11 +28,11 @@ use Rattle.gu_msgs.specs.declared.row.Kind.TheVariants as kind
 use Rattle.gu_msgs.proofs.OneMessage.{status_at, status_at-number}
 use Rattle.gu_msgs.proofs.SaidOnce.{one_number, ten_to_positive}
 
--- a fact stands, or it doesn't
+-- a statement holds, or it doesn't
 abbrev pub IsDecided : Type 0 → Type 0
 IsDecided P = P ⊎ (P → ⊥)
 
--- ---- facts
+-- ---- statements
 
 pub le_decided : (a b : ℕ) → IsDecided (a ≤ b)
 le_decided a b =
@@ -65,7 +65,7 @@ text_decided a b =
       | inr other ↦ inr (λ same. let test = (bytes_eq-Decides a b).1 same in cc)
     ]
 
--- all of three facts
+-- three statements together
 three_decided : {P Q R S : Type 0} → (P → Q → R → S) → (S → P × Q × R) → IsDecided P → IsDecided Q → IsDecided R → IsDecided S
 three_decided make parts (inl p) (inl q) (inl r) = inl (make p q r)
 three_decided make parts (inr p) q r = inr (λ s. p (parts s).0)
@@ -119,7 +119,7 @@ number_text_decided text =
     three_decided (λ a b c. record { whole = a; fraction = b; some = c }) (λ is. (is.whole, is.fraction, is.some))
     (digits_decided (whole_digits text)) (digits_decided (fraction_digits text)) (le_decided 1 _)
 
--- a number text means a number of parts, or none
+-- a number text means some number of parts, or none
 means_decided : (text : List ℕ) (parts : ℕ) → IsDecided ((z : ℤ) × Means text parts z)
 means_decided text parts =
     let power = 10 ^ length (fraction_digits text) in
@@ -136,7 +136,7 @@ means_decided text parts =
       | inr other ↦ inr (λ means. let m = means.1 in other m.is_number)
     ]
 
--- the number that a text means, where it is one of lots
+-- the number that a text means, if it is a number of lots
 lots_of_number : (text : List ℕ) (z : ℤ) → Means text 1 z → IsDecided ((n : ℕ) × MeansLots text n)
 lots_of_number text (pos n) means =
     elim (le_decided 1 n) [
@@ -274,7 +274,7 @@ formatted_decided kind.Date text = day_text_decided text
 formatted_decided (kind.Number least most) text = test_decided (is_numeral text)
 formatted_decided kind.Status text = test_decided (is_numeral text)
 
--- a text is allowed, or it isn't for a reason
+-- a text is allowed, or isn't for a reason
 pub sound_or_not : (k : Kind) (text : List ℕ) → IsSound k text ⊎ ((reason : SessionRejectReason) × IsAtFault k text reason)
 sound_or_not k text =
     elim (sound_decided k text) [

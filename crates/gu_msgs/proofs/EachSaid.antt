@@ -1,4 +1,4 @@
--- Fields say a message, or they have a fault.
+-- Fields are a message, or they have a fault.
 use Rattle.std.proofs.Common.{◌≡◌, ◌⊎◌, inl, inr, ℕ, Bool, true, false, List, [], ◌∷◌, length, sum, codes, Option, None, Some, MatchOption, refl, sym, ap, ◌∙◌, arith}
 use Rattle.std.specs.List.{AllByRecursion}
 use Rattle.std.proofs.lemmas.Bool.{cases_Bool}
@@ -56,9 +56,9 @@ values_decided (x ∷ xs) =
       | inr bad ↦ inr (fault_at bad.0 x.tag, fault_in_front x xs (fault_at bad.0 x.tag) refl bad.1)
     ]
 
--- ---- what well made fields say
+-- ---- the contents of well-formed fields
 
--- a value is yes, or it isn't
+-- a value is `Y`, or it isn't
 yes_decided : (found : Option (List ℕ)) → IsDecided (found ≡ Some (codes "Y"))
 yes_decided None = inr (λ e. cc)
 yes_decided (Some text) =
@@ -67,7 +67,7 @@ yes_decided (Some text) =
       | inr other ↦ inr (λ e. (let same : text ≡ codes "Y" = cc in other same))
     ]
 
--- a flag says yes or no
+-- a flag is true or false
 flag_said : (tag : ℕ) (fields : List TagValue) → (b : Bool) × IsFlag tag fields b
 flag_said tag fields = elim (yes_decided (first_value tag fields)) [ inl set ↦ (true, set) | inr unset ↦ (false, unset) ]
 
@@ -98,7 +98,7 @@ one_of [] one = absurd (omega (arith, one))
 one_of (entry ∷ []) one = (entry, refl)
 one_of (entry ∷ other ∷ entries) one = absurd (omega (arith, one))
 
--- entries say lines
+-- entries are lines
 lines_said : (entries : List (List TagValue)) → AllByRecursion (AreHeld (entry_rows NO_ALLOCS)) entries → (lines : List Line) × AreAllocs entries lines
 unfolding entry_rows
 lines_said [] held = ([], tt)
@@ -114,7 +114,7 @@ lines_said (entry ∷ entries) held =
 of_type : (k : MsgType) (fields : List TagValue) → IsWellMade k fields → Agrees k fields → IsOfType k fields
 of_type k fields h agrees = record { code = h.code; faultless = record { shape = h.shape; values = h.values; agrees = agrees } }
 
--- what fields of a type say, or the value that doesn't agree with others
+-- the contents of fields of a type, or the value that doesn't agree with others
 abbrev IsSaid : MsgType → List TagValue → Type 0
 IsSaid k fields = ((m : Inbound) × Says fields m) ⊎ ((tag : ℕ) × Disagrees k fields tag)
 

@@ -1,4 +1,4 @@
--- What is written can be encoded.
+-- Written messages can be encoded.
 use Rattle.std.proofs.Common.{◌≡◌, ℕ, ◌*◌, ◌≤◌, ◌==◌, ◌&&◌, Bool, true, false, cond, List, [], ◌∷◌, ◌++◌, length, nat_le, Option, None, Some, refl, ◌∙◌, subst, arith}
 use Rattle.std.specs.Fmt.{decimal}
 use Rattle.std.specs.List.{list_any, list_all}
@@ -24,11 +24,11 @@ use Rattle.gu_msgs.specs.declared.tags.TheConstants.{ALLOC_ID, REF_MSG_TYPE, REF
 
 -- ---- tags
 
--- each field has a tag that a body may have
+-- each field has a tag allowed in a body
 abbrev HaveTags : List TagValue → Type 0
 HaveTags fields = list_all (λ f. is_body_tag f.tag) fields ≡ true
 
--- and they are at most twenty
+-- and there are at most twenty of them
 abbrev is_laid_out : List TagValue → Bool
 is_laid_out fields = list_all (λ f. is_body_tag f.tag) fields && nat_le (length fields) 20
 
@@ -51,7 +51,7 @@ give_up_laid_out : (id : List ℕ) (rejection : Option Rejection) → is_laid_ou
 give_up_laid_out id None = refl
 give_up_laid_out id (Some rejection) = refl
 
--- what a message says has such tags
+-- the body of a message has such tags
 body_laid_out : (b : Body) → is_laid_out (body_fields b) ≡ true
 body_laid_out (body.Logon interval true) = refl
 body_laid_out (body.Logon interval false) = refl
@@ -78,7 +78,7 @@ marks_laid_out (Some moment) marks (text, writes, is) = rw is (refl, omega arith
 
 -- ---- lengths
 
--- a tag has nine digits at most
+-- a tag has at most nine digits
 small_tag : (tag : ℕ) → is_body_tag tag ≡ true → tag ≤ 999999999
 small_tag tag is = leb-true tag 999999999 (and_parts _ _ is).1
 
@@ -89,7 +89,7 @@ plain_parts value is =
     let bytes = and_parts _ _ parts.0 in
     (not-true (is_empty value) bytes.0, not-true (has_soh value) bytes.1, leb-true (length value) 1024 parts.1)
 
--- such fields are at most so long as text
+-- the text of such fields is at most this long
 length-fields_text : (fs : List TagValue) → HaveTags fs → ArePlain fs → length (fields_text fs) ≤ 1035 * length fs
 length-fields_text [] tags plain = omega arith
 length-fields_text (f ∷ fs) tags plain =
@@ -128,7 +128,7 @@ none_with_soh (f ∷ fs) plain =
 
 -- ---- no fault
 
--- at most twenty-seven such fields, of which the first is MsgType, have no fault
+-- at most twenty-seven such fields, the first of which is MsgType, have no fault
 no_fault : (fs : List TagValue) → begins_with_type fs ≡ true → HaveTags fs → ArePlain fs → length fs ≤ 27 → fault_of fs ≡ None
 unfolding fault_of
 no_fault fs begins tags plain few =

@@ -1,4 +1,4 @@
--- Which groups a message of a type has, and where their counters are.
+-- The groups of a message of each type, and the rows of their counters.
 use Rattle.std.proofs.Common.{◌≡◌, ◌≢◌, ℕ, List, None, Option, Some, ap, refl, subst, arith, slice_index}
 use Rattle.std.specs.Option.{option_or}
 use Rattle.gu_fix.specs.TagValue.{TagValue}
@@ -14,7 +14,7 @@ alone : (fault : Option Fault) → option_or fault None ≡ fault
 alone None = refl
 alone (Some fault) = refl
 
--- a report has the group of its sides alone
+-- a report has only the group of its sides
 pub report_groups : (fields : List TagValue) → groups_fault TradeCaptureReport fields (body_rows TradeCaptureReport) ≡ group_fault TradeCaptureReport fields NO_SIDES
 unfolding body_rows entry_rows
 report_groups fields = alone (group_fault TradeCaptureReport fields NO_SIDES)
@@ -23,7 +23,7 @@ pub sides_stand : (kind : MsgType) (fields : List TagValue) (numbers : List ℕ)
 unfolding header_rows body_rows
 sides_stand kind fields numbers is stand = subst (λ (k : MsgType). AreStandings (outer_rows k) fields numbers) is stand 18 (omega arith)
 
--- a give-up has those of its executions and its lines
+-- a give-up has the groups of its executions and its lines
 pub give_up_groups : (fields : List TagValue) → groups_fault AllocationInstruction fields (body_rows AllocationInstruction)
     ≡ option_or (group_fault AllocationInstruction fields NO_EXECS) (group_fault AllocationInstruction fields NO_ALLOCS)
 unfolding body_rows entry_rows

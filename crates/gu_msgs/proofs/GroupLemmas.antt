@@ -1,9 +1,9 @@
--- The fields up to one, and entries.
+-- The fields before one, and entries.
 use Rattle.std.proofs.Common.{◌≡◌, ◌+◌, ◌≤◌, ◌-◌, ◌==◌, ℕ, Bool, true, false, cond, suc, List, [], ◌∷◌, length, take, refl, ap, arith, eq-eqb}
 use Rattle.gu_fix.specs.TagValue.{TagValue}
 use Rattle.gu_msgs.specs.Groups.{entries_by, up_to}
 
--- the fields up to one are the first so many
+-- the fields before one are the first of that number
 take-up_to : (is_such : ℕ → Bool) (fields : List TagValue) → take (length (up_to is_such fields)) fields ≡ up_to is_such fields
 take-up_to is_such [] = refl
 take-up_to is_such (f ∷ fs) =
@@ -12,14 +12,14 @@ take-up_to is_such (f ∷ fs) =
     let at : (b : Bool) → P b = λ b. elim b as P [ true ↦ refl | false ↦ ap (λ (t : List TagValue). f ∷ t) (take-up_to is_such fs) ] in
     at (is_such f.tag)
 
--- the same, where the others are counted
+-- the same, if the others are counted
 pub first_up_to : (is_such : ℕ → Bool) (fields : List TagValue) (len left : ℕ) → len ≡ length fields → left + length (up_to is_such fields) ≡ length fields
     → take (len - left) fields ≡ up_to is_such fields
 first_up_to is_such fields len left all others =
     let count : len - left ≡ length (up_to is_such fields) = omega arith in
     rw count (take-up_to is_such fields)
 
--- the entry in front
+-- the first entry
 pub entry_in_front : (first : ℕ) (here rest : List TagValue) (f : TagValue) (len left : ℕ) → here ≡ f ∷ rest → f.tag ≡ first → len ≡ length here
     → left + length (up_to (λ tag. tag == first) rest) ≡ length rest → entries_by first here ≡ take (len - left) here ∷ entries_by first rest
 entry_in_front first here rest f len left is begins all others =

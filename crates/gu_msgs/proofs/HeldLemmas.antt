@@ -1,4 +1,4 @@
--- What is known of a message whose shape and values are sound.
+-- Facts about a message whose shape and values are sound.
 use Rattle.std.proofs.Common.{◌≡◌, ◌≢◌, ◌≤◌, ◌++◌, ◌==◌, not, ℕ, Bool, true, false, cond, List, [], ◌∷◌, Option, Some, None, MatchOption, length, is_some, refl, sym, ◌∙◌}
 use Rattle.std.proofs.lemmas.Bool.{eqb-true}
 use Rattle.std.specs.List.{AllByRecursion, flat_map}
@@ -26,7 +26,7 @@ use Rattle.gu_msgs.proofs.ShapeLemmas.{missing-append}
 
 -- ---- a number
 
--- a number that is held lies in its range
+-- a number that is held is in its range
 pub number_held : (tag least most : ℕ) (fields : List TagValue) → Holds tag (IsNumberWithin least most) fields → (least ≤ number_at tag fields) × (number_at tag fields ≤ most)
 number_held tag least most fields h = rw h.first (h.such.from, h.such.to)
 
@@ -64,7 +64,7 @@ held (Required tag kind ∷ rows) fields none sound =
     (held_required tag kind fields parts.0 sound.0, held rows fields parts.1 sound.1)
 held (Optional tag kind ∷ rows) fields none sound = (sound.0, held rows fields none sound.1)
 
--- and so of a table without a fault
+-- the same for a table without a fault
 held_tags : (rows : List Row) (fields : List TagValue) → tags_fault rows fields ≡ None → AreSound (items_of rows fields) → AreHeld rows fields
 held_tags rows fields none sound =
     let parts = none_of_either _ _ none in
@@ -89,7 +89,7 @@ held_entries rows (entry ∷ entries) none sound =
       held_entries rows entries parts.1 (sound_rest (items_of rows entry) others sound),
     )
 
--- after a tag that doesn't stand there is nothing
+-- there is nothing after a tag that is absent
 behind_absent : (tag : ℕ) (fields : List TagValue) → first_value tag fields ≡ None → behind tag fields ≡ []
 behind_absent tag [] none = refl
 behind_absent tag (f ∷ fs) none =
@@ -101,7 +101,7 @@ entries_of_none : (rows : List Row) → entries_begun rows [] ≡ []
 entries_of_none [] = refl
 entries_of_none (row ∷ rows) = refl
 
--- a group whose counter doesn't stand has no entries
+-- a group whose counter is absent has no entries
 entries_absent : (kind : MsgType) (counter : ℕ) (fields : List TagValue) → first_value counter fields ≡ None → entries_of kind counter fields ≡ []
 entries_absent kind counter fields none = rw (behind_absent counter fields none) (entries_of_none (entry_rows counter))
 
@@ -113,7 +113,7 @@ counted counter text entries none =
     let at : (b same : Bool) → P b same = λ b same. elim b as (λ v. P v same) [ false ↦ (λ h. cc) | true ↦ elim same as (λ v. P true v) [ true ↦ (λ h. refl) | false ↦ (λ h. cc) ] ] in
     eqb-true n entries (at (is_numeral text) (n == entries) none)
 
--- what is known of a group without a fault
+-- facts about a group without a fault
 has_group : (rows : List Row) (counter : ℕ) (text : Option (List ℕ)) (group : List TagValue) → (text ≡ None → entries_begun rows group ≡ [])
     → counted_fault rows counter text (entries_begun rows group) ≡ None → AreSound (flat_map (items_of rows) (entries_begun rows group))
     → (rows ≢ [] → option_map_or (digits_value 10) text 0 ≡ length (entries_begun rows group)) × AllByRecursion (AreHeld rows) (entries_begun rows group)

@@ -1,4 +1,4 @@
--- The first value at fault of lists one after another.
+-- The first invalid value in consecutive lists.
 use Rattle.std.proofs.Common.{◌≡◌, ◌++◌, ◌+◌, ◌<◌, ℕ, List, [], ◌∷◌, Option, Some, None, MatchOption, refl, append_assoc, add-one, length, drop}
 use Rattle.std.specs.List.{flat_map}
 use Rattle.std.proofs.Math.Seq.{drop-cons}
@@ -32,7 +32,7 @@ behind_sound xs ys sound (Some fault) h = record {
   at_fault = h.at_fault;
 }
 
--- a fault stays the first where others follow
+-- a fault is still the first if others follow
 pub fault_before : (xs ys : List Item) (fault : Fault) → IsFirstAtFault xs fault → IsFirstAtFault (xs ++ ys) fault
 fault_before xs ys fault h = record {
   before = h.before;
@@ -44,16 +44,16 @@ fault_before xs ys fault h = record {
   at_fault = h.at_fault;
 }
 
--- the value in front is at fault
+-- the first value is invalid
 pub fault_in_front : (x : Item) (xs : List Item) (fault : Fault) → fault.tag ≡ x.tag → IsItemAtFault x fault.reason → IsFirstAtFault (x ∷ xs) fault
 fault_in_front x xs fault tag_is at_fault = record { before = []; item = x; behind = xs; parts = refl; sound = tt; tag_is = tag_is; at_fault = at_fault }
 
--- ---- tables, walked from the front
+-- ---- a pass over tables
 
 pub drop_row : (rows : List Row) (i : ℕ) → i < length rows → drop i rows ≡ row_at rows i ∷ drop (i + 1) rows
 drop_row rows i within = rw add-one (drop-cons rows i (Required 0 Text) within)
 
--- a row whose values are sound, and those after it
+-- a row with sound values, and those after it
 pub past_row : (values : Row → List Item) (rows : List Row) (i : ℕ) → i < length rows → AreSound (values (row_at rows i)) → (found : Option Fault)
     → HasFirst (flat_map values (drop (i + 1) rows)) found → HasFirst (flat_map values (drop i rows)) found
 past_row values rows i within sound found h = rw (drop_row rows i within) (behind_sound (values (row_at rows i)) (flat_map values (drop (i + 1) rows)) sound found h)
@@ -63,7 +63,7 @@ pub at_row : (values : Row → List Item) (rows : List Row) (i : ℕ) (fault : F
     → IsFirstAtFault (flat_map values (drop i rows)) fault
 at_row values rows i fault within h = rw (drop_row rows i within) (fault_before (values (row_at rows i)) (flat_map values (drop (i + 1) rows)) fault h)
 
--- the same of one value a row
+-- the same for one value a row
 pub past_value : (fields : List TagValue) (rows : List Row) (i : ℕ) → i < length rows → IsSoundItem (item_of fields (row_at rows i)) → (found : Option Fault)
     → HasFirst (items_of (drop (i + 1) rows) fields) found → HasFirst (items_of (drop i rows) fields) found
 past_value fields rows i within sound found h =

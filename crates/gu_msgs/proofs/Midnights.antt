@@ -1,4 +1,4 @@
--- The text of the moment with which a day begins.
+-- The text of the moment at which a day begins.
 use Rattle.std.proofs.Common.{◌≡◌, ◌*◌, ◌/◌, ◌%◌, ◌≤◌, ◌++◌, ℕ, ℤ, pos, List, codes, refl, sym, ap, ◌∙◌, subst, append_assoc, arith}
 use Rattle.std.specs.Prelude.{◌<ℤ◌, ◌≤ℤ◌, negsuc}
 use Rattle.std.proofs.lemmas.Int.{ints}
@@ -24,7 +24,7 @@ from_1970 d late =
     let next = days_from_civil-next_year (pos 1969) (pos 1970) (omega (arith, ints)) refl in
     omega (arith, signed_arith, before, next)
 
--- a date of the years 1 to 9999
+-- a date in the years 1 to 9999
 abbrev date_of : (year month day : ℕ) → IsDay year month day → Date
 date_of year month day is =
     let d = is.date in
@@ -45,7 +45,7 @@ time_text-zero : time_text 0 ≡ codes "00:00:00.000"
 unfolding time_text
 time_text-zero = refl
 
--- the date so many days after 1970-01-01 is one
+-- the date this many days after 1970-01-01 is unique
 one_date : (d : Date) (n : ℕ) (year month day : ℕ) (text : List ℕ) → epoch_day d ≡ pos n → d.year ≡ pos year → d.month ≡ month → d.day ≡ day
     → WritesDateAfter n text → text ≡ date_text year month day
 one_date d n year month day text days years months ds writes =

@@ -24,7 +24,7 @@ use Rattle.gu_msgs.specs.declared.row.Kind.TheVariants as kind
 
 -- ---- values
 
--- what is allowed is in its format
+-- an allowed text is in its format
 sound_formatted : (k : Kind) (text : List ℕ) → IsSound k text → IsFormatted k text
 sound_formatted kind.Text text sound = tt
 sound_formatted kind.TestReqId text sound = tt
@@ -61,7 +61,7 @@ no_value_fault items fault sound first =
     let all = rw first.parts at sound in
     not_both_of first.item.kind first.item.text fault.reason (sound_at first.before first.item first.behind all) first.at_fault
 
--- ---- values that have to agree
+-- ---- values that must agree
 
 one_lots : (text : List ℕ) (n m : ℕ) → MeansLots text n → MeansLots text m → n ≡ m
 one_lots text n m a b = sym (lots_meant text n a).1 ∙ (lots_meant text m b).1
@@ -105,7 +105,7 @@ no_first_fault k fields fault h (inr (inr differs)) = no_disagreement k fields f
 
 -- ---- types
 
--- a code's place among the codes, by which they are told apart
+-- a code's index among the codes, by which they are distinguished
 code_place : MsgType → ℕ
 code_place Heartbeat = 48
 code_place TestRequest = 49
@@ -157,7 +157,7 @@ type_at-place RequestForPositions = refl
 pub type_at-sum : (k : MsgType) → type_at (sum (code_of k)) ≡ k
 type_at-sum k = ap type_at (sum_code k) ∙ type_at-place k
 
--- two types with one code are one
+-- two types with the same code are the same
 pub one_type : (k j : MsgType) → code_of k ≡ code_of j → k ≡ j
 one_type k j same =
     let places : code_place k ≡ code_place j = sym (sum_code k) ∙ ap sum same ∙ sum_code j in

@@ -1,4 +1,4 @@
--- Digits, as a fact and as a test.
+-- Digits, as a property and as a test.
 use Rattle.std.proofs.Common.{◌≡◌, ◌<◌, ◌≤◌, ◌^◌, ℕ, Bool, true, false, List, [], ◌∷◌, IsTrue, ◌↔◌, arith, length, refl, sym, take, nat_lt}
 use Rattle.std.specs.Char.{digit_value}
 use Rattle.std.specs.List.{list_all}
@@ -23,7 +23,7 @@ test_from_digits : (text : List ℕ) → AllDigits 10 text → list_all (λ b. n
 test_from_digits [] h = refl
 test_from_digits (b ∷ bs) h = rw (lt-ltb (digit_value b) 10 h.0, test_from_digits bs h.1) refl
 
--- an answer that says whether the bytes are digits is the test's
+-- an answer to whether the bytes are digits is that of the test
 pub is_digits_test : (text : List ℕ) (answer : Bool) → (IsTrue answer ↔ AllDigits 10 text) → answer ≡ list_all (λ b. nat_lt (digit_value b) 10) text
 is_digits_test text true h = sym (test_from_digits text (h.0 refl))
 is_digits_test text false h =
@@ -38,7 +38,7 @@ numeral_digits text h = digits_from_test text (and_parts _ _ h).1
 pub numeral_from_digits : (text : List ℕ) → 0 < length text → AllDigits 10 text → IsTrue (is_numeral text)
 numeral_from_digits text some all = rw (lt-ltb 0 (length text) some, test_from_digits text all) refl
 
--- the first digits of nine at most are a small number
+-- the first of at most nine digits are a small number
 pub value_short : (text : List ℕ) (count : ℕ) → AllDigits 10 (take count text) → length text ≤ 9 → digits_value 10 (take count text) < 1000000000
 value_short text count all few =
     let bound = digits_value-lt 10 (take count text) all in

@@ -1,4 +1,4 @@
--- Fields have one first fault.
+-- Fields have at most one first fault.
 use Rattle.std.proofs.Common.{◌≡◌, ◌++◌, ◌⊎◌, inl, inr, ℕ, false, List, [], ◌∷◌, Option, Some, None, MatchOption, refl, sym, ◌∙◌}
 use Rattle.gu_fix.specs.TagValue.{TagValue}
 use Rattle.gu_fix.specs.declared.tag.TheConstants.{MSG_TYPE}
@@ -17,7 +17,7 @@ use Rattle.gu_msgs.specs.declared.reject_reason.SessionRejectReason.TheVariants 
 use Rattle.gu_msgs.specs.declared.row.Kind.{Kind}
 use Rattle.gu_msgs.proofs.NoFault.{no_value_fault, not_both_of, one_type, sound_code}
 
--- two faults with one tag and one reason are one
+-- two faults with the same tag and reason are the same
 one_record : (f g : Fault) → f.tag ≡ g.tag → f.reason ≡ g.reason → f ≡ g
 one_record f g tag reason =
     let made : (t : ℕ) (r : SessionRejectReason) → f.tag ≡ t → f.reason ≡ r → f ≡ fault_at r t = λ t r e h. rw (← e, ← h) refl in
@@ -49,7 +49,7 @@ one_reason_of : (k : Kind) (text : Option (List ℕ)) (r q : SessionRejectReason
 one_reason_of k None r q a b = absurd a
 one_reason_of k (Some text) r q a b = one_reason k text r q a b
 
--- a first fault is that of the value in front, or there a sound value stands and it is the first after it
+-- the first fault is that of the first value, or that is sound and it is the first fault after it
 front_or_after : (x : Item) (xs : List Item) (f : Fault) → IsFirstAtFault (x ∷ xs) f
     → ((f.tag ≡ x.tag) × IsItemAtFault x f.reason) ⊎ (IsSoundItem x × IsFirstAtFault xs f)
 front_or_after x xs f first =
@@ -135,6 +135,6 @@ one_fault_by : (text : Option (List ℕ)) (fields : List TagValue) (f g : Fault)
 one_fault_by None fields f g a b = a ∙ sym b
 one_fault_by (Some text) fields f g a b = one_typed_fault text fields f g a b
 
--- fields have one first fault
+-- fields have at most one first fault
 pub one_fault : (fields : List TagValue) (f g : Fault) → IsFaultOf fields f → IsFaultOf fields g → f ≡ g
 one_fault fields f g a b = one_fault_by (first_value MSG_TYPE fields) fields f g a b

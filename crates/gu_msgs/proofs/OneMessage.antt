@@ -1,4 +1,4 @@
--- Fields say one message.
+-- Fields are at most one message.
 use Rattle.std.proofs.Common.{◌≡◌, ℕ, ◌==◌, Bool, true, false, List, [], ◌∷◌, Option, None, Some, MatchOption, refl, sym, ap, ◌∙◌, subst, if◌then◌else◌}
 use Rattle.gu_terms.specs.declared.alloc_reject.AllocReject.TheVariants.{BlockLevel, AccountLevel, Intermediary}
 use Rattle.gu_terms.specs.declared.lines.Line.{Line}
@@ -63,7 +63,7 @@ type_said fields (inbound.AllocationReportAck m) p = p.0.code
 type_said fields (inbound.RequestForPositions m) p = p.0.code
 type_said fields (inbound.Unread code) p = (code, p)
 
--- fields have one type
+-- fields have at most one type
 one_found : (fields : List TagValue) (a b : Option MsgType) → HasType fields a → HasType fields b → a ≡ b
 one_found fields None None p q = refl
 one_found fields None (Some k) p q = (let unread = p.1 in absurd (unread.other k (one_text _ _ _ unread.stands q)))
@@ -105,7 +105,7 @@ of_its_type (inbound.AllocationReportAck m) = (m, refl)
 of_its_type (inbound.RequestForPositions m) = (m, refl)
 of_its_type (inbound.Unread code) = (code, refl)
 
--- two messages that fields say are of one type
+-- two messages in the same fields have the same type
 like : (fields : List TagValue) (m n : Inbound) → Says fields m → Says fields n → IsOfFound (type_in m) n
 like fields m n p q = subst (λ found. IsOfFound found n) (same_type fields m n p q) (of_its_type n)
 
@@ -199,7 +199,7 @@ one_question fields a b p q =
 
 -- ---- the law
 
--- what the fields say of the other message, once it is known to be this one
+-- the contents of the other message, once it is known to be this one
 moved : (fields : List TagValue) (n m : Inbound) → n ≡ m → Says fields n → Says fields m
 moved fields n m same q = subst (Says fields) same q
 

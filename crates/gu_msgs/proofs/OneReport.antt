@@ -1,4 +1,4 @@
--- The fields of a report say one report, and no other message.
+-- The fields of a report are at most one report, and no other message.
 use Rattle.std.proofs.Common.{◌≡◌, List}
 use Rattle.gu_fix.specs.TagValue.{TagValue}
 use Rattle.gu_msgs.specs.Messages.{Says}
@@ -7,7 +7,7 @@ use Rattle.gu_msgs.specs.declared.inbound.Inbound.TheVariants as inbound
 use Rattle.gu_msgs.specs.declared.inbound.TradeCaptureReport.{TradeCaptureReport}
 use Rattle.gu_msgs.proofs.OneMessage.{one_message}
 
--- another message that they say is this report
+-- any other message in them is this report
 pub one_report : (fields : List TagValue) (message : Inbound) (report : TradeCaptureReport)
     → Says fields message → Says fields (inbound.TradeCaptureReport report) → message ≡ inbound.TradeCaptureReport report
 one_report fields message report p q = one_message fields message (inbound.TradeCaptureReport report) p q

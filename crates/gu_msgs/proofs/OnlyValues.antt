@@ -1,4 +1,4 @@
--- A tag of a table of which no tag stands twice has one value at most.
+-- If no tag of a table is repeated, each tag has at most one value.
 use Rattle.std.proofs.Common.{◌≡◌, ◌<◌, ◌++◌, ◌==◌, ℕ, Bool, true, false, cond, List, [], ◌∷◌, length, Option, Some, None, is_some, MatchOption, refl, ap, sym, eqb-true}
 use Rattle.std.specs.Option.{option_map}
 use Rattle.gu_fix.specs.TagValue.{TagValue}
@@ -13,7 +13,7 @@ use Rattle.gu_msgs.specs.declared.row.Row.{Row}
 use Rattle.gu_msgs.proofs.HeldLemmas.{none_mapped, none_of_either}
 use Rattle.gu_msgs.proofs.StandingLemmas.{listed_at}
 
--- a tag that stands also does with a field more
+-- a tag that is present still is with one more field
 still_stands : (tag : ℕ) (before : List TagValue) (f : TagValue) → stands tag before ≡ true → stands tag (before ++ f ∷ []) ≡ true
 still_stands tag [] f there = cc
 still_stands tag (x ∷ before) f there =
@@ -21,7 +21,7 @@ still_stands tag (x ∷ before) f there =
     let at : (b : Bool) → P b = λ b. elim b as P [ true ↦ (λ h. h) | false ↦ (λ h. still_stands tag before f h) ] in
     at (x.tag == tag) there
 
--- and so does that of the field
+-- so is that of the field
 own_stands : (tag : ℕ) (before : List TagValue) (f : TagValue) → (f.tag == tag) ≡ true → stands tag (before ++ f ∷ []) ≡ true
 own_stands tag [] f same = rw same refl
 own_stands tag (x ∷ before) f same =
@@ -29,7 +29,7 @@ own_stands tag (x ∷ before) f same =
     let at : (b : Bool) → P b = λ b. elim b as P [ true ↦ refl | false ↦ own_stands tag before f same ] in
     at (x.tag == tag)
 
--- where none stands again, the first field's doesn't, and none does after it
+-- if no tag is repeated, the first field's isn't, and none after it is
 none_further : (rows : List Row) (before : List TagValue) (f : TagValue) (fs : List TagValue) → repeated_after rows before (f ∷ fs) ≡ None
     → (is_second rows before f ≡ false) × (repeated_after rows (before ++ f ∷ []) fs ≡ None)
 none_further rows before f fs none =
@@ -38,11 +38,11 @@ none_further rows before f fs none =
     let at : (b : Bool) → P b = λ b. elim b as P [ true ↦ (λ h. cc) | false ↦ (λ h. (refl, h)) ] in
     at (is_second rows before f) none
 
--- a field with a tag that stands before it is a second one
+-- a field with a tag that was present before repeats it
 seconds : (rows : List Row) (tag : ℕ) (before : List TagValue) (f : TagValue) → is_listed rows tag ≡ true → stands tag before ≡ true → f.tag ≡ tag → is_second rows before f ≡ true
 seconds rows tag before f listed there same = rw (same, listed, there) refl
 
--- a tag that stands before these fields doesn't stand among them
+-- a tag present before these fields isn't among them
 none_again : (rows : List Row) (tag : ℕ) (before fields : List TagValue) → is_listed rows tag ≡ true → repeated_after rows before fields ≡ None → stands tag before ≡ true
     → stands tag fields ≡ false
 none_again rows tag before [] listed none there = refl
@@ -54,7 +54,7 @@ none_again rows tag before (f ∷ fs) listed none there =
     let at : (b : Bool) → P b = λ b. elim b as P [ true ↦ own | false ↦ other ] in
     at (f.tag == tag) refl
 
--- nor does any tag stand after its first field
+-- nor is any tag present after its first field
 once : (rows : List Row) (tag : ℕ) (before fields : List TagValue) → is_listed rows tag ≡ true → repeated_after rows before fields ≡ None → stands tag (behind tag fields) ≡ false
 once rows tag before [] listed none = refl
 once rows tag before (f ∷ fs) listed none =
@@ -65,7 +65,7 @@ once rows tag before (f ∷ fs) listed none =
     let at : (b : Bool) → P b = λ b. elim b as P [ true ↦ own | false ↦ other ] in
     at (f.tag == tag) refl
 
--- so its first value is its only one, where the shape is sound
+-- so its first value is its only one, if the shape is sound
 pub only_is_first : (kind : MsgType) (fields : List TagValue) (place : ℕ) → shape_fault kind fields ≡ None → place < length (outer_rows kind)
     → only_value (tag_of (row_at (outer_rows kind) place)) fields ≡ first_value (tag_of (row_at (outer_rows kind) place)) fields
 only_is_first kind fields place shape within =
@@ -77,7 +77,7 @@ only_is_first kind fields place shape within =
     let listed = listed_at rows tag place (record { within = within; tagged = refl }) in
     ap (λ b. cond b None (first_value tag fields)) (once rows tag [] fields listed none)
 
--- what was found of a value
+-- what was found for a value
 pub matched : {A B : Type 0} (found : Option A) (f : A → B) (is : Option B) → MatchOption found (is ≡ None) (λ a. is ≡ Some (f a)) → option_map f found ≡ is
 matched (Some a) f is h = sym h
 matched None f is h = sym h

@@ -34,20 +34,20 @@ use Rattle.gu_msgs.proofs.ItemLemmas.{behind_sound, drop_row, fault_before, faul
 use Rattle.gu_msgs.proofs.StandingLemmas.{absent_numbered}
 use Rattle.gu_msgs.proofs.TableLemmas.{outer_table}
 
--- ---- where tags are
+-- ---- positions of tags
 
--- a table has 20 rows at most
+-- a table has at most 20 rows
 pub few : (kind : MsgType) (place : ℕ) → place < length (outer_rows kind) → place < 20
 few kind place within = omega (arith, within, (outer_table kind).few)
 
--- no later row is missing
+-- no tag of a later row is missing
 none_later : (r : Row) (rows : List Row) (fields : List TagValue) → missing (r ∷ rows) fields ≡ None → missing rows fields ≡ None
 none_later r rows fields none =
     let P : Bool → Type 0 = λ b. cond b (Some (tag_of r)) (missing rows fields) ≡ None → missing rows fields ≡ None in
     let at : (b : Bool) → P b = λ b. elim b as P [ true ↦ (λ h. cc) | false ↦ (λ h. h) ] in
     at (is_required r && not (stands (tag_of r) fields)) none
 
--- where none is missing, a tag that must stand does
+-- if none is missing, a required tag is present
 stands_at : (rows : List Row) (fields : List TagValue) (place : ℕ) → missing rows fields ≡ None → place < length rows → is_required (row_at rows place) ≡ true
     → stands (tag_of (row_at rows place)) fields ≡ true
 stands_at [] fields place none within required = absurd (omega (arith, within))
@@ -58,7 +58,7 @@ stands_at (Required tag kind ∷ rows) fields zero none within required =
 stands_at (Optional tag kind ∷ rows) fields zero none within required = cc
 stands_at (r ∷ rows) fields (suc place) none within required = stands_at rows fields place (none_later r rows fields none) (omega (arith, within)) required
 
--- the number of a tag that must stand isn't 0
+-- the number of a required tag isn't 0
 pub some_number : (kind : MsgType) (fields : List TagValue) (place number : ℕ) → shape_fault kind fields ≡ None → place < length (outer_rows kind)
     → is_required (row_at (outer_rows kind) place) ≡ true → IsStanding fields (tag_of (row_at (outer_rows kind) place)) number → 1 ≤ number
 some_number kind fields place (suc n) shape within required is = omega arith
@@ -76,14 +76,14 @@ numbered_value fields (suc n) f some at = let same : suc n - 1 ≡ n = omega ari
 
 -- ---- values so far
 
--- one row more whose values are allowed
+-- one more row whose values are allowed
 pub row_judged : (m : Outlined) (place : ℕ) → place < length (outer_rows m.kind) → AreJudged m place → AreSound (row_items m.kind m.fields (row m place)) → AreJudged m (place + 1)
 row_judged m place within judged sound =
     let values : Row → List Item = row_items m.kind m.fields in
     rw (add-one, take-suc (outer_rows m.kind) place (Required 0 Text) within, flat_map-append values (take place (outer_rows m.kind)) (row m place ∷ []), append-nil)
     (sound-append (flat_map values (take place (outer_rows m.kind))) (values (row m place)) judged sound)
 
--- the first fault of a row, where those before are allowed
+-- the first fault of a row, if those before are allowed
 pub row_fault : (m : Outlined) (place : ℕ) (fault : Fault) → place < length (outer_rows m.kind) → AreJudged m place → IsFirstAtFault (row_items m.kind m.fields (row m place)) fault
     → IsFirstAtFault (message_items m.kind m.fields) fault
 row_fault m place fault within judged first =
@@ -104,7 +104,7 @@ all_judged m judged = rw (take-length (outer_rows m.kind)) at judged
 plain_items : (m : Outlined) (place : ℕ) → entry_rows (tag_at m place) ≡ [] → row_items m.kind m.fields (row m place) ≡ item_of m.fields (row m place) ∷ []
 plain_items m place plain = rw plain refl
 
--- one such row more
+-- one more such row
 pub one_more : (m : Outlined) (place : ℕ) → place < length (outer_rows m.kind) → entry_rows (tag_at m place) ≡ [] → AreJudged m place → IsSoundItem (item_of m.fields (row m place))
     → AreJudged m (place + 1)
 one_more m place within plain judged sound = row_judged m place within judged (subst AreSound (sym (plain_items m place plain)) (sound, tt))
@@ -117,7 +117,7 @@ sound_text m place text is sound = rw is sound
 pub sound_absent : (m : Outlined) (place : ℕ) → value_at m place ≡ None → IsSoundItem (item_of m.fields (row m place))
 sound_absent m place none = rw none tt
 
--- the value of a row is at fault, where those before are allowed
+-- the value of a row is invalid, if those before are allowed
 pub value_fault : (m : Outlined) (place : ℕ) (text : List ℕ) (reason : SessionRejectReason) → place < length (outer_rows m.kind) → AreJudged m place → value_at m place ≡ Some text
     → IsAtFault (kind_of (row m place)) text reason → IsFirstAtFault (message_items m.kind m.fields) (fault_at reason (tag_at m place))
 value_fault m place text reason within judged is at_fault =
@@ -127,7 +127,7 @@ value_fault m place text reason within judged is at_fault =
     row_fault m place fault within judged
     (fault_in_front item (flat_map (items_of (entry_rows (tag_at m place))) (entries_of m.kind (tag_at m place) m.fields)) fault refl first)
 
--- ---- rows of which any text is allowed
+-- ---- rows that allow any text
 
 pub any_text : (o : Option (List ℕ)) → MatchOption o (Unit {0}) (IsSound Text)
 any_text None = tt
@@ -157,13 +157,13 @@ all_groups : (kind : MsgType) (fields : List TagValue) → groups_fault kind fie
 unfolding header_rows entry_rows
 all_groups kind fields = refl
 
--- nothing is wrong with a group of a message whose shape is sound
+-- a group of a message of sound shape has no fault
 sound_group : (m : Outlined) (place : ℕ) → shape_fault m.kind m.fields ≡ None → place < length (outer_rows m.kind) → group_fault m.kind m.fields (tag_at m place) ≡ None
 sound_group m place shape within =
     let parts = none_of_either (tags_fault (outer_rows m.kind) m.fields) (groups_fault m.kind m.fields (body_rows m.kind)) shape in
     group_at m.kind m.fields (outer_rows m.kind) place (sym (all_groups m.kind m.fields) ∙ parts.1) within
 
--- such a counter counts the entries, which have their tags
+-- the counter of such a group counts the entries, which have their tags
 counted_entries : (rows : List Row) (counter : ℕ) (text : List ℕ) (entries : List (List TagValue)) → rows ≢ [] → counted_fault rows counter (Some text) entries ≡ None
     → (digits_value 10 text ≡ length entries) × (entries_fault rows entries ≡ None)
 counted_entries [] counter text entries some none = absurd (some refl)
@@ -209,7 +209,7 @@ one_entry_fault m place entry fault within judged has first =
     entries_at_fault m place fault within judged has.sound
     (subst (λ (es : List (List TagValue)). IsFirstAtFault (flat_map (items_of (entry_rows_at m place)) es) fault) (sym has.one) (rw append-nil first))
 
--- the values of a group's one entry, read after those of the rows before
+-- the values of a group's one entry, read after those of the earlier rows
 pub one_entry_read : {T : Type 0} (m : Outlined) (place : ℕ) (entry : List TagValue) (Is Has : T → Type 0) (result : Result T Fault) → place < length (outer_rows m.kind) → AreJudged m place
     → HasOneEntry m place entry → ((value : T) → Is value → Has value) → ReadsEntry (entry_rows_at m place) entry Is result → ReadsTo m (place + 1) Has result
 one_entry_read m place entry Is Has (Ok value) within judged has says read = (says value read.0, one_entry_judged m place entry within judged has read.1)
@@ -217,7 +217,7 @@ one_entry_read m place entry Is Has (Err fault) within judged has says read = on
 
 -- ---- the values of an entry
 
--- a tag that must stand in an entry does
+-- a required tag of an entry is present
 pub tag_stands : (rows : List Row) (entry : List TagValue) (place : ℕ) → tags_fault rows entry ≡ None → place < length rows → is_required (row_at rows place) ≡ true
     → stands (tag_of (row_at rows place)) entry ≡ true
 tag_stands rows entry place none within required =
@@ -228,20 +228,20 @@ tag_stands rows entry place none within required =
 pub entry_sound : (entry : List TagValue) (r : Row) (text : List ℕ) → first_value (tag_of r) entry ≡ Some text → IsSound (kind_of r) text → IsSoundItem (item_of entry r)
 entry_sound entry r text is sound = rw is sound
 
--- the first of an entry's values is at fault
+-- the first of an entry's values is invalid
 pub entry_first : (entry : List TagValue) (r : Row) (others : List Row) (text : List ℕ) (fault : Fault) → first_value (tag_of r) entry ≡ Some text → fault.tag ≡ tag_of r
     → IsAtFault (kind_of r) text fault.reason → IsFirstAtFault (items_of (r ∷ others) entry) fault
 entry_first entry r others text fault is tag_is at_fault =
     let first : IsItemAtFault (item_of entry r) fault.reason = rw is at_fault in
     fault_in_front (item_of entry r) (items_of others entry) fault tag_is first
 
--- the second is, and the first isn't
+-- the second is, but the first isn't
 pub entry_second : (entry : List TagValue) (q r : Row) (others : List Row) (text : List ℕ) (fault : Fault) → IsSoundItem (item_of entry q) → first_value (tag_of r) entry ≡ Some text
     → fault.tag ≡ tag_of r → IsAtFault (kind_of r) text fault.reason → IsFirstAtFault (items_of (q ∷ r ∷ others) entry) fault
 entry_second entry q r others text fault sound is tag_is at_fault =
     behind_sound (item_of entry q ∷ []) (items_of (r ∷ others) entry) (sound, tt) (Some fault) (entry_first entry r others text fault is tag_is at_fault)
 
--- which is refused
+-- the entry is refused
 pub entry_refused : {T : Type 0} (rows : List Row) (entry : List TagValue) (Says : T → Type 0) (result : Result T Fault) (fault : Fault) → (y : Fault) × (result ≡ Err y) × (y ≡ fault)
     → IsFirstAtFault (items_of rows entry) fault → ReadsEntry rows entry Says result
 entry_refused rows entry Says result fault passed first = rw (passed.1, passed.2) first
@@ -251,11 +251,11 @@ pub entries_refused : {T : Type 0} (rows : List Row) (entries : List (List TagVa
     → (y : MsgFault) × (result ≡ Err y) × (y ≡ Rejected fault) → IsFirstAtFault (flat_map (items_of rows) entries) fault → ReadsEntriesOrMemory rows entries Says result
 entries_refused rows entries Says result fault passed first = rw (passed.1, passed.2) first
 
--- the tags of entries behind one
+-- the tags of entries after one
 pub later_tags : (rows : List Row) (entry : List TagValue) (entries : List (List TagValue)) → entries_fault rows (entry ∷ entries) ≡ None → entries_fault rows entries ≡ None
 later_tags rows entry entries none = (none_of_either (tags_fault rows entry) (entries_fault rows entries) none).1
 
--- ---- what is refused
+-- ---- refusals
 
 -- a value of a group's entries, unless an allocation failed
 pub group_refused : {T : Type 0} (m : Outlined) (place : ℕ) (Has : T → Type 0) (e : MsgFault) (result : Result T MsgFault) → place < length (outer_rows m.kind)
@@ -268,7 +268,7 @@ group_refused m place Has (Rejected fault) result within judged sound passed h =
 pub first_value_fault : (kind : MsgType) (m : Outlined) (fault : Fault) → IsShaped kind m → IsFirstAtFault (message_items m.kind m.fields) fault → IsFirstFault kind m.fields fault
 first_value_fault kind m fault shaped first = inr (inl (record { shape = shaped.shape; first = rw shaped.is_kind at first }))
 
--- which is refused, unless an allocation failed
+-- which is the refusal, unless an allocation failed
 pub refused : {T : Type 0} (kind : MsgType) (m : Outlined) (Has : T → Type 0) (e : MsgFault) (result : Result T MsgFault) → IsShaped kind m
     → (y : MsgFault) × (result ≡ Err y) × (y ≡ e) → IsRefusedOf (message_items m.kind m.fields) e → MatchResult result Has (IsTypedRefusal kind m.fields)
 refused kind m Has Memory result shaped passed h = rw (passed.1, passed.2) tt

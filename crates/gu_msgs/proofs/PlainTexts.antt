@@ -32,7 +32,7 @@ IsAbove b = 2 ≤ b
 plain_clean : (value : List ℕ) → 1 ≤ length value → length value ≤ 1024 → has_soh value ≡ false → is_plain value ≡ true
 plain_clean value some most clean = rw (ne_eqb (length value) 0 (λ e. omega arith), clean, le-leb (length value) 1024 most) refl
 
--- and so can such bytes above it
+-- so can bytes above SOH
 plain_bytes : (value : List ℕ) → 1 ≤ length value → length value ≤ 1024 → All IsAbove value → is_plain value ≡ true
 plain_bytes value some most each =
     plain_clean value some most (list_any_none _ value (All-weaker IsAbove _ (λ b above. ne_eqb b 1 (λ e. omega arith)) value each))

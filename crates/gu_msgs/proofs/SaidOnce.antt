@@ -1,4 +1,4 @@
--- What stands in fields stands there once: texts, numbers, days, sides, and so reports.
+-- Fields have at most one value for each content: texts, numbers, days, sides, and so reports.
 use Rattle.std.proofs.Common.{◌≡◌, ℕ, ◌/◌, ◌^◌, zero, suc, ◌<◌, List, [], ◌∷◌, length, Option, None, Some, refl, sym, ap, ◌∙◌, subst, arith}
 use Rattle.std.specs.Prelude.{ℤ, pos}
 use lib.Dec.{T_prop}
@@ -16,7 +16,7 @@ use Rattle.gu_msgs.specs.Messages.{GivesDay, IsReport, IsSide, side_number}
 use Rattle.gu_msgs.specs.Values.{Holds, first_value}
 use Rattle.gu_msgs.specs.declared.inbound.TradeCaptureReport.{TradeCaptureReport}
 
--- a value that stands is one value
+-- a value that is present is unique
 pub one_text : (a b : List ℕ) (v : Option (List ℕ)) → v ≡ Some a → v ≡ Some b → a ≡ b
 one_text a b v p q = let same : Some a ≡ Some b = sym p ∙ q in cc
 
@@ -33,31 +33,31 @@ one_number text parts y z p q =
     let same : p.size ≡ q.size = sym (mul-div_cancel p.size positive) ∙ ap (λ n. n / power) (sym p.counts ∙ q.counts) ∙ mul-div_cancel q.size positive in
     p.sign ∙ ap (with_sign text) same ∙ sym q.sign
 
--- a date is there in one way
+-- a date is valid in only one way
 IsDay-prop : (year month day : ℕ) → IsProp (IsDay year month day)
 IsDay-prop year month day = hlevel (le_prop, T_prop)
 
--- two days of one date are one day
+-- two days with the same date are equal
 same_date : (a b : Day) → a.year ≡ b.year → a.month ≡ b.month → a.day ≡ b.day → a ≡ b
 same_date a b years months days =
     let Is : ℕ → ℕ → ℕ → Type 0 = λ year month day. (there : IsDay year month day) → a ≡ (record { year = year; month = month; day = day; there = there }) in
     let own : Is a.year a.month a.day = λ there i. record { year = a.year; month = a.month; day = a.day; there = IsDay-prop a.year a.month a.day a.there there i } in
     subst (λ year. Is year b.month b.day) years (subst (λ month. Is a.year month b.day) months (subst (λ day. Is a.year a.month day) days own)) b.there
 
--- a text writes one day
+-- a text is at most one day
 one_day : (text : List ℕ) (a b : Day) → WritesDay text a.year a.month a.day → WritesDay text b.year b.month b.day → a ≡ b
 one_day text a b p q = same_date a b (p.year_is ∙ sym q.year_is) (p.month_is ∙ sym q.month_is) (p.day_is ∙ sym q.day_is)
 
--- a number stands for one side
+-- a number is that of one side
 one_side : (a b : Side) → side_number a ≡ side_number b → a ≡ b
 one_side Buy Buy e = refl
 one_side Sell Sell e = refl
 one_side Buy Sell e = absurd (omega arith)
 one_side Sell Buy e = absurd (omega arith)
 
--- ---- what stands first, said of two reports
+-- ---- first values of two reports
 
--- a value that holds two facts is one value
+-- a value with two properties is one value
 held_once : (tag : ℕ) (P Q : List ℕ → Type 0) (fields : List TagValue) (p : Holds tag P fields) (q : Holds tag Q fields) → p.value ≡ q.value
 held_once tag P Q fields p q = one_text p.value q.value (first_value tag fields) p.first q.first
 

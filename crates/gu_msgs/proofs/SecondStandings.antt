@@ -1,4 +1,4 @@
--- The tag that stands twice is that of the leftmost second standing.
+-- The repeated tag reported is that of the leftmost field that repeats one.
 use Rattle.std.proofs.Common.{◌≡◌, ◌<◌, ◌≤◌, ℕ, zero, suc, Bool, true, false, cond, List, [], ◌∷◌, ◌++◌, length, slice_get, Option, None, Some, MatchOption, refl, subst, append_assoc, inl, inr, arith}
 use Rattle.std.proofs.lemmas.Bool.{cases_order}
 use Rattle.std.proofs.lemmas.List.{length-append, take_at}
@@ -17,19 +17,19 @@ none_past [] place past = refl
 none_past (f ∷ fs) zero past = absurd (omega (arith, past))
 none_past (f ∷ fs) (suc place) past = none_past fs place (omega (arith, past))
 
--- a field stands again after others, where its tag does
+-- a field repeats a tag after others, if its tag is repeated
 again_after : (rows : List Row) (before : List TagValue) (f : TagValue) (fs : List TagValue) → is_second rows before f ≡ true → StandsAgain rows (before ++ f ∷ fs) (length before)
 again_after rows before f fs second = rw (field_after before f fs, take_at before (f ∷ fs) (length before) refl) second
 
--- and only there
+-- and only then
 second_after : (rows : List Row) (before : List TagValue) (f : TagValue) (fs : List TagValue) → StandsAgain rows (before ++ f ∷ fs) (length before) → is_second rows before f ≡ true
 second_after rows before f fs again = rw (field_after before f fs, take_at before (f ∷ fs) (length before) refl) at again
 
--- what is said of the tag that was found
+-- the meaning of the tag that was found
 abbrev IsFound : List Row → List TagValue → Option ℕ → Type 0
 IsFound rows fields found = MatchOption found ((place : ℕ) → StandsAgain rows fields place → ⊥) (StandsAgainFirst rows fields)
 
--- after fields of which none stands again
+-- after fields without a repeated tag
 found_after : (rows : List Row) (before ahead : List TagValue) → ((place : ℕ) → place < length before → StandsAgain rows (before ++ ahead) place → ⊥)
     → IsFound rows (before ++ ahead) (repeated_after rows before ahead)
 found_after rows before [] none = λ place again.

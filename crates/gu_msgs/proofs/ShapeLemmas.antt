@@ -1,4 +1,4 @@
--- Tags that stand twice, and tags that are missing.
+-- Repeated tags, and missing tags.
 use Rattle.std.proofs.Common.{◌≡◌, ◌++◌, ◌&&◌, ◌+◌, not, ℕ, Bool, true, false, cond, List, [], ◌∷◌, Some, refl, length, take, ap, sym, ◌∙◌, append_assoc, arith}
 use Rattle.std.proofs.lemmas.List.{length-append, take_at}
 use Rattle.std.specs.Option.{option_or}
@@ -8,7 +8,7 @@ use Rattle.gu_msgs.specs.Shape.{is_second, missing, repeated_after}
 use Rattle.gu_msgs.specs.Values.{stands}
 use Rattle.gu_msgs.specs.declared.row.Row.{Row}
 
--- the first that is missing of two tables
+-- the first missing tag of two tables
 pub missing-append : (rows others : List Row) (fields : List TagValue) → missing (rows ++ others) fields ≡ option_or (missing rows fields) (missing others fields)
 missing-append [] others fields = refl
 missing-append (row ∷ rows) others fields =
@@ -16,9 +16,9 @@ missing-append (row ∷ rows) others fields =
     let at : (b : Bool) → P b = λ b. elim b as P [ true ↦ refl | false ↦ missing-append rows others fields ] in
     at (is_required row && not (stands (tag_of row) fields))
 
--- ---- fields that are walked from the front
+-- ---- a pass over fields
 
--- one field further on, it is the last of those that were walked
+-- one field further on, it is the last of those passed
 pub taken_on : (fields ahead rest : List TagValue) (field : TagValue) (seen : ℕ) → take seen fields ++ ahead ≡ fields → seen + length ahead ≡ length fields
     → ahead ≡ field ∷ rest → take (seen + 1) fields ≡ take seen fields ++ field ∷ []
 taken_on fields ahead rest field seen walked counted next =
@@ -28,13 +28,13 @@ taken_on fields ahead rest field seen walked counted next =
     omega (arith, counted, length-append before (field ∷ []), length-append before ahead, ap length walked) in
     ap (take (seen + 1)) (sym split) ∙ take_at (before ++ field ∷ []) rest (seen + 1) size
 
--- fields that were walked are those in front, and the others are ahead; no tag of these rows stood again among them
+-- the fields passed are the first ones, and the others are ahead; no tag of these rows was repeated among them
 pub record IsWalked (rows : List Row) (fields ahead : List TagValue) (seen : ℕ) : Type 0 where
   pub walked : take seen fields ++ ahead ≡ fields
   pub counted : seen + length ahead ≡ length fields
   pub same : repeated_after rows [] fields ≡ repeated_after rows (take seen fields) ahead
 
--- which stays so one field further on, where its tag doesn't stand again
+-- this is still so one field further on, if its tag isn't repeated
 pub walked_on : (rows : List Row) (fields ahead rest : List TagValue) (field : TagValue) (seen : ℕ) → IsWalked rows fields ahead seen → ahead ≡ field ∷ rest
     → is_second rows (take seen fields) field ≡ false → IsWalked rows fields rest (seen + 1)
 walked_on rows fields ahead rest field seen is next first =

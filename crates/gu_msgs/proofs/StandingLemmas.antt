@@ -1,4 +1,4 @@
--- Numbers of the fields in which tags stand first, as fields are walked.
+-- Numbers of the first fields with each tag, in a pass over fields.
 use Rattle.std.proofs.Common.{◌≡◌, ◌≢◌, ◌<◌, ◌≤◌, ◌+◌, ◌++◌, ◌&&◌, ◌==◌, not, ℕ, zero, suc, Bool, true, false, cond, List, [], ◌∷◌, Option, Some, None, is_some, length, set, take, drop, slice_get, slice_index, refl, ap, sym, subst, ◌∙◌, arith, add-one, inl, inr, eq-eqb}
 use Rattle.std.proofs.lemmas.Bool.{cases_eq, ne_eqb}
 use Rattle.std.proofs.lemmas.List.{get_or-set_same, get_or-set_other, length-append, length-take-le, drop-append-le}
@@ -19,7 +19,7 @@ use Rattle.gu_msgs.proofs.ShapeLemmas.{IsWalked, taken_on, walked_on}
 
 -- ---- one more field
 
--- the first value of a tag stays, or else comes with the field
+-- the first value of a tag stays, or comes with the field
 first_value-push : (tag : ℕ) (fields : List TagValue) (f : TagValue)
     → first_value tag (fields ++ f ∷ []) ≡ option_or (first_value tag fields) (cond (f.tag == tag) (Some f.value) None)
 first_value-push tag [] f = refl
@@ -54,15 +54,15 @@ some_numbered : (fields : List TagValue) (number : ℕ) → number ≤ length fi
 some_numbered fields zero within some = absurd (some refl)
 some_numbered fields (suc place) within some = some_field fields place (omega (arith, within))
 
--- a tag with a number stands
+-- a tag with a number is present
 pub stands_numbered : (fields : List TagValue) (tag number : ℕ) → IsStanding fields tag number → number ≢ 0 → stands tag fields ≡ true
 stands_numbered fields tag number is some = ap is_some is.first ∙ some_numbered fields number is.within some
 
--- one without doesn't
+-- a tag without one isn't
 pub absent_numbered : (fields : List TagValue) (tag number : ℕ) → IsStanding fields tag number → number ≡ 0 → stands tag fields ≡ false
 absent_numbered fields tag number is none = ap is_some (is.first ∙ ap (value_numbered fields) none)
 
--- what follows a tag that stands is followed by the field
+-- the fields after a tag that is present, followed by the field
 behind-push : (tag : ℕ) (fields : List TagValue) (f : TagValue) → stands tag fields ≡ true → behind tag (fields ++ f ∷ []) ≡ behind tag fields ++ f ∷ []
 behind-push tag [] f there = cc
 behind-push tag (x ∷ fields) f there =
@@ -70,7 +70,7 @@ behind-push tag (x ∷ fields) f there =
     let at : (b : Bool) → P b = λ b. elim b as P [ true ↦ (λ h. refl) | false ↦ (λ h. behind-push tag fields f h) ] in
     at (x.tag == tag) there
 
--- nothing follows one that doesn't, nor does the field
+-- there are none after an absent tag, even with the field
 behind_new : (tag : ℕ) (fields : List TagValue) (f : TagValue) → stands tag fields ≡ false → behind tag (fields ++ f ∷ []) ≡ []
 behind_new tag [] f none =
     let P : Bool → Type 0 = λ b. cond {A = List TagValue} b [] [] ≡ [] in
@@ -81,7 +81,7 @@ behind_new tag (x ∷ fields) f none =
     let at : (b : Bool) → P b = λ b. elim b as P [ true ↦ (λ h. cc) | false ↦ (λ h. behind_new tag fields f h) ] in
     at (x.tag == tag) none
 
--- what follows a field that was there
+-- the fields after one that was there
 behind_kept : (fields : List TagValue) (f : TagValue) (tag number : ℕ) → IsStanding fields tag number → behind tag (fields ++ f ∷ []) ≡ fields_after (fields ++ f ∷ []) number
 behind_kept fields f tag zero is = behind_new tag fields f (absent_numbered fields tag zero is refl)
 behind_kept fields f tag (suc place) is =
@@ -133,7 +133,7 @@ standing_new fields f tag number is none same = record {
 pub listed_at : (rows : List Row) (tag place : ℕ) → IsRowOf rows tag place → is_listed rows tag ≡ true
 listed_at rows tag place is = list_any_at (λ row. tag_of row == tag) rows place (Required 0 Text) is.within (eq-eqb (tag_of (row_at rows place)) tag is.tagged)
 
--- what is noted are the standings with one field more
+-- the recorded numbers are the standings with one more field
 pub noted : (rows : List Row) (fields : List TagValue) (f : TagValue) (old new : List ℕ) → AreDistinct rows → length rows ≤ length old → AreStandings rows fields old
     → Notes true rows f.tag (length fields + 1) old new → AreStandings rows (fields ++ f ∷ []) new
 noted rows fields f old new distinct few are (inl none) i within =
@@ -159,13 +159,13 @@ noted rows fields f old new distinct few are (inr some) i within =
           subst (IsStanding (fields ++ f ∷ []) tag) (sym old_one) (standing_other fields f tag (slice_index old i) (are i within) (ne_eqb f.tag tag own))
     ])
 
--- ---- a walk
+-- ---- a pass
 
 pub and_false : (b : Bool) → (b && false) ≡ false
 and_false true = refl
 and_false false = refl
 
--- a tag that is noted doesn't stand a second time
+-- a tag that is newly recorded isn't repeated
 first_noted : (rows : List Row) (fields : List TagValue) (f : TagValue) (number : ℕ) (old new : List ℕ) → AreStandings rows fields old → Notes true rows f.tag number old new
     → is_second rows fields f ≡ false
 first_noted rows fields f number old new are (inl none) = ap (λ b. b && stands f.tag fields) none.0
@@ -175,7 +175,7 @@ first_noted rows fields f number old new are (inr some) =
     ap (λ t. stands t fields) (sym some.row.tagged) ∙ absent_numbered fields (tag_of (row_at rows place)) (slice_index old place) (are place some.row.within) some.before in
     ap (λ b. is_listed rows f.tag && b) absent ∙ and_false (is_listed rows f.tag)
 
--- one that was noted before does
+-- one that was recorded before is
 second_noted : (rows : List Row) (fields : List TagValue) (f : TagValue) (number : ℕ) (old new : List ℕ) → AreStandings rows fields old → Notes false rows f.tag number old new
     → is_second rows fields f ≡ true
 second_noted rows fields f number old new are some =
@@ -184,12 +184,12 @@ second_noted rows fields f number old new are some =
     ap (λ t. stands t fields) (sym some.row.tagged) ∙ stands_numbered fields (tag_of (row_at rows place)) (slice_index old place) (are place some.row.within) some.before in
     ap (λ b. b && stands f.tag fields) (listed_at rows f.tag place some.row) ∙ there
 
--- the numbers so far, of fields that were walked
+-- the numbers so far, for the fields passed
 pub record AreNoted (rows : List Row) (fields ahead : List TagValue) (seen : ℕ) (numbers : List ℕ) : Type 0 where
   pub walked : IsWalked rows fields ahead seen
   pub first : AreStandings rows (take seen fields) numbers
 
--- they stay so one field further on
+-- they are right one field further on
 pub noted_on : (rows : List Row) (fields ahead rest : List TagValue) (field : TagValue) (seen : ℕ) (old new : List ℕ) → AreDistinct rows → length rows ≤ length old
     → AreNoted rows fields ahead seen old → ahead ≡ field ∷ rest → Notes true rows field.tag (seen + 1) old new → AreNoted rows fields rest (seen + 1) new
 noted_on rows fields ahead rest field seen old new distinct few are next notes =
@@ -202,7 +202,7 @@ noted_on rows fields ahead rest field seen old new distinct few are next notes =
           (noted rows before field old new distinct few are.first now);
     }
 
--- a field whose tag was noted before is the leftmost second standing
+-- a field whose tag was recorded before is the leftmost that repeats one
 pub found_again : (rows : List Row) (fields ahead rest : List TagValue) (field : TagValue) (seen : ℕ) (old new : List ℕ)
     → AreNoted rows fields ahead seen old → ahead ≡ field ∷ rest → Notes false rows field.tag (seen + 1) old new → repeated rows fields ≡ Some field.tag
 found_again rows fields ahead rest field seen old new are next notes =
@@ -211,9 +211,9 @@ found_again rows fields ahead rest field seen old new are next notes =
     let step : repeated_after rows before (field ∷ rest) ≡ Some field.tag = rw second refl in
     are.walked.same ∙ ap (repeated_after rows before) next ∙ step
 
--- ---- what is missing
+-- ---- missing tags
 
--- a row that need not stand, or does
+-- a row that isn't required, or whose tag is present
 pub not_missing : (rows : List Row) (fields : List TagValue) (place : ℕ) → place < length rows
     → (is_required (row_at rows place) && not (stands (tag_of (row_at rows place)) fields)) ≡ false → missing (drop place rows) fields ≡ missing (drop (place + 1) rows) fields
 not_missing rows fields place within none = rw (drop_row rows place within, none) refl

@@ -12,7 +12,7 @@ use Rattle.gu_msgs.specs.declared.row.Row.{Row}
 use Rattle.gu_msgs.specs.declared.row.Row.TheVariants.{Required}
 use Rattle.gu_msgs.specs.declared.tags.TheConstants.{NO_ALLOCS, NO_EXECS, NO_SIDES}
 
--- no row's tag is that of a later one
+-- no row has the tag of a later one
 abbrev differ : List Row → Bool
 differ [] = true
 differ (row ∷ rows) = not (list_any (λ other. tag_of other == tag_of row) rows) && differ rows
@@ -51,7 +51,7 @@ pub header_table : IsTable header_rows
 unfolding header_rows
 header_table = is_table header_rows refl (omega arith)
 
--- all that is read at the outer level
+-- everything that is read at the outer level
 pub outer_table : (kind : MsgType) → IsTable (outer_rows kind)
 unfolding header_rows body_rows
 outer_table Heartbeat = is_table (outer_rows Heartbeat) refl (omega arith)

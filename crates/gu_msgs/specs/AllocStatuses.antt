@@ -13,7 +13,7 @@ status_number (Rejected reject) = reject_number reject
 status_number AllocationPending = 6
 status_number Reversed = 7
 
--- the status of an offer after an event: it waits for the carrying firm, is claimed, refused, or taken back
+-- the status of an offer after an event: it waits for the carrying firm, is claimed, is refused, or is moved back
 abbrev pub status_of : OfferEvent → AllocStatus
 status_of event.Offered = AllocationPending
 status_of event.Claimed = Accepted

@@ -1,4 +1,4 @@
--- What the house answers to a firm's message, and what it tells of its own accord.
+-- The house's answers to a firm's messages, and the messages that it sends unsolicited.
 use Rattle.std.specs.Prelude.{ℕ, ◌+◌, Bool, true, false, List, [], ◌∷◌, length, Option, None, Some}
 use Rattle.gu_terms.specs.declared.day.Day.{Day}
 use Rattle.gu_terms.specs.declared.notice.Notice.{Notice}
@@ -24,14 +24,14 @@ use Rattle.gu_msgs.specs.declared.outbound.Body.TheVariants as body
 use Rattle.gu_msgs.specs.declared.rejection.Rejection.{Rejection}
 use Rattle.gu_msgs.specs.declared.rejection.Rejection.TheVariants as rejection
 
--- why a command is refused, by the reply to it; nothing refuses one that is accepted
+-- the reason that a command is refused, given the reply to it; none if it is accepted
 abbrev pub rejection_of : Reply → Option Rejection
 rejection_of (Accepted done) = None
 rejection_of (Denied refusal) = Some (rejection.Refused refusal)
 
 -- ---- commands
 
--- the acknowledgement of a report with these ids that was taken, or was rejected so
+-- the acknowledgement of a report with these ids, which was accepted, or was rejected for this reason
 abbrev pub report_ack : List ℕ → List ℕ → Option Rejection → Body
 report_ack id match_id rejection =
     body.Application (application.TradeCaptureReportAck (record { trade_report_id = id; trd_match_id = match_id; rejection = rejection }))
@@ -44,14 +44,14 @@ answer_to report rejection = report_ack report.trade_report_id report.trd_match_
 abbrev pub give_up_ack : List ℕ → Option Rejection → Body
 give_up_ack id rejection = body.Application (application.AllocationInstructionAck (record { alloc_id = id; rejection = rejection }))
 
--- a word on an offer, by the message with this number, is answered only where it was rejected; else its notice tells
+-- a carrying firm's response in the message with this number is answered only if it was rejected; otherwise its notice is the answer
 abbrev pub offer_answer : ℕ → ℕ → Option Rejection → Option Body
 offer_answer offer number None = None
 offer_answer offer number (Some rejection) =
     Some (body.Application (application.BusinessMessageReject (record { ref_seq_num = number; reason = Other offer rejection })))
 
--- the answer to the message with this number that asked for a command, which was done, or was rejected so; a question for
--- positions asks for none
+-- the answer to the message with this number, whose command was accepted, or was rejected for this reason; a question for positions has no
+-- command
 abbrev pub command_answer : Question → ℕ → Option Rejection → Option Body
 command_answer (question.Report id match_id) number rejection = Some (report_ack id match_id rejection)
 command_answer (question.GiveUp id) number rejection = Some (give_up_ack id rejection)
@@ -60,7 +60,7 @@ command_answer (question.Refusal offer) number rejection = offer_answer offer nu
 command_answer (question.Reversal offer) number rejection = offer_answer offer number rejection
 command_answer (question.Positions m) number rejection = None
 
--- an accepted command did what is asked for
+-- an accepted command had the effect asked for
 abbrev pub is_done : Question → Done → Bool
 is_done (question.Report id match_id) (Reported matched) = true
 is_done (question.GiveUp id) (Offered group first count) = true
@@ -76,7 +76,7 @@ abbrev pub positions_ack : RequestForPositions → PosReqResult → Body
 positions_ack m outcome =
     body.Application (application.RequestForPositionsAck (record { pos_req_id = m.pos_req_id; outcome = outcome; account = m.account }))
 
--- the report of a position, at its place among those of the question
+-- the report of a position, at its place among those for the question
 abbrev pub position_report : RequestForPositions → Day → ℕ → PositionRow → Body
 position_report m day place row = body.Application (application.PositionReport (record {
   pos_req_id = m.pos_req_id;
@@ -88,28 +88,28 @@ position_report m day place row = body.Application (application.PositionReport (
   short_qty = row.short;
 }))
 
--- a report for each row, with places from this one on
+-- a report for each row, with places starting at this one
 abbrev pub reports_from : RequestForPositions → Day → ℕ → List PositionRow → List Body
 reports_from m day place [] = []
 reports_from m day place (row ∷ rows) = position_report m day place row ∷ reports_from m day (place + 1) rows
 
--- how many reports follow, and the reports, from place 1 on
+-- the number of reports, followed by the reports, with places starting at 1
 abbrev pub reports_on : RequestForPositions → Day → List PositionRow → List Body
 reports_on m day rows = positions_ack m (ValidRequest (length rows)) ∷ reports_from m day 1 rows
 
--- rows are told on an open day, where there are any
+-- rows are reported if a day is open and there are any
 abbrev pub told_on : RequestForPositions → Option Day → List PositionRow → List Body
 told_on m (Some day) (row ∷ rows) = reports_on m day (row ∷ rows)
 told_on m _ _ = positions_ack m NoPositionsFound ∷ []
 
--- the answer to a question for positions; without rows the account isn't the firm's
+-- the answer to a question for positions; without rows, the account isn't the firm's
 abbrev pub positions_answer : RequestForPositions → Option PositionRows → List Body
 positions_answer m None = positions_ack m NotAuthorized ∷ []
 positions_answer m (Some told) = told_on m told.day told.rows.items
 
 -- ---- notices
 
--- a report that is a side of a trade since this entry
+-- a report became a side of a trade with this entry
 abbrev pub matched_body : ℕ → Report → Body
 matched_body entry report = body.Application (application.TradeCaptureReport (record {
   entry = entry;
@@ -136,7 +136,7 @@ offer_body notice = body.Application (application.AllocationReport (record {
   account = notice.account;
 }))
 
--- the message that a notice is sent as
+-- the message for a notice
 abbrev pub notice_body : Notice → Body
 notice_body (Matched entry report) = matched_body entry report
 notice_body (Offer notice) = offer_body notice

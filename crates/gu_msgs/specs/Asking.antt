@@ -1,4 +1,4 @@
--- What a message of a firm asks of the house, and what the answer needs of it.
+-- Requests in a firm's messages, and what their answers need.
 use Rattle.std.specs.Prelude.{ℕ, Option, None, Some}
 use Rattle.gu_terms.specs.declared.command.Command.TheVariants as command
 use Rattle.gu_terms.specs.declared.command.ReportSide.{ReportSide}
@@ -16,7 +16,7 @@ use Rattle.gu_msgs.specs.declared.inbound.Inbound.{Inbound}
 use Rattle.gu_msgs.specs.declared.inbound.Inbound.TheVariants as inbound
 use Rattle.gu_msgs.specs.declared.inbound.TradeCaptureReport.{TradeCaptureReport}
 
--- the side that a firm's report asks for
+-- the side of a trade in a firm's report
 abbrev pub side_of : FirmId → TradeCaptureReport → ReportSide
 side_of firm m = record {
   firm = firm;
@@ -30,19 +30,19 @@ side_of firm m = record {
   account = m.account;
 }
 
--- the report that a message is, if it is one
+-- the report in a message, if it is one
 abbrev pub report_in : Inbound → Option TradeCaptureReport
 report_in (inbound.TradeCaptureReport m) = Some m
 report_in _ = None
 
--- a carrying firm's word on an offer claims it, refuses it, or takes a claim of this day back; that the offer waits asks for nothing
+-- a carrying firm's response to an offer claims it, refuses it, or reverses today's claim; AllocationPending requests nothing
 abbrev pub asked_on : ℕ → AllocStatus → Option Asking
 asked_on offer Accepted = Some (asking.Claim offer)
 asked_on offer (Rejected why) = Some (asking.Refusal offer why)
 asked_on offer AllocationPending = None
 asked_on offer Reversed = Some (asking.Reversal offer)
 
--- what a firm asks for: reports, give-ups and words on offers are to be entered, and positions are to be told
+-- a firm's request: reports, give-ups and responses to offers are to be entered, and positions are to be reported
 abbrev pub request_of : FirmId → Asking → Request
 request_of firm (asking.Report m) = Enter (command.ReportSide (side_of firm m))
 request_of firm (asking.GiveUp m) = Enter (command.GiveUp (record { firm = firm; id = m.alloc_id; report = m.exec_id; lines = m.lines }))
@@ -51,7 +51,7 @@ request_of firm (asking.Refusal offer why) = Enter (command.Refuse (record { fir
 request_of firm (asking.Reversal offer) = Enter (command.Reverse (record { firm = firm; offer = offer }))
 request_of firm (asking.Positions m) = Ask (query.Positions firm m.account)
 
--- what the answer needs of the message that asks: its ids, the offer, or the question for positions
+-- what the answer needs from the message: its ids, the offer, or the question for positions
 abbrev pub question_of : Asking → Question
 question_of (asking.Report m) = Report m.trade_report_id m.trd_match_id
 question_of (asking.GiveUp m) = GiveUp m.alloc_id

@@ -1,4 +1,4 @@
--- Values that messages write as numbers or words of the house.
+-- Values that messages write as numbers or as words of the house.
 use Rattle.std.specs.Prelude.{ℕ, List, codes}
 use Rattle.gu_terms.specs.declared.notice.OfferEvent.{OfferEvent}
 use Rattle.gu_terms.specs.declared.notice.OfferEvent.TheVariants as event
@@ -13,7 +13,7 @@ use Rattle.gu_msgs.specs.declared.coded_values.LogoutReason.TheVariants.{BadSeqN
 use Rattle.gu_msgs.specs.declared.coded_values.PosReqResult.{PosReqResult}
 use Rattle.gu_msgs.specs.declared.coded_values.PosReqResult.TheVariants.{ValidRequest, NoPositionsFound, NotAuthorized}
 
--- why a session ends, in the text of a Logout (Text, tag 58)
+-- the reason that a session ends, in the text of a Logout (Text, tag 58)
 abbrev pub logout_text : LogoutReason → List ℕ
 logout_text BadSeqNum = codes "BadSeqNum"
 logout_text SeqTooLow = codes "SeqTooLow"
@@ -33,7 +33,7 @@ report_type_number RequestToIntermediary = 8
 report_type_number Accept = 9
 report_type_number Reject = 10
 
--- what a report of an event of an offer is for: lots that are taken back are told as those that are taken
+-- the purpose of a report of an event of an offer; lots moved back have the same as lots claimed
 abbrev pub report_type_of : OfferEvent → AllocReportType
 report_type_of event.Offered = RequestToIntermediary
 report_type_of event.Claimed = Accept
@@ -52,13 +52,13 @@ request_status (ValidRequest count) = 0
 request_status NoPositionsFound = 0
 request_status NotAuthorized = 2
 
--- TotalNumPosReports, tag 727: how many reports follow
+-- TotalNumPosReports, tag 727: the number of reports that follow
 abbrev pub reports_count : PosReqResult → ℕ
 reports_count (ValidRequest count) = count
 reports_count NoPositionsFound = 0
 reports_count NotAuthorized = 0
 
--- the letter of a side, after the number of an entry
+-- the letter of a side, which follows the number of an entry
 abbrev pub side_letter : Side → ℕ
 side_letter Buy = 66
 side_letter Sell = 83

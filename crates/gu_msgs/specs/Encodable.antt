@@ -1,4 +1,4 @@
--- Machinery: fields that a message is encoded with. No other crate names this file.
+-- Machinery: the fields with which a message is encoded. No other crate names this file.
 use Rattle.std.specs.Prelude.{◌≡◌, ◌&&◌, ℕ, Bool, true, not, nat_le, List, length}
 use Rattle.std.specs.List.{list_all}
 use Rattle.gu_fix.specs.TagValue.{TagValue}

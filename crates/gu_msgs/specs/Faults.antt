@@ -1,4 +1,4 @@
--- The first fault of a message: its shape, then its values in order, and last the values that have to agree.
+-- The first fault of a message: its shape first, then its values in order, and last the values that must agree.
 use Rattle.std.specs.Prelude.{◌≡◌, ◌⊎◌, ℕ, false, List, None, Some, MatchOption, ⊤}
 use Rattle.std.specs.Option.{option_map_or}
 use Rattle.gu_fix.specs.TagValue.{TagValue}
@@ -21,12 +21,12 @@ pub record IsFaultless (kind : MsgType) (fields : List TagValue) : Type 0 where
   pub values : AreSound (message_items kind fields)
   pub agrees : Agrees kind fields
 
--- its shape is sound, and this is the first of its values that isn't allowed
+-- its shape is sound, and this is the fault of its first value that isn't allowed
 pub record IsValueFault (kind : MsgType) (fields : List TagValue) (fault : Fault) : Type 0 where
   pub shape : shape_fault kind fields ≡ None
   pub first : IsFirstAtFault (message_items kind fields) fault
 
--- its shape and each value are sound, and the value of this tag doesn't agree with others
+-- its shape and each value are sound, but the value of this tag doesn't agree with others
 pub record IsDisagreement (kind : MsgType) (fields : List TagValue) (fault : Fault) : Type 0 where
   pub shape : shape_fault kind fields ≡ None
   pub values : AreSound (message_items kind fields)
@@ -38,11 +38,11 @@ abbrev pub IsFirstFault : MsgType → List TagValue → Fault → Type 0
 IsFirstFault kind fields fault =
     (shape_fault kind fields ≡ Some fault) ⊎ IsValueFault kind fields fault ⊎ IsDisagreement kind fields fault
 
--- the fault of fields without a type: a tag of the header that is there twice, or else the missing type
+-- the fault of fields without a type: a repeated tag of the header, or else the missing type
 abbrev pub untyped_fault : List TagValue → Fault
 untyped_fault fields = option_map_or (fault_at TagAppearsMoreThanOnce) (repeated header_rows fields) (fault_at RequiredTagMissing MSG_TYPE)
 
--- what is wrong where the type has this text: its form, or the message of the type that has it as its code
+-- the fault of fields whose type has this text: the type's form, or the first fault of a message of the type with this code
 abbrev pub IsTypedFault : List ℕ → List TagValue → Fault → Type 0
 IsTypedFault text fields fault =
     ((is_type_text text ≡ false) × (fault ≡ fault_at InvalidMsgType MSG_TYPE))
@@ -53,7 +53,7 @@ abbrev pub IsFaultOf : List TagValue → Fault → Type 0
 IsFaultOf fields fault =
     MatchOption (first_value MSG_TYPE fields) (fault ≡ untyped_fault fields) (λ text. IsTypedFault text fields fault)
 
--- why fields are refused: memory, which may be wanting at any time, or their first fault
+-- why fields are refused: out of memory, at any time, or their first fault
 abbrev pub IsRefusal : List TagValue → MsgFault → Type 0
 IsRefusal fields Memory = ⊤
 IsRefusal fields (Rejected fault) = IsFaultOf fields fault

@@ -1,4 +1,4 @@
--- Machinery: what is known of a message whose shape and values are sound. No other crate names this file.
+-- Machinery: facts about a message whose shape and values are sound. No other crate names this file.
 use Rattle.std.specs.Prelude.{◌≡◌, ◌≢◌, List, [], length, None, Some}
 use Rattle.std.specs.List.{AllByRecursion}
 use Rattle.gu_fix.specs.TagValue.{TagValue}
@@ -16,21 +16,21 @@ use Rattle.gu_msgs.specs.declared.msg_type.MsgType.{MsgType}
 use Rattle.gu_msgs.specs.declared.row.Row.{Row}
 use Rattle.gu_msgs.specs.declared.row.Row.TheVariants.{Required, Optional}
 
--- a row's tag is there where it must be, and what it holds is allowed
+-- a row's tag is present if it must be, and its value is allowed
 abbrev pub IsHeld : List TagValue → Row → Type 0
 IsHeld fields (Required tag kind) = Holds tag (IsSound kind) fields
 IsHeld fields (Optional tag kind) = MayHold tag (IsSound kind) fields
 
--- each row of a table
+-- this holds for each row of a table
 abbrev pub AreHeld : List Row → List TagValue → Type 0
 AreHeld rows fields = AllByRecursion (IsHeld fields) rows
 
--- the group that a row counts has as many entries as it says, and each is sound
+-- the group that a row counts has as many entries as the counter says, and each is sound
 pub record HasGroup (kind : MsgType) (fields : List TagValue) (row : Row) : Type 0 where
   pub counted : entry_rows (tag_of row) ≢ [] → number_at (tag_of row) fields ≡ length (entries_of kind (tag_of row) fields)
   pub each : AllByRecursion (AreHeld (entry_rows (tag_of row))) (entries_of kind (tag_of row) fields)
 
--- each group of a message
+-- this holds for each group of a message
 abbrev pub HasGroups : MsgType → List TagValue → Type 0
 HasGroups kind fields = AllByRecursion (HasGroup kind fields) (body_rows kind)
 

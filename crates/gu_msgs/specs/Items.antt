@@ -1,4 +1,4 @@
--- The values of a message, in the order in which they are looked into, and the first that isn't allowed.
+-- The values of a message, in the order in which they are tested, and the first that isn't allowed.
 use Rattle.std.specs.Prelude.{◌≡◌, ℕ, List, ◌∷◌, ◌++◌, map, Option, MatchOption, ⊤}
 use Rattle.std.specs.List.{AllByRecursion, flat_map}
 use Rattle.gu_fix.specs.TagValue.{TagValue}
@@ -13,7 +13,7 @@ use Rattle.gu_msgs.specs.declared.reject_reason.SessionRejectReason.{SessionReje
 use Rattle.gu_msgs.specs.declared.row.Kind.{Kind}
 use Rattle.gu_msgs.specs.declared.row.Row.{Row}
 
--- a value that is looked into: its tag, what it must be, and its text where the tag is there
+-- a value to test: its tag, its kind, and its text if the tag is present
 pub record Item : Type 0 where
   pub tag : ℕ
   pub kind : Kind
@@ -27,19 +27,19 @@ item_of fields row = record { tag = tag_of row; kind = kind_of row; text = first
 abbrev pub items_of : List Row → List TagValue → List Item
 items_of rows fields = map (item_of fields) rows
 
--- an outer tag's value, and where it counts a group those of the entries after it
+-- an outer tag's value, followed, if it counts a group, by the values in the group's entries
 abbrev pub row_items : MsgType → List TagValue → Row → List Item
 row_items kind fields row = item_of fields row ∷ flat_map (items_of (entry_rows (tag_of row))) (entries_of kind (tag_of row) fields)
 
--- all values of a message: the header's, and then the type's own
+-- all values of a message: the header's, followed by the type's own
 abbrev pub message_items : MsgType → List TagValue → List Item
 message_items kind fields = flat_map (row_items kind fields) (outer_rows kind)
 
--- a value that is absent or allowed
+-- a value is absent or allowed
 abbrev pub IsSoundItem : Item → Type 0
 IsSoundItem item = MatchOption item.text ⊤ (IsSound item.kind)
 
--- a value that isn't allowed, for this reason
+-- a value isn't allowed, for this reason
 abbrev pub IsItemAtFault : Item → SessionRejectReason → Type 0
 IsItemAtFault item reason = MatchOption item.text ⊥ (λ text. IsAtFault item.kind text reason)
 
@@ -47,7 +47,7 @@ IsItemAtFault item reason = MatchOption item.text ⊥ (λ text. IsAtFault item.k
 abbrev pub AreSound : List Item → Type 0
 AreSound items = AllByRecursion IsSoundItem items
 
--- the first value that isn't allowed: its tag, and why
+-- the fault of the first value that isn't allowed: its tag and its reason
 pub record IsFirstAtFault (items : List Item) (fault : Fault) : Type 0 where
   pub before : List Item
   pub item : Item

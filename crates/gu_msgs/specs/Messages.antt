@@ -1,4 +1,4 @@
--- What the fields of a message without a fault say, type by type.
+-- The contents of a message without a fault, type by type.
 use Rattle.std.specs.Prelude.{◌≡◌, ◌≢◌, ℕ, Bool, true, false, List, [], ◌∷◌, Option, None, Some, codes, IsTrue, ⊤}
 use Rattle.gu_fix.specs.TagValue.{TagValue}
 use Rattle.gu_fix.specs.declared.tag.TheConstants.{MSG_TYPE}
@@ -29,7 +29,7 @@ use Rattle.gu_msgs.specs.declared.msg_type.MsgType.TheVariants as kind
 use Rattle.gu_msgs.specs.declared.type_code.TypeCode.{TypeCode}
 use Rattle.gu_msgs.specs.declared.tags.TheConstants.{ACCOUNT, ALLOC_ACCOUNT, ALLOC_ID, ALLOC_QTY, ALLOC_REPORT_ID, ALLOC_STATUS, BEGIN_SEQ_NO, END_SEQ_NO, EXEC_ID, GAP_FILL_FLAG, HEART_BT_INT, LAST_PX, LAST_QTY, NEW_SEQ_NO, NO_ALLOCS, NO_EXECS, NO_SIDES, POS_REQ_ID, QUANTITY, RESET_SEQ_NUM_FLAG, SIDE, SYMBOL, TEST_REQ_ID, TRADE_DATE, TRADE_REPORT_ID, TRD_MATCH_ID}
 
--- a flag: yes, or no where it says so or is absent
+-- a flag: true if its value is `Y`, false otherwise, also if it is absent
 abbrev pub IsFlag : ℕ → List TagValue → Bool → Type 0
 IsFlag tag fields true = first_value tag fields ≡ Some (codes "Y")
 IsFlag tag fields false = first_value tag fields ≢ Some (codes "Y")
@@ -39,7 +39,7 @@ abbrev pub side_number : Side → ℕ
 side_number Buy = 1
 side_number Sell = 2
 
--- no day is given, or this one
+-- no day is given, or this one is
 abbrev pub GivesDay : ℕ → List TagValue → Option Day → Type 0
 GivesDay tag fields None = first_value tag fields ≡ None
 GivesDay tag fields (Some day) = Holds tag (λ text. WritesDay text day.year day.month day.day) fields
@@ -59,7 +59,7 @@ pub record IsLogon (fields : List TagValue) (m : Logon) : Type 0 where
   pub interval : m.heart_bt_int ≡ number_at HEART_BT_INT fields
   pub resets : IsFlag RESET_SEQ_NUM_FLAG fields m.resets_seq_num
 
--- the one side of a report: its entry
+-- the entry for a report's one side
 pub record IsSide (entry : List TagValue) (m : TradeCaptureReport) : Type 0 where
   pub side : number_at SIDE entry ≡ side_number m.side
   pub account : first_value ACCOUNT entry ≡ Some m.account.name
@@ -76,19 +76,19 @@ pub record IsReport (fields : List TagValue) (m : TradeCaptureReport) : Type 0 w
   pub one_side : entries_of kind.TradeCaptureReport NO_SIDES fields ≡ entry ∷ []
   pub is_side : IsSide entry m
 
--- an entry says this line of a give-up
+-- an entry is this line of a give-up
 pub record IsAlloc (entry : List TagValue) (line : Line) : Type 0 where
   pub account : first_value ALLOC_ACCOUNT entry ≡ Some line.account.name
   pub lots : Holds ALLOC_QTY (λ text. MeansLots text line.lots) entry
 
--- entries say these lines, each one
+-- entries are these lines, each one
 abbrev pub AreAllocs : List (List TagValue) → List Line → Type 0
 AreAllocs [] [] = ⊤
 AreAllocs (entry ∷ entries) (line ∷ lines) = IsAlloc entry line × AreAllocs entries lines
 AreAllocs [] (line ∷ lines) = ⊥
 AreAllocs (entry ∷ entries) [] = ⊥
 
--- an AllocationInstruction but for its quantity
+-- an AllocationInstruction apart from its quantity
 pub record HasAllocs (fields : List TagValue) (m : AllocationInstruction) : Type 0 where
   pub alloc_id : first_value ALLOC_ID fields ≡ Some m.alloc_id
   pub entry : List TagValue
@@ -96,7 +96,7 @@ pub record HasAllocs (fields : List TagValue) (m : AllocationInstruction) : Type
   pub exec_id : first_value EXEC_ID entry ≡ Some m.exec_id
   pub allocs : AreAllocs (entries_of kind.AllocationInstruction NO_ALLOCS fields) m.lines
 
--- an AllocationInstruction: its quantity is the lots of all its lines
+-- an AllocationInstruction: its quantity is the total lots of its lines
 pub record IsInstruction (fields : List TagValue) (m : AllocationInstruction) : Type 0 where
   pub parts : HasAllocs fields m
   pub quantity : Holds QUANTITY (λ text. MeansLots text (lots_in_all m.lines)) fields
@@ -116,13 +116,13 @@ pub record IsOfType (msg_type : MsgType) (fields : List TagValue) : Type 0 where
   pub code : first_value MSG_TYPE fields ≡ Some (code_of msg_type)
   pub faultless : IsFaultless msg_type fields
 
--- a type that isn't read, whose code has the form of one
+-- a message of a type that isn't read, whose code has the form of one
 pub record IsUnread (fields : List TagValue) (code : TypeCode) : Type 0 where
   pub stands : first_value MSG_TYPE fields ≡ Some code
   pub sound : IsTrue (is_type_text code)
   pub other : (msg_type : MsgType) → code ≢ code_of msg_type
 
--- what a message's fields say
+-- a message's fields have these contents
 abbrev pub Says : List TagValue → Inbound → Type 0
 Says fields inbound.Heartbeat = IsOfType kind.Heartbeat fields
 Says fields (inbound.TestRequest m) = IsOfType kind.TestRequest fields × (first_value TEST_REQ_ID fields ≡ Some m.test_req_id)

@@ -5,13 +5,13 @@ use Rattle.gu_terms.specs.Days.{IsDay}
 use Rattle.gu_terms.specs.WrittenNumbers.{date_text, two_digits}
 use Rattle.gu_fix.specs.WholeMessage.{three_digits}
 
--- the time of a day in milliseconds: hours, minutes, seconds and thousandths
+-- a time of day in milliseconds: hours, minutes, seconds and thousandths
 unfoldable pub time_text : ℕ → List ℕ
 time_text n =
     two_digits (n / 3600000) ++ codes ":" ++ two_digits (n / 60000 % 60) ++ codes ":" ++ two_digits (n / 1000 % 60)
     ++ codes "." ++ three_digits (n % 1000)
 
--- the date that comes so many days after 1970-01-01
+-- the text is the date this many days after 1970-01-01
 pub record WritesDateAfter (days : ℕ) (text : List ℕ) : Type 0 where
   pub year : ℕ
   pub month : ℕ
@@ -20,7 +20,7 @@ pub record WritesDateAfter (days : ℕ) (text : List ℕ) : Type 0 where
   pub dated : days_from_civil (pos year) month day ≡ pos days
   pub spelled : text ≡ date_text year month day
 
--- a moment (UTC): the date of its day, and the time of that day
+-- the text is a moment (UTC): the date of its day, and the time on that day
 pub record WritesMoment (moment : ℕ) (text : List ℕ) : Type 0 where
   pub date : List ℕ
   pub writes_date : WritesDateAfter (moment / 86400000) date

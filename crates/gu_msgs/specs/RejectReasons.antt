@@ -17,7 +17,7 @@ number_of InvalidMsgType = 11
 number_of TagAppearsMoreThanOnce = 13
 number_of IncorrectNumInGroupCount = 16
 
--- a malformed field's reason among them
+-- the reason for a malformed field, among these
 abbrev pub reason_of_field : FieldReason → SessionRejectReason
 reason_of_field field.InvalidTagNumber = InvalidTagNumber
 reason_of_field field.TagSpecifiedWithoutAValue = TagSpecifiedWithoutAValue

@@ -1,4 +1,4 @@
--- Why what a firm asked for isn't in the book, as messages say it (TradeReportRejectReason, tag 751, and Text, tag 58).
+-- Why a firm's request isn't in the book, as messages say it (TradeReportRejectReason, tag 751, and Text, tag 58).
 use Rattle.std.specs.Prelude.{ℕ, List, codes}
 use Rattle.gu_terms.specs.Refusals.{text_of}
 use Rattle.gu_terms.specs.declared.refusal.Refusal.TheVariants.{UnknownInstrument, UnknownAccount, NotYours}
@@ -20,7 +20,7 @@ reason_number reason.InvalidPartyInformation = 1
 reason_number reason.UnknownInstrument = 2
 reason_number reason.Other = 99
 
--- the text of a rejection: the refusal's, or why nothing was entered
+-- the text of a rejection: the refusal's, or the reason that nothing was entered
 abbrev pub rejection_text : Rejection → List ℕ
 rejection_text (Refused refusal) = text_of refusal
 rejection_text Memory = codes "Memory"

@@ -1,4 +1,4 @@
--- Who sent a message that no session carries: SenderCompID, tag 49, and MsgSeqNum, tag 34 (FIXT 1.1, Standard Header).
+-- The sender of a message outside a session: SenderCompID, tag 49, and MsgSeqNum, tag 34 (FIXT 1.1, Standard Header).
 use Rattle.std.specs.Prelude.{◌≡◌, List, Some, MatchOption}
 use Rattle.gu_terms.specs.Names.{IsName}
 use Rattle.gu_terms.specs.declared.firm.FirmId.{FirmId}
@@ -8,7 +8,7 @@ use Rattle.gu_msgs.specs.Tables.{greatest}
 use Rattle.gu_msgs.specs.Values.{only_value}
 use Rattle.gu_msgs.specs.declared.tags.TheConstants.{MSG_SEQ_NUM, SENDER_COMP_ID}
 
--- the message has a number, one that a message of a session can have
+-- the message's number is one that a message of a session can have
 abbrev pub IsNumbered : List TagValue → Type 0
 IsNumbered fields = MatchOption (only_value MSG_SEQ_NUM fields) ⊥ (IsNumberWithin 1 greatest)
 

@@ -1,4 +1,4 @@
--- The shape of a message: tags that are there twice, tags that are missing, and groups that differ from their counters.
+-- The shape of a message: repeated tags, missing tags, and groups that differ from their counters.
 use Rattle.std.specs.Prelude.{ℕ, Bool, not, ◌&&◌, ◌==◌, List, [], ◌∷◌, ◌++◌, length, Option, None, Some, if◌then◌else◌, ◌≡◌, ◌<◌, true, take, slice_get, MatchOption}
 use Rattle.std.specs.Option.{option_map, option_or}
 use Rattle.std.specs.Str.Parse.{digits_value}
@@ -17,7 +17,7 @@ use Rattle.gu_msgs.specs.declared.row.Row.{Row}
 abbrev pub fault_at : SessionRejectReason → ℕ → Fault
 fault_at reason tag = record { tag = tag; reason = reason }
 
--- a field with a tag of these rows, which a field before it has too
+-- a field repeats a tag of these rows: a field before it has it too
 abbrev pub is_second : List Row → List TagValue → TagValue → Bool
 is_second rows before field = is_listed rows field.tag && stands field.tag before
 
@@ -27,15 +27,15 @@ repeated_after rows before [] = None
 repeated_after rows before (field ∷ fields) =
     if is_second rows before field then Some field.tag else repeated_after rows (before ++ field ∷ []) fields
 
--- the leftmost field that repeats a tag of these rows
+-- the tag of the leftmost field that repeats a tag of these rows
 abbrev pub repeated : List Row → List TagValue → Option ℕ
 repeated rows fields = repeated_after rows [] fields
 
--- the field at this place has a tag of these rows, which a field before it has too
+-- the field at this index repeats a tag of these rows
 abbrev pub StandsAgain : List Row → List TagValue → ℕ → Type 0
 StandsAgain rows fields place = MatchOption (slice_get fields place) ⊥ (λ field. is_second rows (take place fields) field ≡ true)
 
--- this tag is repeated at a place, and at no place to the left of it is any
+-- this tag is repeated at an index, and no tag of these rows is at an earlier one
 pub record StandsAgainFirst (rows : List Row) (fields : List TagValue) (tag : ℕ) : Type 0 where
   pub place : ℕ
   pub value : List ℕ
@@ -43,29 +43,29 @@ pub record StandsAgainFirst (rows : List Row) (fields : List TagValue) (tag : �
   pub again : StandsAgain rows fields place
   pub first : (earlier : ℕ) → earlier < place → ¬ StandsAgain rows fields earlier
 
--- the first tag of these rows that is required and isn't there
+-- the first required tag of these rows that is missing
 abbrev pub missing : List Row → List TagValue → Option ℕ
 missing [] fields = None
 missing (row ∷ rows) fields = if is_required row && not (stands (tag_of row) fields) then Some (tag_of row) else missing rows fields
 
--- the first fault of these rows: a tag that is there twice comes before one that is missing
+-- the first fault of these rows: a repeated tag comes before a missing one
 abbrev pub tags_fault : List Row → List TagValue → Option Fault
 tags_fault rows fields =
     option_or (option_map (fault_at TagAppearsMoreThanOnce) (repeated rows fields))
     (option_map (fault_at RequiredTagMissing) (missing rows fields))
 
--- a counter's fault: its text is no number, or not that of the entries
+-- a counter's fault: its text isn't a number, or isn't the number of entries
 abbrev pub count_fault : ℕ → List ℕ → ℕ → Option Fault
 count_fault counter text entries =
     if not (is_numeral text) then Some (fault_at IncorrectDataFormat counter)
     else (if digits_value 10 text == entries then None else Some (fault_at IncorrectNumInGroupCount counter))
 
--- the first fault of entries, each in full before the next one
+-- the first fault of entries, each tested in full before the next
 abbrev pub entries_fault : List Row → List (List TagValue) → Option Fault
 entries_fault rows [] = None
 entries_fault rows (entry ∷ entries) = option_or (tags_fault rows entry) (entries_fault rows entries)
 
--- the first fault of a group with such entries: the counter's comes before theirs; a tag without rows counts nothing
+-- the first fault of a group with these entries: the counter's comes before theirs; a tag without rows counts nothing
 abbrev pub counted_fault : List Row → ℕ → Option (List ℕ) → List (List TagValue) → Option Fault
 counted_fault [] counter text entries = None
 counted_fault (row ∷ rows) counter None entries = None
@@ -81,6 +81,6 @@ abbrev pub groups_fault : MsgType → List TagValue → List Row → Option Faul
 groups_fault kind fields [] = None
 groups_fault kind fields (row ∷ rows) = option_or (group_fault kind fields (tag_of row)) (groups_fault kind fields rows)
 
--- the first fault of a message's shape: its outer tags, and then its groups
+-- the first fault of a message's shape: its outer tags, then its groups
 abbrev pub shape_fault : MsgType → List TagValue → Option Fault
 shape_fault kind fields = option_or (tags_fault (outer_rows kind) fields) (groups_fault kind fields (body_rows kind))

@@ -8,11 +8,11 @@ use Rattle.gu_msgs.specs.declared.row.Row.{Row}
 use Rattle.gu_msgs.specs.declared.row.Row.TheVariants.{Required, Optional}
 use Rattle.gu_msgs.specs.declared.tags.TheConstants.{ACCOUNT, BEGIN_SEQ_NO, END_SEQ_NO, EXEC_ID, LAST_PX, LAST_QTY, MSG_SEQ_NUM, NEW_SEQ_NO, POSS_DUP_FLAG, SENDER_COMP_ID, SENDING_TIME, QUANTITY, SIDE, SYMBOL, TARGET_COMP_ID, ALLOC_ID, ALLOC_TRANS_TYPE, TRADE_DATE, NO_ALLOCS, ALLOC_ACCOUNT, ALLOC_QTY, ALLOC_STATUS, ENCRYPT_METHOD, HEART_BT_INT, TEST_REQ_ID, ORIG_SENDING_TIME, GAP_FILL_FLAG, NO_EXECS, RESET_SEQ_NUM_FLAG, TRADE_REPORT_TRANS_TYPE, NO_SIDES, TRADE_REPORT_ID, POS_REQ_ID, POS_REQ_TYPE, ALLOC_REPORT_ID, TRADE_REPORT_TYPE, TRD_MATCH_ID, DEFAULT_APPL_VER_ID}
 
--- the greatest whole number of a message
+-- the greatest whole number in a message
 abbrev pub greatest : ℕ
 greatest = 1000000000
 
--- the header and CheckSum, of every type; of PossDupFlag and of numbers alone the text matters
+-- the header and CheckSum, common to all types; only PossDupFlag and the number have a restricted text
 unfoldable pub header_rows : List Row
 header_rows =
     Required BEGIN_STRING Text ∷ Required BODY_LENGTH Text ∷ Required MSG_TYPE Text
@@ -41,11 +41,11 @@ body_rows AllocationInstruction =
 body_rows AllocationReportAck = Required ALLOC_REPORT_ID (Number 1 16000000) ∷ Required ALLOC_STATUS Status ∷ []
 body_rows RequestForPositions = Required POS_REQ_ID Id ∷ Required POS_REQ_TYPE (Number 0 0) ∷ Required ACCOUNT Name ∷ []
 
--- all tags that are read at the outer level of a message of this type
+-- all tags read at the outer level of a message of this type
 abbrev pub outer_rows : MsgType → List Row
 outer_rows kind = header_rows ++ body_rows kind
 
--- the tags of an entry of the group with this counter; the first of them begins an entry; other tags count nothing
+-- the tags of an entry in the group with this counter, the first of which begins an entry; other tags count nothing
 unfoldable pub entry_rows : ℕ → List Row
 entry_rows counter =
     if counter == NO_SIDES then Required SIDE (Number 1 2) ∷ Required ACCOUNT Name ∷ []

@@ -14,7 +14,7 @@ use Rattle.gu_msgs.specs.declared.outbound.OutboundRef.{OutboundRef}
 use Rattle.gu_msgs.specs.declared.tags.TheConstants.{BEGIN_SEQ_NO, END_SEQ_NO, GAP_FILL_FLAG, MSG_SEQ_NUM, NEW_SEQ_NO, ORIG_SENDING_TIME, POSS_DUP_FLAG, SENDER_COMP_ID, SENDING_TIME, TARGET_COMP_ID, TEST_REQ_ID, TEXT}
 use Rattle.gu_msgs.specs.WrittenBodies.{number_field, optional_field, logon_fields, reject_fields, business_fields, report_ack_fields, instruction_ack_fields, report_fields, allocation_fields, request_ack_fields, position_fields}
 
--- the message, where what it says lies elsewhere
+-- the message, with its body borrowed
 abbrev pub outbound_of : OutboundRef → Outbound
 outbound_of m = record {
   firm = m.firm;
@@ -45,7 +45,7 @@ body_code (body.SequenceReset to) = codes "4"
 body_code (body.Logout reason) = codes "5"
 body_code (body.Application m) = application_code m
 
--- what an application message says after its header
+-- the fields of an application message after its header
 abbrev pub application_fields : Application → List TagValue
 application_fields (application.BusinessMessageReject m) = business_fields m
 application_fields (application.TradeCaptureReportAck m) = report_ack_fields m
@@ -55,7 +55,7 @@ application_fields (application.AllocationReport m) = allocation_fields m
 application_fields (application.RequestForPositionsAck m) = request_ack_fields m
 application_fields (application.PositionReport m) = position_fields m
 
--- what a message says after its header
+-- the fields of a message after its header
 abbrev pub body_fields : Body → List TagValue
 body_fields (body.Logon interval resets) = logon_fields interval resets
 body_fields (body.Heartbeat id) = optional_field TEST_REQ_ID id
@@ -66,20 +66,20 @@ body_fields (body.SequenceReset to) = tag_value GAP_FILL_FLAG (codes "Y") ∷ nu
 body_fields (body.Logout reason) = optional_field TEXT (option_map_or (λ r. Some (logout_text r)) reason None)
 body_fields (body.Application m) = application_fields m
 
--- the marks of a message that is sent again: that it is, and when it was sent first
+-- the marks of a message that is sent again: PossDupFlag, and the time when it was first sent
 abbrev pub MarksResend : Option ℕ → List TagValue → Type 0
 MarksResend None marks = marks ≡ []
 MarksResend (Some first) marks =
     (text : List ℕ) × WritesMoment first text
     × (marks ≡ tag_value POSS_DUP_FLAG (codes "Y") ∷ tag_value ORIG_SENDING_TIME text ∷ [])
 
--- the header of a message that is sent at a moment with this text
+-- the header of a message sent at a moment with this text
 abbrev pub header_fields : Outbound → List ℕ → List TagValue
 header_fields m time =
     tag_value MSG_TYPE (body_code m.body) ∷ tag_value SENDER_COMP_ID (codes "GIVEUP") ∷ tag_value TARGET_COMP_ID m.firm.name
     ∷ number_field MSG_SEQ_NUM m.msg_seq_num ∷ tag_value SENDING_TIME time ∷ []
 
--- the fields of a message: its header, the marks of a resend, and what it says
+-- the fields of a message: its header, the marks of a resend, and its body
 pub record IsWritten (m : Outbound) (fields : List TagValue) : Type 0 where
   pub time : List ℕ
   pub writes_time : WritesMoment m.sending_time time

@@ -1,4 +1,4 @@
--- What messages that are written say after their headers, in order.
+-- The bodies of messages that are written, in order.
 use Rattle.std.specs.Prelude.{◌==◌, ◌++◌, ℕ, Bool, List, [], ◌∷◌, Option, None, Some, codes, if◌then◌else◌}
 use Rattle.std.specs.Fmt.{decimal}
 use Rattle.gu_fix.specs.TagValue.{TagValue, tag_value}
@@ -25,22 +25,22 @@ use Rattle.gu_msgs.specs.declared.outbound.TradeCaptureReportAck.{TradeCaptureRe
 use Rattle.gu_msgs.specs.declared.rejection.Rejection.{Rejection}
 use Rattle.gu_msgs.specs.declared.tags.TheConstants.{ACCOUNT, ALLOC_ACCOUNT, ALLOC_ID, ALLOC_QTY, ALLOC_REJ_CODE, ALLOC_REPORT_ID, ALLOC_REPORT_TYPE, ALLOC_STATUS, ALLOC_TRANS_TYPE, AVG_PX, BUSINESS_REJECT_REASON, BUSINESS_REJECT_REF_ID, CLEARING_BUSINESS_DATE, DEFAULT_APPL_VER_ID, ENCRYPT_METHOD, HEART_BT_INT, LAST_PX, LAST_QTY, LONG_QTY, MATCH_STATUS, NO_ALLOCS, NO_POSITIONS, NO_SIDES, POS_MAINT_RPT_ID, POS_REQ_ID, POS_REQ_RESULT, POS_REQ_STATUS, POS_TYPE, QUANTITY, REF_MSG_TYPE, REF_SEQ_NUM, REF_TAG_ID, RESET_SEQ_NUM_FLAG, SESSION_REJECT_REASON, SHORT_QTY, SIDE, SYMBOL, TEXT, TOTAL_NUM_POS_REPORTS, TRADE_DATE, TRADE_REPORT_ID, TRADE_REPORT_REF_ID, TRADE_REPORT_REJECT_REASON, TRD_MATCH_ID, TRD_RPT_STATUS}
 
--- a field with a number, without leading zeros
+-- a field with a number, written without leading zeros
 abbrev pub number_field : ℕ → ℕ → TagValue
 number_field tag n = tag_value tag (decimal n)
 
--- a field only where there is a value
+-- a field if there is a value, else none
 abbrev pub optional_field : ℕ → Option (List ℕ) → List TagValue
 optional_field tag None = []
 optional_field tag (Some value) = tag_value tag value ∷ []
 
--- a Logon: the interval that was asked for, and ResetSeqNumFlag only where it was set
+-- a Logon: the heartbeat interval, and ResetSeqNumFlag if it is set
 abbrev pub logon_fields : ℕ → Bool → List TagValue
 logon_fields interval resets =
     number_field ENCRYPT_METHOD 0 ∷ number_field HEART_BT_INT interval ∷ number_field DEFAULT_APPL_VER_ID 9
     ∷ (if resets then tag_value RESET_SEQ_NUM_FLAG (codes "Y") ∷ [] else [])
 
--- a Reject: the tag at fault only where one can be read, and the message's type only where it has the form of one
+-- a Reject: the tag at fault if one can be read, and the message's type if it has the form of one
 abbrev pub reject_fields : Reject → List TagValue
 reject_fields m =
     number_field REF_SEQ_NUM m.ref_seq_num
@@ -48,8 +48,8 @@ reject_fields m =
     ++ optional_field REF_MSG_TYPE m.ref_msg_type
     ++ number_field SESSION_REJECT_REASON (number_of m.reason) ∷ [])
 
--- why a message isn't answered by its own kind: an AllocationReportAck with its offer and the text of its rejection, any other
--- message with its type
+-- the reason for a BusinessMessageReject: for an AllocationReportAck its offer and the text of its rejection, for any other message its
+-- type
 abbrev pub reason_fields : BusinessRejectReason → List TagValue
 reason_fields (Other offer rejection) =
     number_field BUSINESS_REJECT_REF_ID offer ∷ tag_value REF_MSG_TYPE (code_of AllocationReportAck)
@@ -61,7 +61,7 @@ reason_fields (UnsupportedMessageType code) =
 abbrev pub business_fields : BusinessMessageReject → List TagValue
 business_fields m = number_field REF_SEQ_NUM m.ref_seq_num ∷ reason_fields m.reason
 
--- whether a report was taken: 0, or 1 with the kind of the rejection and its text
+-- whether a report was accepted: 0; or 1 with the kind of the rejection and its text
 abbrev pub report_status : Option Rejection → List TagValue
 report_status None = number_field TRD_RPT_STATUS 0 ∷ []
 report_status (Some rejection) =
@@ -72,7 +72,7 @@ report_status (Some rejection) =
 abbrev pub report_ack_fields : TradeCaptureReportAck → List TagValue
 report_ack_fields m = tag_value TRADE_REPORT_ID m.trade_report_id ∷ tag_value TRD_MATCH_ID m.trd_match_id ∷ report_status m.rejection
 
--- whether a give-up was taken: 0, or 1 with the one code for a rejection and its text
+-- whether a give-up was accepted: Accepted; or BlockLevelReject with the only code for a rejection and its text
 abbrev pub give_up_status : Option Rejection → List TagValue
 give_up_status None = number_field ALLOC_STATUS (status_number Accepted) ∷ []
 give_up_status (Some rejection) =
@@ -83,7 +83,7 @@ give_up_status (Some rejection) =
 abbrev pub instruction_ack_fields : AllocationInstructionAck → List TagValue
 instruction_ack_fields m = tag_value ALLOC_ID m.alloc_id ∷ give_up_status m.rejection
 
--- the trade of a side: its id, the instrument, the lots, the price and the day
+-- the trade of a side: its match status and match id, the instrument, the lots, the price and the day
 abbrev pub trade_fields : TradeCaptureReport → List TagValue
 trade_fields m =
     number_field MATCH_STATUS 0 ∷ tag_value TRD_MATCH_ID m.trd_match_id
@@ -97,14 +97,14 @@ report_fields m =
     ∷ tag_value TRADE_REPORT_REF_ID m.trade_report_ref_id
     ∷ (trade_fields m ++ number_field NO_SIDES 1 ∷ number_field SIDE (side_number m.side) ∷ tag_value ACCOUNT m.account.name ∷ [])
 
--- which offer a report is of, and what happens to it
+-- the offer that a report is for, and the event
 abbrev pub offer_fields : AllocationReport → List TagValue
 offer_fields m =
     number_field ALLOC_REPORT_ID m.alloc_report_id ∷ number_field ALLOC_TRANS_TYPE 0
     ∷ number_field ALLOC_REPORT_TYPE (report_type_number (report_type_of m.event))
     ∷ number_field ALLOC_STATUS (status_number (status_of m.event)) ∷ []
 
--- the trade that the offer is of
+-- the trade that the offer gives up
 abbrev pub offered_fields : AllocationReport → List TagValue
 offered_fields m =
     tag_value SYMBOL m.symbol.name ∷ number_field SIDE (side_number m.side) ∷ number_field QUANTITY m.quantity
@@ -117,11 +117,11 @@ allocation_fields m =
     offer_fields m ++ offered_fields m
     ++ number_field NO_ALLOCS 1 ∷ tag_value ALLOC_ACCOUNT m.account.name ∷ number_field ALLOC_QTY m.quantity ∷ []
 
--- the id of an answer to a question: the question's, and the answer's place, 0 for the first
+-- the id of an answer to a question: the question's id and the answer's place, 0 for the first
 abbrev pub answer_id : List ℕ → ℕ → List ℕ
 answer_id id place = id ++ 45 ∷ decimal place
 
--- the ids of an answer to a question: its own, and the question's
+-- the ids of an answer to a question: its own and the question's
 abbrev pub answer_ids : List ℕ → ℕ → List TagValue
 answer_ids id place = tag_value POS_MAINT_RPT_ID (answer_id id place) ∷ tag_value POS_REQ_ID id ∷ []
 

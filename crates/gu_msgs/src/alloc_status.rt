@@ -1,4 +1,4 @@
-//! What became of an allocation.
+//! The status of an allocation.
 
 ghost use Rattle.std.specs.Prelude.{◌≡◌, ◌≢◌, MatchOption};
 ghost use Rattle.gu_msgs.specs.AllocStatuses.{status_number, status_of};
@@ -6,21 +6,21 @@ ghost use Rattle.gu_msgs.specs.declared.alloc_status.AllocStatus.{AllocStatus as
 
 use gu_terms::{AllocReject, OfferEvent};
 
-/// What became of an allocation (FIX: AllocStatus, tag 87).
+/// The status of an allocation (FIX: AllocStatus, tag 87).
 #[derive(Clone, Copy, Debug)]
 pub enum AllocStatus {
-    /// It is taken: the carrying firm claims it.
+    /// The carrying firm claims it.
     Accepted,
     /// It is refused: BlockLevelReject, AccountLevelReject or RejectedByIntermediary.
     Rejected(AllocReject),
     /// It waits for the carrying firm.
     AllocationPending,
-    /// What was taken on this day is taken back.
+    /// The lots claimed on this day are moved back.
     Reversed,
 }
 
 impl AllocStatus {
-    /// The status with this number.
+    /// Returns the status with this number.
     pub fn of_number(number: u64) -> Option<AllocStatus>
         ensures { MatchOption result ((status : StatusOf) → number ≢ status_number status)
             (λ status. number ≡ status_number status) }
@@ -36,7 +36,7 @@ impl AllocStatus {
         }
     }
 
-    /// The status of an offer after an event.
+    /// Returns the status of an offer after an event.
     pub fn of_event(event: OfferEvent) -> AllocStatus
         ensures { result ≡ status_of event }
     {
@@ -48,7 +48,7 @@ impl AllocStatus {
         }
     }
 
-    /// Its value on the wire.
+    /// Returns its value on the wire.
     pub fn number(self) -> u64
         ensures { result ≡ status_number self }
     {

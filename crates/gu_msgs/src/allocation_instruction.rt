@@ -22,7 +22,7 @@ use crate::tags::{ALLOC_ACCOUNT, ALLOC_QTY, EXEC_ID, NO_ALLOCS, NO_EXECS, QUANTI
 use gu_terms::{Id, Line, Lines, MOST_LINES};
 use std::alloc::Global;
 
-/// The places of the rows of its table.
+/// The indexes of the rows in its table.
 const ALLOC_ID_ROW: usize = 10;
 
 const ALLOC_TRANS_TYPE_ROW: usize = 11;
@@ -33,7 +33,7 @@ pub const NO_EXECS_ROW: usize = 13;
 
 pub const NO_ALLOCS_ROW: usize = 14;
 
-/// The id of a report that an entry says.
+/// Returns the id of the report in an entry.
 fn entry_exec(entry: &Run<'_>) -> Result<Id, Fault>
     requires { tags_fault (entry_rows NO_EXECS) entry.now ≡ None }
     ensures { ReadsEntry (entry_rows NO_EXECS) entry.now (λ id. first_value EXEC_ID entry.now ≡ Some id) result }
@@ -42,7 +42,7 @@ fn entry_exec(entry: &Run<'_>) -> Result<Id, Fault>
     Ok(id)
 }
 
-/// The id of the one report of a give-up.
+/// Returns the id of a give-up's one report.
 #[tactic(auto, unfolding(crate::specs::Tables::header_rows, crate::specs::Tables::body_rows, crate::specs::Tables::entry_rows))]
 fn exec_id(outline: &Outline<'_, '_>) -> Result<Id, Fault>
     requires kind { outline.now.kind ≡ kind.AllocationInstruction }
@@ -52,7 +52,7 @@ fn exec_id(outline: &Outline<'_, '_>) -> Result<Id, Fault>
     entry_exec(&outline.only_entry(NO_EXECS_ROW, EXEC_ID)?)
 }
 
-/// The line that an entry says.
+/// Returns the line in an entry.
 fn entry_line(entry: &Run<'_>) -> Result<Line, Fault>
     requires { tags_fault (entry_rows NO_ALLOCS) entry.now ≡ None }
     ensures { ReadsEntry (entry_rows NO_ALLOCS) entry.now (IsAlloc entry.now) result }
@@ -62,7 +62,7 @@ fn entry_line(entry: &Run<'_>) -> Result<Line, Fault>
     Ok(Line { account, lots })
 }
 
-/// The lines that the entries of a group say.
+/// Returns the lines in the entries of a group.
 fn lines_of(alloc: Global, group: &Run<'_>) -> Result<Vec<Line>, MsgFault>
     requires few { length (entries_by ALLOC_ACCOUNT group.now) ≤ 16 }
     requires tags { entries_fault (entry_rows NO_ALLOCS) (entries_by ALLOC_ACCOUNT group.now) ≡ None }
@@ -77,7 +77,7 @@ fn lines_of(alloc: Global, group: &Run<'_>) -> Result<Vec<Line>, MsgFault>
     Ok(lines)
 }
 
-/// The lines of a give-up.
+/// Returns the lines of a give-up.
 #[tactic(auto, unfolding(crate::specs::Tables::header_rows, crate::specs::Tables::body_rows, crate::specs::Tables::entry_rows))]
 fn lines(alloc: Global, outline: &Outline<'_, '_>) -> Result<Lines, MsgFault>
     requires kind { outline.now.kind ≡ kind.AllocationInstruction }
@@ -89,7 +89,7 @@ fn lines(alloc: Global, outline: &Outline<'_, '_>) -> Result<Lines, MsgFault>
     Ok(Lines::known(list))
 }
 
-/// What a give-up says.
+/// Returns the give-up in a message.
 #[tactic(auto, unfolding(crate::specs::Tables::header_rows, crate::specs::Tables::body_rows, crate::specs::Tables::entry_rows))]
 pub fn read_allocation_instruction(
     alloc: Global,

@@ -1,4 +1,4 @@
-//! What the carrying firm says to an offer (FIX: AllocationReportAck).
+//! Carrying firms' responses to offers (FIX: AllocationReportAck).
 
 ghost use Rattle.std.specs.Prelude.{MatchResult};
 ghost use Rattle.gu_msgs.specs.Messages.{Says};
@@ -9,12 +9,12 @@ use crate::fault::MsgFault;
 use crate::inbound::{AllocationReportAck, Inbound};
 use crate::outline::Outline;
 
-/// The places of the rows of its table.
+/// The indexes of the rows in its table.
 const ALLOC_REPORT_ID_ROW: usize = 10;
 
 const ALLOC_STATUS_ROW: usize = 11;
 
-/// What is said, and to which offer.
+/// Returns the response, and the offer that it is for.
 #[tactic(auto, using(crate::proofs::OutlineLemmas::of_type), unfolding(crate::specs::Tables::header_rows, crate::specs::Tables::body_rows, crate::specs::Tables::entry_rows))]
 pub fn read_allocation_report_ack(outline: &Outline<'_, '_>) -> Result<Inbound, MsgFault>
     requires shaped { IsShaped kind.AllocationReportAck outline.now }

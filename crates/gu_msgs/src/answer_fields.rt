@@ -1,4 +1,4 @@
-//! What answers to a firm say, as fields.
+//! The fields of answers to a firm.
 
 ghost use Rattle.std.specs.Prelude.{◌≡◌, ◌++◌, OnOk, IfOk, IsTrue};
 ghost use Rattle.std.specs.Fmt.{decimal};
@@ -21,13 +21,13 @@ use gu_terms::{AllocReject, Id};
 use itoa::Buffer;
 use std::alloc::{AllocError, Global};
 
-/// The one code of a rejected give-up (FIX: AllocRejCode, tag 88): the reason is in its text.
+/// The only code for a rejected give-up (FIX: AllocRejCode, tag 88): its text has the reason.
 const OTHER: u64 = 99;
 
-/// The bytes that a number of 64 bits has at most, and `-`.
+/// The most bytes in a 64-bit number and `-`.
 const LONGEST_PLACE: usize = 21;
 
-/// Appends whether a report was taken, and if not why.
+/// Appends whether a report was accepted, and if not, why.
 fn push_report_status(draft: &mut Draft, rejection: &Option<Rejection>) -> Result<(), AllocError>
     ensures { OnOk result (draft.new ≡ draft.old ++ report_status rejection.now) }
 {
@@ -39,7 +39,7 @@ fn push_report_status(draft: &mut Draft, rejection: &Option<Rejection>) -> Resul
     draft.push_rejection(rejection)
 }
 
-/// Appends what a TradeCaptureReportAck says.
+/// Appends the body of a TradeCaptureReportAck.
 pub fn push_report_ack(draft: &mut Draft, message: &TradeCaptureReportAck) -> Result<(), AllocError>
     ensures { OnOk result (draft.new ≡ draft.old ++ report_ack_fields message.now) }
 {
@@ -48,7 +48,7 @@ pub fn push_report_ack(draft: &mut Draft, message: &TradeCaptureReportAck) -> Re
     push_report_status(draft, &message.rejection)
 }
 
-/// Appends whether a give-up was taken, and if not why.
+/// Appends whether a give-up was accepted, and if not, why.
 fn push_give_up_status(draft: &mut Draft, rejection: &Option<Rejection>) -> Result<(), AllocError>
     ensures { OnOk result (draft.new ≡ draft.old ++ give_up_status rejection.now) }
 {
@@ -61,7 +61,7 @@ fn push_give_up_status(draft: &mut Draft, rejection: &Option<Rejection>) -> Resu
     draft.push_rejection(rejection)
 }
 
-/// Appends what an AllocationInstructionAck says.
+/// Appends the body of an AllocationInstructionAck.
 pub fn push_instruction_ack(
     draft: &mut Draft,
     message: &AllocationInstructionAck,
@@ -80,7 +80,7 @@ fn push_decimal(text: &mut Vec<u8>, number: u64) -> Result<(), AllocError>
     text.extend_from_slice(digits.format(number).as_bytes())
 }
 
-/// The id of an answer to a question: the question's, and the answer's place.
+/// Returns the id of an answer to a question: the question's id and the answer's place.
 fn answer_id(alloc: Global, id: Id, place: u64) -> Result<Vec<u8>, AllocError>
     ensures text { IfOk result (λ text. text.items ≡ answer_id id place) }
     ensures plain { IfOk result (λ text. IsTrue (is_plain text.items)) }
@@ -93,7 +93,7 @@ fn answer_id(alloc: Global, id: Id, place: u64) -> Result<Vec<u8>, AllocError>
     Ok(text)
 }
 
-/// Appends the ids of an answer to a question: its own, and the question's.
+/// Appends the ids of an answer to a question: its own and the question's.
 fn push_answer_ids(draft: &mut Draft, id: Id, place: u64) -> Result<(), AllocError>
     ensures { OnOk result (draft.new ≡ draft.old ++ answer_ids id place) }
 {
@@ -102,7 +102,7 @@ fn push_answer_ids(draft: &mut Draft, id: Id, place: u64) -> Result<(), AllocErr
     draft.push_id(POS_REQ_ID, id)
 }
 
-/// Appends what a RequestForPositionsAck says.
+/// Appends the body of a RequestForPositionsAck.
 pub fn push_request_ack(
     draft: &mut Draft,
     message: &RequestForPositionsAck,
@@ -126,7 +126,7 @@ fn push_quantities(draft: &mut Draft, message: &PositionReport) -> Result<(), Al
     draft.push_number(SHORT_QTY, message.short_qty)
 }
 
-/// Appends what a PositionReport says.
+/// Appends the body of a PositionReport.
 pub fn push_position(draft: &mut Draft, message: &PositionReport) -> Result<(), AllocError>
     ensures { OnOk result (draft.new ≡ draft.old ++ position_fields message.now) }
 {

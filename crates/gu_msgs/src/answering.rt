@@ -1,4 +1,4 @@
-//! What the house answers to a firm's message, and what it tells of its own accord.
+//! The house's answers to a firm's messages, and the messages that it sends unsolicited.
 
 ghost use Rattle.std.specs.Prelude.{◌≡◌, ◌∷◌, ◌++◌, [], IfOk, OnOk};
 ghost use Rattle.gu_msgs.specs.Answering.{answer_to, command_answer, give_up_ack, is_done, matched_body, notice_body, offer_answer, offer_body, position_report, positions_ack, positions_answer, rejection_of, report_ack, reports_from, reports_on};
@@ -18,7 +18,7 @@ use gu_terms::{
 use std::alloc::{AllocError, Global};
 
 impl Rejection {
-    /// Why a command is refused, by the reply to it.
+    /// Returns the reason that a command is refused, given the reply to it, if it is refused.
     pub fn of_reply(reply: Reply) -> Option<Rejection>
         ensures { result ≡ rejection_of reply }
     {
@@ -29,14 +29,14 @@ impl Rejection {
     }
 }
 
-/// The acknowledgement of a report that was taken, or was rejected so.
+/// Returns the acknowledgement of a report that was accepted, or was rejected for this reason.
 pub fn answer_to(report: &TradeCaptureReport, rejection: Option<Rejection>) -> Body
     ensures { result ≡ answer_to report.now rejection }
 {
     report_ack(report.trade_report_id, report.trd_match_id, rejection)
 }
 
-/// The acknowledgement of a report with these ids.
+/// Returns the acknowledgement of a report with these ids.
 fn report_ack(id: Id, match_id: Id, rejection: Option<Rejection>) -> Body
     ensures { result ≡ report_ack id match_id rejection }
 {
@@ -47,7 +47,7 @@ fn report_ack(id: Id, match_id: Id, rejection: Option<Rejection>) -> Body
     }))
 }
 
-/// The acknowledgement of a give-up with this id.
+/// Returns the acknowledgement of a give-up with this id.
 fn give_up_ack(id: Id, rejection: Option<Rejection>) -> Body
     ensures { result ≡ give_up_ack id rejection }
 {
@@ -57,7 +57,7 @@ fn give_up_ack(id: Id, rejection: Option<Rejection>) -> Body
     }))
 }
 
-/// The answer to a word on an offer, by the message with this number: only where it was rejected.
+/// Returns the answer to a carrying firm's response in the message with this number, if it was rejected.
 fn offer_answer(offer: OfferNo, number: u64, rejection: Option<Rejection>) -> Option<Body>
     ensures { result ≡ offer_answer offer number rejection }
 {
@@ -71,7 +71,7 @@ fn offer_answer(offer: OfferNo, number: u64, rejection: Option<Rejection>) -> Op
 }
 
 impl Question {
-    /// Whether an accepted command did what is asked for.
+    /// Returns whether an accepted command had the effect asked for.
     pub fn is_done(&self, done: Done) -> bool
         ensures { result ≡ is_done self.now done }
     {
@@ -85,8 +85,8 @@ impl Question {
         }
     }
 
-    /// The answer to the message with this number that asked for a command, where the command was done or rejected so. A
-    /// word on an offer that was done is answered by its notice alone, and a question for positions by no command.
+    /// Returns the answer to the message with this number, if one is due, given whether its command was rejected. An accepted response to
+    /// an offer is answered only by its notice, and a question for positions has no command.
     pub fn answer(&self, number: u64, rejection: Option<Rejection>) -> Option<Body>
         ensures { result ≡ command_answer self.now number rejection }
     {
@@ -101,7 +101,7 @@ impl Question {
     }
 }
 
-/// The acknowledgement of a question for positions.
+/// Returns the acknowledgement of a question for positions.
 fn positions_ack(question: &RequestForPositions, outcome: PosReqResult) -> Body
     ensures { result ≡ positions_ack question.now outcome }
 {
@@ -112,7 +112,7 @@ fn positions_ack(question: &RequestForPositions, outcome: PosReqResult) -> Body
     }))
 }
 
-/// The report of a position, at its place among those of the question.
+/// Returns the report of a position, at its place among those for the question.
 fn position_report(question: &RequestForPositions, day: Day, place: u64, row: &PositionRow) -> Body
     ensures { result ≡ position_report question.now day place row.now }
 {
@@ -144,7 +144,7 @@ fn push_reports(
     Ok(())
 }
 
-/// The answer where there are positions on this day: how many reports follow, and each report.
+/// Returns the answer if there are positions on this day: the number of reports, and the reports.
 fn reports(
     alloc: Global,
     question: &RequestForPositions,
@@ -160,7 +160,7 @@ fn reports(
     Ok(bodies)
 }
 
-/// The answer that is an acknowledgement alone.
+/// Returns an answer that consists of an acknowledgement alone.
 fn no_reports(
     alloc: Global,
     question: &RequestForPositions,
@@ -173,7 +173,7 @@ fn no_reports(
     Ok(bodies)
 }
 
-/// The answer to a question for positions: without rows the account isn't the firm's. Rows are told on an open day alone.
+/// Returns the answer to a question for positions. Without rows, the account isn't the firm's. Rows are reported only if a day is open.
 pub fn positions_answer(
     alloc: Global,
     question: &RequestForPositions,
@@ -190,7 +190,7 @@ pub fn positions_answer(
     }
 }
 
-/// The notice of a report that is a side of a trade since this entry.
+/// Returns the notice that a report became a side of a trade with this entry.
 fn matched_body(entry: u64, report: &Report) -> Body
     ensures { result ≡ matched_body entry report.now }
 {
@@ -207,7 +207,7 @@ fn matched_body(entry: u64, report: &Report) -> Body
     }))
 }
 
-/// The notice of an event of an offer.
+/// Returns the notice of an event of an offer.
 fn offer_body(notice: &OfferNotice) -> Body
     ensures { result ≡ offer_body notice.now }
 {
@@ -223,7 +223,7 @@ fn offer_body(notice: &OfferNotice) -> Body
     }))
 }
 
-/// The message that a notice is sent as.
+/// Returns the message for a notice.
 pub fn notice_body(notice: &Notice) -> Body
     ensures { result ≡ notice_body notice.now }
 {

@@ -1,4 +1,4 @@
-//! What a message of a firm asks of the house, and what the answer needs of it.
+//! Requests in a firm's messages, and what their answers need.
 
 ghost use Rattle.std.specs.Prelude.{◌≡◌};
 ghost use Rattle.gu_msgs.specs.Asking.{asked_on, question_of, report_in, request_of, side_of};
@@ -12,16 +12,16 @@ use gu_terms::{
     AllocReject, Claim, Command, FirmId, GiveUp, Id, OfferNo, Query, Refuse, ReportSide, Reverse,
 };
 
-/// What a firm asks for.
+/// A request of a firm.
 #[derive(Drop)]
 pub enum Request {
-    /// To enter a command.
+    /// A command to enter.
     Enter(Command),
-    /// To be told something.
+    /// A query.
     Ask(Query),
 }
 
-/// What the answer to a request needs of the message that asked for it.
+/// The parts of a request's message that the answer needs.
 #[derive(Clone, Copy, Debug)]
 pub enum Question {
     /// The ids of a report.
@@ -32,31 +32,31 @@ pub enum Question {
     Claim { offer: OfferNo },
     /// The offer that is refused.
     Refusal { offer: OfferNo },
-    /// The offer of which a claim is taken back.
+    /// The offer for which a claim is reversed.
     Reversal { offer: OfferNo },
     /// The question for positions.
     Positions(RequestForPositions),
 }
 
-/// What a message asks for, as it was read.
+/// A request as read from a message.
 #[derive(Drop)]
 pub enum Asking {
-    /// That a side of a trade be entered.
+    /// A side of a trade to enter.
     Report(Boxed<TradeCaptureReport>),
-    /// That a give-up be entered.
+    /// A give-up to enter.
     GiveUp(Boxed<AllocationInstruction>),
-    /// To claim an offer.
+    /// An offer to claim.
     Claim(OfferNo),
-    /// To refuse an offer.
+    /// An offer to refuse.
     Refusal(OfferNo, AllocReject),
-    /// To take the claim of an offer back.
+    /// An offer for which a claim is to be reversed.
     Reversal(OfferNo),
-    /// What an account holds.
+    /// A question for an account's positions.
     Positions(Boxed<RequestForPositions>),
 }
 
 impl TradeCaptureReport {
-    /// Returns the side that it asks for as a firm's report.
+    /// Returns the side of a trade as a report of this firm.
     pub fn side_of(&self, firm: FirmId) -> ReportSide
         ensures { result ≡ side_of firm self.now }
     {
@@ -75,7 +75,7 @@ impl TradeCaptureReport {
 }
 
 impl AllocationReportAck {
-    /// What it asks for as a carrying firm's word on an offer, if it asks for anything.
+    /// Returns the request in a carrying firm's response to an offer, if it has one.
     pub fn asked(&self) -> Option<Asking>
         ensures { result ≡ asked_on self.now.alloc_report_id self.now.alloc_status }
     {
@@ -90,7 +90,7 @@ impl AllocationReportAck {
 }
 
 impl Inbound {
-    /// The report that it is, if it is one.
+    /// Returns the report, if the message is one.
     pub fn into_report(self) -> Option<Boxed<TradeCaptureReport>>
         ensures { result ≡ report_in self }
     {
@@ -102,7 +102,7 @@ impl Inbound {
 }
 
 impl Asking {
-    /// What this firm asks for.
+    /// Returns the request as this firm's.
     pub fn into_request(self, firm: FirmId) -> Request
         ensures { result ≡ request_of firm self }
     {
@@ -133,7 +133,7 @@ impl Asking {
         }
     }
 
-    /// What the answer to it needs.
+    /// Returns what the answer to it needs.
     pub fn question(&self) -> Question
         ensures { result ≡ question_of self.now }
     {

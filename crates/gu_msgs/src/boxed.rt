@@ -1,4 +1,4 @@
-//! Large values in a box, so that what holds them is small.
+//! Large values in boxes, so that the types that contain them are small.
 
 ghost use Rattle.std.specs.Prelude.{◌≡◌, IfOk};
 
@@ -20,14 +20,14 @@ impl<T> Model for Boxed<T> {
 }
 
 impl<T> Boxed<T> {
-    /// The value.
+    /// Returns the value.
     pub fn get(&self) -> &T
         ensures { result.now ≡ self.now }
     {
         &self.inner
     }
 
-    /// The value, taken out.
+    /// Returns the value, taken out of the box.
     pub fn into_inner(self) -> T
         ensures { result ≡ self }
     {
@@ -36,7 +36,7 @@ impl<T> Boxed<T> {
 }
 
 impl<T: Drop> Boxed<T> {
-    /// The value, boxed.
+    /// Returns the value in a box.
     pub fn new(alloc: Global, value: T) -> Result<Self, AllocError>
         ensures { IfOk result (λ boxed. boxed ≡ value) }
     {

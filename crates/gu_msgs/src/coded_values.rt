@@ -1,4 +1,4 @@
-//! Values that messages write as numbers or words of the house.
+//! Values that messages write as numbers or as words of the house.
 
 ghost use Rattle.std.specs.Prelude.{◌≡◌, IsTrue};
 ghost use Rattle.gu_msgs.specs.CodedValues.{business_number, logout_text, report_type_number, report_type_of, request_result, request_status, reports_count, side_letter};
@@ -9,25 +9,25 @@ use crate::rejection::Rejection;
 use crate::type_code::TypeCode;
 use gu_terms::{OfferEvent, OfferNo, Side};
 
-/// Why the house ends a session.
+/// The reason that the house ends a session.
 #[derive(Clone, Copy, Debug)]
 pub enum LogoutReason {
-    /// The number of a message is missing, or none.
+    /// The number of a message is missing or invalid.
     BadSeqNum,
-    /// The number of a message was used already.
+    /// The number of a message was already used.
     SeqTooLow,
-    /// A message isn't from the firm, or not to the house.
+    /// The sender of a message isn't the firm, or its target isn't the house.
     CompId,
-    /// The firm is logged on already.
+    /// The firm is already logged on.
     LoggedOn,
-    /// Nothing was heard of the firm.
+    /// Nothing was received from the firm.
     Silent,
-    /// The house closes.
+    /// The house is closing.
     Closing,
 }
 
 impl LogoutReason {
-    /// Its text.
+    /// Returns its text.
     pub fn text(self) -> &'static str
         ensures text { result.now ≡ logout_text self }
         ensures plain { IsTrue (is_plain result.now) }
@@ -43,10 +43,10 @@ impl LogoutReason {
     }
 }
 
-/// Why a message isn't answered by its own kind (FIX: BusinessRejectReason, tag 380).
+/// The reason for a BusinessMessageReject (FIX: BusinessRejectReason, tag 380).
 #[derive(Clone, Copy, Debug)]
 pub enum BusinessRejectReason {
-    /// What a firm said of an offer (FIX: AllocationReportAck) isn't in the book.
+    /// A carrying firm's response to an offer (FIX: AllocationReportAck) isn't in the book.
     Other {
         offer: OfferNo,
         rejection: Rejection,
@@ -56,7 +56,7 @@ pub enum BusinessRejectReason {
 }
 
 impl BusinessRejectReason {
-    /// Its value on the wire.
+    /// Returns its value on the wire.
     pub fn number(&self) -> u64
         ensures { result ≡ business_number self.now }
     {
@@ -67,19 +67,19 @@ impl BusinessRejectReason {
     }
 }
 
-/// What an allocation report is for (FIX: AllocReportType, tag 794).
+/// The purpose of an allocation report (FIX: AllocReportType, tag 794).
 #[derive(Clone, Copy, Debug)]
 pub enum AllocReportType {
-    /// An offer goes out.
+    /// An offer is made.
     RequestToIntermediary,
-    /// Lots of an offer are taken, or taken back.
+    /// Lots of an offer are claimed or moved back.
     Accept,
-    /// An offer is closed.
+    /// An offer is refused.
     Reject,
 }
 
 impl AllocReportType {
-    /// What a report of an event of an offer is for.
+    /// Returns the purpose of a report of an event of an offer.
     pub fn of_event(event: OfferEvent) -> AllocReportType
         ensures { result ≡ report_type_of event }
     {
@@ -90,7 +90,7 @@ impl AllocReportType {
         }
     }
 
-    /// Its value on the wire.
+    /// Returns its value on the wire.
     pub fn number(self) -> u64
         ensures { result ≡ report_type_number self }
     {
@@ -102,17 +102,17 @@ impl AllocReportType {
     }
 }
 
-/// What becomes of a question for positions (FIX: PosReqResult, tag 728).
+/// The result of a question for positions (FIX: PosReqResult, tag 728).
 #[derive(Clone, Copy, Debug)]
 pub enum PosReqResult {
-    /// So many reports follow.
+    /// This many reports follow.
     ValidRequest(u64),
     NoPositionsFound,
     NotAuthorized,
 }
 
 impl PosReqResult {
-    /// Its value on the wire.
+    /// Returns its value on the wire.
     pub fn number(self) -> u64
         ensures { result ≡ request_result self }
     {
@@ -123,7 +123,7 @@ impl PosReqResult {
         }
     }
 
-    /// Whether the question is answered or refused (FIX: PosReqStatus, tag 729).
+    /// Returns whether the question is answered or refused (FIX: PosReqStatus, tag 729).
     pub fn status(self) -> u64
         ensures { result ≡ request_status self }
     {
@@ -133,7 +133,7 @@ impl PosReqResult {
         }
     }
 
-    /// How many reports follow (FIX: TotalNumPosReports, tag 727).
+    /// Returns the number of reports that follow (FIX: TotalNumPosReports, tag 727).
     pub fn reports(self) -> u64
         ensures { result ≡ reports_count self }
     {
@@ -144,7 +144,7 @@ impl PosReqResult {
     }
 }
 
-/// The number of a side (FIX: Side, tag 54).
+/// Returns the number of a side (FIX: Side, tag 54).
 pub fn side_number(side: Side) -> u64
     ensures { result ≡ side_number side }
 {
@@ -154,7 +154,7 @@ pub fn side_number(side: Side) -> u64
     }
 }
 
-/// The letter of a side.
+/// Returns the letter of a side.
 pub fn side_letter(side: Side) -> u8
     ensures { result ≡ side_letter side }
 {

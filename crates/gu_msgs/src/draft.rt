@@ -1,4 +1,4 @@
-//! A message that is being written.
+//! A message being written.
 
 ghost use Rattle.std.specs.Prelude.{◌≡◌, ◌∷◌, ◌++◌, [], List, ℕ, IfOk, IsTrue, OnOk};
 ghost use Rattle.std.specs.List.{flat_map};
@@ -19,11 +19,11 @@ use itoa::Buffer;
 use std::alloc::{AllocError, Global};
 use std::marker::Model;
 
-/// The bytes for which a draft has room from the start: more than any message has but for ids of TestRequests.
+/// The initial capacity of a draft, in bytes: more than any message needs, apart from ids of TestRequests.
 const ROOM: usize = 512;
 
-/// A message that is being written, in the room that earlier ones had: its fields so far, each with a value that can be encoded. To a
-/// contract they are the list of their tags and values.
+/// A message being written, in memory reused from earlier ones: its fields so far, whose values can all be encoded. To a contract they are
+/// the list of their tags and values.
 #[derive(Drop)]
 pub struct Draft {
     alloc: Global,
@@ -44,7 +44,7 @@ impl Model for Draft {
 }
 
 impl Draft {
-    /// No fields yet, and no room.
+    /// Returns an empty draft without capacity.
     pub fn new(alloc: Global) -> Draft
         ensures { result ≡ [] }
     {
@@ -54,7 +54,7 @@ impl Draft {
         }
     }
 
-    /// No fields yet, with room for those of a message.
+    /// Returns an empty draft with room for the fields of a message.
     pub fn with_room(alloc: Global) -> Result<Draft, AllocError>
         ensures { IfOk result (λ draft. draft ≡ []) }
     {
@@ -62,14 +62,14 @@ impl Draft {
         Ok(Draft { alloc, fields })
     }
 
-    /// Takes all fields away. Their room stays.
+    /// Removes all fields. Their room stays.
     pub fn clear(&mut self)
         ensures { self.new ≡ [] }
     {
         self.fields.clear();
     }
 
-    /// The allocator of its texts.
+    /// Returns the allocator of its texts.
     pub fn alloc(&self) -> Global {
         self.alloc
     }
@@ -100,7 +100,7 @@ impl Draft {
         self.push(tag, id.get())
     }
 
-    /// Appends a name of the house's.
+    /// Appends a name that the house gave.
     #[inline(always)]
     pub fn push_name(&mut self, tag: u32, name: &[u8]) -> Result<(), AllocError>
         requires { IsName name.now }
@@ -109,7 +109,7 @@ impl Draft {
         self.push(tag, name)
     }
 
-    /// Appends a value of these parts, one after another, that can be encoded.
+    /// Appends a value made of these parts joined, which can be encoded.
     #[inline(always)]
     pub fn push_joined(&mut self, tag: u32, parts: &[&[u8]]) -> Result<(), AllocError>
         requires { IsTrue (is_plain (flat_map (λ part. part.now) parts.now)) }
@@ -140,7 +140,7 @@ impl Draft {
         self.push(tag, &moment.text())
     }
 
-    /// Appends why a command isn't in the book.
+    /// Appends the reason that a command isn't in the book.
     pub fn push_rejection(&mut self, rejection: &Rejection) -> Result<(), AllocError>
         ensures { OnOk result (self.new ≡ self.old ++ tag_value TEXT (rejection_text rejection.now) ∷ []) }
     {
@@ -151,7 +151,7 @@ impl Draft {
         }
     }
 
-    /// The fields, as the text that `gu_fix::encode_onto` takes.
+    /// Returns the fields as the text that `gu_fix::encode_onto` takes.
     pub fn fields(&self) -> &BodyText
         ensures fields { result.now ≡ self.now }
         ensures plain { ArePlain self.now }
@@ -159,7 +159,7 @@ impl Draft {
         &self.fields
     }
 
-    /// The fields, to be looked at one by one.
+    /// Returns the fields as `Fields`.
     pub fn into_fields(self) -> Fields
         ensures { result ≡ self }
     {

@@ -1,17 +1,17 @@
-//! What is wrong with a message.
+//! Faults of a message.
 
 use crate::reject_reason::SessionRejectReason;
 use std::alloc::AllocError;
 use thiserror::Error;
 
-/// The tag at which a message is at fault, and why (FIX: RefTagID and SessionRejectReason).
+/// A fault of a message: its tag and its reason (FIX: RefTagID and SessionRejectReason).
 #[derive(Clone, Copy, Debug)]
 pub struct Fault {
     pub tag: u32,
     pub reason: SessionRejectReason,
 }
 
-/// Why fields are read as no message.
+/// The reason that fields aren't read as a message.
 #[derive(Clone, Copy, Debug, Error)]
 pub enum MsgFault {
     /// An allocation failed.

@@ -1,4 +1,4 @@
-//! Groups: a counter, and entries after it.
+//! Repeating groups: a counter followed by entries.
 
 ghost use Rattle.std.specs.Prelude.{◌≡◌, ◌∷◌, ◌==◌, ◌+◌, ◌<◌, ◌≤◌, ◌^◌, ℕ, [], length, Some, Ok, Err, IsTrue, MatchOption, MatchResult};
 ghost use Rattle.gu_msgs.specs.Groups.{entries_by, group_of, up_to};
@@ -15,7 +15,7 @@ use crate::reject_reason::SessionRejectReason;
 use crate::run::Run;
 use crate::standings::fields_after;
 
-/// Whether a tag is read at the outer level of a message of this type.
+/// Returns whether a tag is read at the outer level of a message of this type.
 #[inline(always)]
 pub fn is_outer(msg_type: MsgType, tag: u32) -> bool
     ensures { result ≡ is_listed (outer_rows msg_type) tag }
@@ -23,7 +23,7 @@ pub fn is_outer(msg_type: MsgType, tag: u32) -> bool
     outer_place(msg_type, tag).is_some()
 }
 
-/// How many fields there are from the first that is read at the outer level on.
+/// Returns the number of fields from the first one read at the outer level to the end.
 #[inline(always)]
 fn left_from_outer(fields: &Run<'_>, msg_type: MsgType) -> usize
     ensures { result + length (up_to (is_listed (outer_rows msg_type)) fields.now) ≡ length fields.now }
@@ -38,7 +38,7 @@ fn left_from_outer(fields: &Run<'_>, msg_type: MsgType) -> usize
     left
 }
 
-/// How many fields there are from the first with this tag on.
+/// Returns the number of fields from the first one with this tag to the end.
 fn left_from_tag(fields: &Run<'_>, tag: u32) -> usize
     ensures { result + length (up_to (λ t. t == tag) fields.now) ≡ length fields.now }
 {
@@ -52,7 +52,7 @@ fn left_from_tag(fields: &Run<'_>, tag: u32) -> usize
     left
 }
 
-/// The fields up to the first that is read at the outer level.
+/// Returns the fields before the first one read at the outer level.
 #[inline(always)]
 fn up_to_outer<'a>(fields: &Run<'a>, msg_type: MsgType) -> Run<'a>
     ensures fields { result ≡ up_to (is_listed (outer_rows msg_type)) fields.now }
@@ -61,7 +61,7 @@ fn up_to_outer<'a>(fields: &Run<'a>, msg_type: MsgType) -> Run<'a>
     fields.first(fields.len() - left_from_outer(fields, msg_type))
 }
 
-/// The group after the field with this number, which is the first with its counter.
+/// Returns the group after the field with this number, which is the first with the group's counter.
 #[inline(always)]
 pub fn group_after<'a>(fields: &Run<'a>, msg_type: MsgType, number: usize) -> Run<'a>
     requires { number ≤ length fields.now }
@@ -71,7 +71,7 @@ pub fn group_after<'a>(fields: &Run<'a>, msg_type: MsgType, number: usize) -> Ru
     up_to_outer(&fields_after(fields, number), msg_type)
 }
 
-/// Takes the next entry of a group, which begins with this tag.
+/// Takes the next entry of a group whose entries begin with this tag.
 pub fn next_entry<'a>(rest: &mut Run<'a>, first: u32) -> Option<Run<'a>>
     ensures { MatchOption result (entries_by first rest.old ≡ [])
         (λ entry. entries_by first rest.old ≡ entry ∷ entries_by first rest.new) }
@@ -86,7 +86,7 @@ pub fn next_entry<'a>(rest: &mut Run<'a>, first: u32) -> Option<Run<'a>>
     None
 }
 
-/// Whether a group has so many entries, which begin with this tag.
+/// Returns whether a group has this number of entries, given the tag that each begins with.
 pub fn has_entries(group: &Run<'_>, first: u32, number: u64) -> bool
     ensures { result ≡ (number == length (entries_by first group.now)) }
 {
@@ -102,7 +102,7 @@ pub fn has_entries(group: &Run<'_>, first: u32, number: u64) -> bool
     left == 0
 }
 
-/// The text of a tag that an entry has.
+/// Returns the text of a tag that an entry has.
 pub fn text_at<'a>(entry: &Run<'a>, tag: u32) -> &'a [u8]
     requires { IsTrue (stands tag entry.now) }
     ensures { first_value tag entry.now ≡ Some result.now }
@@ -113,7 +113,7 @@ pub fn text_at<'a>(entry: &Run<'a>, tag: u32) -> &'a [u8]
     text
 }
 
-/// What was read of the text of a tag of an entry, or its fault.
+/// Returns the value read from the text of a tag in an entry, or its fault.
 pub fn value_at<T: Drop>(tag: u32, read: Result<T, SessionRejectReason>) -> Result<T, Fault>
     ensures { MatchResult result (λ value. read ≡ Ok value) (λ fault. (read ≡ Err fault.reason) × (fault.tag ≡ tag)) }
 {

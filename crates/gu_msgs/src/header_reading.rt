@@ -1,4 +1,4 @@
-//! The header of a message, read whatever else is in it.
+//! The header of a message, read regardless of its other fields.
 
 ghost use Rattle.std.specs.Prelude.{◌≡◌, ◌∷◌, [], List, ℕ, IfOk};
 ghost use Rattle.gu_fix.specs.TagValue.{TagValue, tag_value};
@@ -13,7 +13,7 @@ use crate::tags::{MSG_SEQ_NUM, POSS_DUP_FLAG, SENDER_COMP_ID, TARGET_COMP_ID};
 use gu_fix::{Field, Fields, MSG_TYPE};
 use std::alloc::{AllocError, Global};
 
-/// The bytes in a buffer of their own.
+/// Returns a copy of the bytes.
 fn bytes_of(alloc: Global, value: Option<&[u8]>) -> Result<Option<Vec<u8>>, AllocError>
     ensures { IfOk result (λ copy. option_map (λ bytes. bytes.items) copy ≡ option_map (λ bytes. bytes.now) value.entry) }
 {
@@ -23,19 +23,19 @@ fn bytes_of(alloc: Global, value: Option<&[u8]>) -> Result<Option<Vec<u8>>, Allo
     }
 }
 
-/// What is found of a tag as fields are walked.
+/// The fields found so far with one tag.
 #[derive(Clone, Copy)]
 enum Found<'a> {
-    /// No field had it so far.
+    /// No field has it so far.
     Nowhere,
-    /// One field had it, with this value.
+    /// One field has it, with this value.
     Once(&'a [u8]),
-    /// More than one field had it.
+    /// More than one field has it.
     Twice,
 }
 
 impl<'a> Found<'a> {
-    /// What is found of the tag with one more field.
+    /// Returns what is found after one more field.
     #[inline(always)]
     fn after(self, tag: u32, field: Field<'a>) -> Self
         ensures { (rest : List TagValue) → only_after result tag rest
@@ -50,7 +50,7 @@ impl<'a> Found<'a> {
         }
     }
 
-    /// The value of the tag, where it is there exactly once.
+    /// Returns the value of the tag, if it occurs exactly once.
     fn only(self) -> Option<&'a [u8]>
         ensures { (tag : ℕ) → option_map (λ bytes. bytes.now) result ≡ only_after self.entry tag [] }
     {
@@ -61,7 +61,7 @@ impl<'a> Found<'a> {
     }
 }
 
-/// The header of a message, where it lies: the first MsgType, and of the others each that is there exactly once. One walk finds these.
+/// Returns the header of a message as references: the first MsgType, and each other tag that occurs exactly once. It takes one pass.
 pub fn header_in(fields: &Fields) -> HeaderRef<'_>
     ensures { IsHeaderIn fields.now result }
 {
@@ -84,7 +84,7 @@ pub fn header_in(fields: &Fields) -> HeaderRef<'_>
     }
 }
 
-/// The same in buffers of their own.
+/// Returns a copy of the header.
 pub fn header(alloc: Global, fields: &Fields) -> Result<Header, AllocError>
     ensures { IfOk result (λ header. IsHeader fields.now header) }
 {

@@ -1,4 +1,4 @@
-//! Messages that are read, each with what it says.
+//! Messages that are read, and their contents.
 
 use crate::alloc_status::AllocStatus;
 use crate::boxed::Boxed;
@@ -6,24 +6,24 @@ use crate::test_req_id::TestReqId;
 use crate::type_code::TypeCode;
 use gu_terms::{AccountId, Day, Id, Lines, Lots, OfferNo, Price, Side, Symbol};
 
-/// A question whether the session is alive (FIX: TestRequest, MsgType 1).
+/// A test of whether the session is alive (FIX: TestRequest, MsgType 1).
 #[derive(Drop)]
 pub struct TestRequest {
     pub test_req_id: TestReqId,
 }
 
-/// A request for messages once more (FIX: ResendRequest, MsgType 2).
+/// A request to send messages again (FIX: ResendRequest, MsgType 2).
 #[derive(Clone, Copy)]
 pub struct ResendRequest {
     pub begin_seq_no: u64,
-    /// The last number that is asked for, or 0 for all.
+    /// The last number requested, or 0 for all.
     pub end_seq_no: u64,
 }
 
-/// A new number in place of those before it (FIX: SequenceReset, MsgType 4).
+/// A new expected number (FIX: SequenceReset, MsgType 4).
 #[derive(Clone, Copy)]
 pub struct SequenceReset {
-    /// Whether it takes the place of messages that aren't sent again.
+    /// Whether it replaces messages that aren't sent again.
     pub is_gap_fill: bool,
     pub new_seq_no: u64,
 }
@@ -49,7 +49,7 @@ pub struct TradeCaptureReport {
     pub account: AccountId,
 }
 
-/// A give-up of a trade that was reported (FIX: AllocationInstruction, MsgType J). Its quantity is the sum of its lines.
+/// A give-up of a reported trade (FIX: AllocationInstruction, MsgType J). Its quantity is the sum of its lines.
 #[derive(Drop)]
 pub struct AllocationInstruction {
     pub alloc_id: Id,
@@ -58,7 +58,7 @@ pub struct AllocationInstruction {
     pub lines: Lines,
 }
 
-/// What the carrying firm says to an offer (FIX: AllocationReportAck, MsgType AT).
+/// A carrying firm's response to an offer (FIX: AllocationReportAck, MsgType AT).
 #[derive(Clone, Copy)]
 pub struct AllocationReportAck {
     pub alloc_report_id: OfferNo,
@@ -72,14 +72,14 @@ pub struct RequestForPositions {
     pub account: AccountId,
 }
 
-/// A message that is read, by its type.
+/// A message read, by its type.
 #[derive(Drop)]
 pub enum Inbound {
-    /// A heartbeat (FIX: Heartbeat, MsgType 0). The id of the TestRequest that it answers isn't told.
+    /// A heartbeat (FIX: Heartbeat, MsgType 0). The id of the TestRequest that it answers isn't returned.
     Heartbeat,
     TestRequest(TestRequest),
     ResendRequest(ResendRequest),
-    /// A malformed or misplaced message of the house's (FIX: Reject, MsgType 3).
+    /// A rejection of a malformed or misplaced message of the house (FIX: Reject, MsgType 3).
     Reject,
     SequenceReset(SequenceReset),
     /// The end of the session (FIX: Logout, MsgType 5).
@@ -89,6 +89,6 @@ pub enum Inbound {
     AllocationInstruction(Boxed<AllocationInstruction>),
     AllocationReportAck(AllocationReportAck),
     RequestForPositions(Boxed<RequestForPositions>),
-    /// A message of another type, which has this code.
+    /// A message of another type, with this code.
     Unread(TypeCode),
 }

@@ -1,4 +1,4 @@
-//! What the text of a field says where a value of a kind is wanted, or why it isn't allowed.
+//! Reading a field's text as a value of its kind, or the reason that it isn't allowed.
 
 ghost use Rattle.std.specs.Prelude.{◌≡◌, IfOk, MatchResult};
 ghost use Rattle.gu_terms.specs.Days.{WritesDay};
@@ -17,7 +17,7 @@ use gu_terms::{
 };
 use std::alloc::{AllocError, Global};
 
-/// What was read, or that the value isn't allowed.
+/// Returns the value read, or an error if there is none.
 fn allowed<T: Drop>(value: Option<T>) -> Result<T, SessionRejectReason>
     ensures { result ≡ allowed value }
 {
@@ -27,7 +27,7 @@ fn allowed<T: Drop>(value: Option<T>) -> Result<T, SessionRejectReason>
     }
 }
 
-/// The id.
+/// Returns the id in a text.
 pub fn id(text: &[u8]) -> Result<Id, SessionRejectReason>
     ensures judged { IsJudged kind.Id text.now result }
     ensures means { IfOk result (λ id. text.now ≡ id) }
@@ -35,7 +35,7 @@ pub fn id(text: &[u8]) -> Result<Id, SessionRejectReason>
     allowed(Id::new(text))
 }
 
-/// The account.
+/// Returns the account in a text.
 pub fn account(text: &[u8]) -> Result<AccountId, SessionRejectReason>
     ensures judged { IsJudged kind.Name text.now result }
     ensures means { IfOk result (λ account. text.now ≡ account.name) }
@@ -43,7 +43,7 @@ pub fn account(text: &[u8]) -> Result<AccountId, SessionRejectReason>
     allowed(AccountId::new(text))
 }
 
-/// The instrument.
+/// Returns the instrument in a text.
 pub fn symbol(text: &[u8]) -> Result<Symbol, SessionRejectReason>
     ensures judged { IsJudged kind.Name text.now result }
     ensures means { IfOk result (λ symbol. text.now ≡ symbol.name) }
@@ -51,7 +51,7 @@ pub fn symbol(text: &[u8]) -> Result<Symbol, SessionRejectReason>
     allowed(Symbol::new(text))
 }
 
-/// The id of a TestRequest.
+/// Returns the id of a TestRequest in a text.
 pub fn test_req_id(
     alloc: Global,
     text: &[u8],
@@ -62,7 +62,7 @@ pub fn test_req_id(
     Ok(allowed(TestReqId::new(alloc, text)?))
 }
 
-/// The lots.
+/// Returns the lots in a text.
 pub fn lots(text: &[u8]) -> Result<Lots, SessionRejectReason>
     ensures judged { IsJudged kind.Lots text.now result }
     ensures means { IfOk result (MeansLots text.now) }
@@ -74,7 +74,7 @@ pub fn lots(text: &[u8]) -> Result<Lots, SessionRejectReason>
     }
 }
 
-/// The price.
+/// Returns the price in a text.
 pub fn price(text: &[u8]) -> Result<Price, SessionRejectReason>
     ensures judged { IsJudged kind.Price text.now result }
     ensures means { IfOk result (MeansPrice text.now) }
@@ -86,7 +86,7 @@ pub fn price(text: &[u8]) -> Result<Price, SessionRejectReason>
     }
 }
 
-/// The day.
+/// Returns the day in a text.
 pub fn day(text: &[u8]) -> Result<Day, SessionRejectReason>
     ensures judged { IsJudged kind.Date text.now result }
     ensures means { IfOk result (λ d. WritesDay text.now d.year d.month d.day) }
@@ -98,7 +98,7 @@ pub fn day(text: &[u8]) -> Result<Day, SessionRejectReason>
     }
 }
 
-/// Whether it says yes.
+/// Returns whether the text is `Y`; it must be `Y` or `N`.
 pub fn yes_or_no(text: &[u8]) -> Result<bool, SessionRejectReason>
     ensures judged { IsJudged kind.YesOrNo text.now result }
     ensures means { IfOk result (SaysYes text.now) }
@@ -110,7 +110,7 @@ pub fn yes_or_no(text: &[u8]) -> Result<bool, SessionRejectReason>
     }
 }
 
-/// The whole number of 64 bits.
+/// Returns the whole number of 64 bits in a text.
 #[inline(never)]
 fn any_number(text: &[u8]) -> Result<u64, SessionRejectReason>
     ensures { MatchResult result (IsNumber text.now) (IsNoNumber text.now) }
@@ -121,7 +121,7 @@ fn any_number(text: &[u8]) -> Result<u64, SessionRejectReason>
     allowed(number_of(text))
 }
 
-/// The same. Most are short.
+/// Returns the same. Most are short.
 fn whole_number(text: &[u8]) -> Result<u64, SessionRejectReason>
     ensures { MatchResult result (IsNumber text.now) (IsNoNumber text.now) }
 {
@@ -131,7 +131,7 @@ fn whole_number(text: &[u8]) -> Result<u64, SessionRejectReason>
     }
 }
 
-/// The whole number from one number to another.
+/// Returns the whole number in a text, from `least` to `most`.
 pub fn number(text: &[u8], least: u64, most: u64) -> Result<u64, SessionRejectReason>
     ensures judged { IsJudged (kind.Number least most) text.now result }
     ensures means { IfOk result (IsNumber text.now) }
@@ -142,7 +142,7 @@ pub fn number(text: &[u8], least: u64, most: u64) -> Result<u64, SessionRejectRe
     }
 }
 
-/// The number of an offer.
+/// Returns the offer number in a text.
 pub fn offer(text: &[u8]) -> Result<OfferNo, SessionRejectReason>
     ensures judged { IsJudged (kind.Number 1 16000000) text.now result }
     ensures means { IfOk result (IsNumber text.now) }
@@ -150,7 +150,7 @@ pub fn offer(text: &[u8]) -> Result<OfferNo, SessionRejectReason>
     allowed(OfferNo::new(whole_number(text)?))
 }
 
-/// The side.
+/// Returns the side in a text.
 pub fn side(text: &[u8]) -> Result<Side, SessionRejectReason>
     ensures judged { IsJudged (kind.Number 1 2) text.now result }
     ensures means { IfOk result (λ side. IsNumber text.now (side_number side)) }
@@ -162,7 +162,7 @@ pub fn side(text: &[u8]) -> Result<Side, SessionRejectReason>
     }
 }
 
-/// The status of an allocation.
+/// Returns the status of an allocation in a text.
 pub fn status(text: &[u8]) -> Result<AllocStatus, SessionRejectReason>
     ensures judged { IsJudged kind.Status text.now result }
     ensures means { IfOk result (λ status. IsNumber text.now (status_number status)) }

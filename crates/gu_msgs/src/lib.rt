@@ -1,4 +1,4 @@
-//! Typed messages of FIX: what a message's fields say, and the fields of a message.
+//! Typed FIX messages: reading them from fields, and writing them as fields.
 #![tactic(auto)]
 
 mod alloc_status;

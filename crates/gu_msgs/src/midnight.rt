@@ -1,4 +1,4 @@
-//! The midnight with which a day begins.
+//! The midnight at which a day begins.
 
 ghost use Rattle.std.specs.Prelude.{◌≡◌, ◌≤◌, ◌++◌, ℕ, List, pos, codes};
 ghost use Rattle.jiff_core.specs.Date.{epoch_day};
@@ -9,10 +9,10 @@ ghost use Rattle.gu_msgs.specs.MomentTexts.{WritesMoment};
 use gu_terms::{Day, Moment};
 use jiff_core::civil::Date;
 
-/// The milliseconds of a day.
+/// The milliseconds in a day.
 const DAY: u64 = 86_400_000;
 
-/// The date of a day.
+/// Returns the date of a day.
 fn date_of(day: Day) -> Date
     ensures year { result.year ≡ pos day.year }
     ensures month { result.month ≡ day.month }
@@ -25,7 +25,7 @@ fn date_of(day: Day) -> Date
     date
 }
 
-/// How many days a date comes after 1970-01-01, 0 for one before it.
+/// Returns the number of days from 1970-01-01 to a date, or 0 for an earlier date.
 fn days_after(date: Date) -> u64
     ensures days { result ≡ from_zero (epoch_day date) }
     ensures most { result ≤ 2932896 }
@@ -34,7 +34,7 @@ fn days_after(date: Date) -> u64
     if days < 0 { 0 } else { days as u64 }
 }
 
-/// The midnight with which a day begins (UTC); the first moment of 1970 for a day before it.
+/// Returns the midnight at which a day begins (UTC), or the first moment of 1970 for an earlier day.
 pub fn midnight_of(day: Day) -> Moment
     ensures midnight { result ≡ midnight_of day }
     ensures text { 1970 ≤ day.year → (text : List ℕ) → WritesMoment result text

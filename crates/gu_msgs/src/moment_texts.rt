@@ -9,7 +9,7 @@ ghost use Rattle.gu_msgs.specs.MomentTexts.{WritesDateAfter, WritesMoment, time_
 use gu_terms::{Day, Moment, two_digits};
 use jiff_core::civil::Date;
 
-/// The milliseconds of a day.
+/// The milliseconds in a day.
 const DAY: u64 = 86_400_000;
 
 fn three_digits(number: u16) -> [u8; 3]
@@ -23,7 +23,7 @@ fn three_digits(number: u16) -> [u8; 3]
     ]
 }
 
-/// The time of a day, so many milliseconds after midnight.
+/// Returns the time of day at this number of milliseconds after midnight.
 #[tactic(auto, unfolding(crate::specs::MomentTexts::time_text))]
 fn time_text(milliseconds: u32) -> [u8; 12]
     requires { milliseconds < 86400000 }
@@ -37,7 +37,7 @@ fn time_text(milliseconds: u32) -> [u8; 12]
     text
 }
 
-/// The date that comes so many days after 1970-01-01.
+/// Returns the date this many days after 1970-01-01.
 fn date_after(days: u32) -> Date
     requires { days ≤ 2932896 }
     ensures { epoch_day result ≡ pos days }
@@ -48,7 +48,7 @@ fn date_after(days: u32) -> Date
     date
 }
 
-/// The day that comes so many days after 1970-01-01.
+/// Returns the day this many days after 1970-01-01.
 fn day_after(days: u32) -> Day
     requires { days ≤ 2932896 }
     ensures { days_from_civil (pos result.year) result.month result.day ≡ pos days }
@@ -61,7 +61,7 @@ fn day_after(days: u32) -> Day
     }
 }
 
-/// The date that comes so many days after 1970-01-01, in eight digits.
+/// Returns the date this many days after 1970-01-01, in eight digits.
 fn date_text_after(days: u32) -> [u8; 8]
     requires { days ≤ 2932896 }
     ensures { WritesDateAfter days result }
@@ -69,7 +69,7 @@ fn date_text_after(days: u32) -> [u8; 8]
     day_after(days).text()
 }
 
-/// A date and a time with `-` between them.
+/// Returns a date and a time with `-` between them.
 fn joined(date: [u8; 8], time: [u8; 12]) -> [u8; 21]
     ensures { result ≡ date ++ codes "-" ++ time }
 {
@@ -79,7 +79,7 @@ fn joined(date: [u8; 8], time: [u8; 12]) -> [u8; 21]
     text
 }
 
-/// A moment (UTC).
+/// Returns the text of a moment (UTC).
 pub fn moment_text(moment: Moment) -> [u8; 21]
     ensures { WritesMoment moment result }
 {

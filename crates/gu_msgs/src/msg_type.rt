@@ -1,11 +1,11 @@
-//! The types of the messages that are read.
+//! The types of messages that are read.
 
 ghost use Rattle.std.specs.Prelude.{◌≡◌, ◌≢◌, ◌↔◌, IsTrue, MatchOption};
 ghost use Rattle.std.specs.List.{list_all};
 ghost use Rattle.gu_msgs.specs.MsgTypes.{code_of, is_type_text, is_type_byte};
 ghost use Rattle.gu_msgs.specs.declared.msg_type.MsgType.{MsgType as TypeOf};
 
-/// A message that is read (FIX: MsgType, tag 35).
+/// The type of a message that is read (FIX: MsgType, tag 35).
 #[derive(Clone, Copy)]
 pub enum MsgType {
     Heartbeat,
@@ -22,7 +22,7 @@ pub enum MsgType {
 }
 
 impl MsgType {
-    /// The type with this code.
+    /// Returns the type with this code.
     pub fn of_code(code: &[u8]) -> Option<MsgType>
         ensures { MatchOption result ((kind : TypeOf) → code.now ≢ code_of kind) (λ kind. code.now ≡ code_of kind) }
     {
@@ -49,14 +49,14 @@ fn is_type_byte(byte: u8) -> bool
     byte.is_ascii_alphanumeric()
 }
 
-/// Whether each byte is one that a type's text may have.
+/// Returns whether each byte is allowed in a type's text.
 fn are_type_bytes(text: &[u8]) -> bool
     ensures { result ≡ list_all is_type_byte text.now }
 {
     text.iter().all(|byte| is_type_byte(*byte))
 }
 
-/// Whether a text has the form of a message's type.
+/// Returns whether a text has the form of a message's type.
 pub fn is_type_text(text: &[u8]) -> bool
     ensures { result ≡ is_type_text text.now }
 {

@@ -1,4 +1,4 @@
-//! What notices of the book say, as fields.
+//! The fields of notices.
 
 ghost use Rattle.std.specs.Prelude.{◌≡◌, ◌∷◌, ◌++◌, [], OnOk};
 ghost use Rattle.std.specs.Fmt.{decimal};
@@ -19,7 +19,7 @@ use gu_terms::Side;
 use itoa::Buffer;
 use std::alloc::AllocError;
 
-/// Appends the id of a side of a trade: the number of the entry that made it, and the side's letter.
+/// Appends the id of a side of a trade: the number of the entry that made the trade, and the side's letter.
 fn push_side_id(draft: &mut Draft, entry: u64, side: Side) -> Result<(), AllocError>
     ensures { OnOk result (draft.new ≡ draft.old ++ tag_value TRADE_REPORT_ID (decimal entry ++ 45 ∷ side_letter side ∷ []) ∷ []) }
 {
@@ -40,7 +40,7 @@ fn push_trade(draft: &mut Draft, message: &TradeCaptureReport) -> Result<(), All
     draft.push_day(TRADE_DATE, message.trade_date)
 }
 
-/// Appends what a TradeCaptureReport says.
+/// Appends the body of a TradeCaptureReport.
 pub fn push_report(draft: &mut Draft, message: &TradeCaptureReport) -> Result<(), AllocError>
     ensures { OnOk result (draft.new ≡ draft.old ++ report_fields message.now) }
 {
@@ -52,7 +52,7 @@ pub fn push_report(draft: &mut Draft, message: &TradeCaptureReport) -> Result<()
     draft.push_name(ACCOUNT, message.account.get())
 }
 
-/// Appends which offer a report is of, and what happens to it.
+/// Appends the offer that a report is for, and the event.
 fn push_offer(draft: &mut Draft, message: &AllocationReport) -> Result<(), AllocError>
     ensures { OnOk result (draft.new ≡ draft.old ++ offer_fields message.now) }
 {
@@ -64,7 +64,7 @@ fn push_offer(draft: &mut Draft, message: &AllocationReport) -> Result<(), Alloc
     draft.push_number(ALLOC_STATUS, status.number())
 }
 
-/// Appends the trade that an offer is of.
+/// Appends the trade that an offer gives up.
 fn push_offered(draft: &mut Draft, message: &AllocationReport) -> Result<(), AllocError>
     ensures { OnOk result (draft.new ≡ draft.old ++ offered_fields message.now) }
 {
@@ -75,7 +75,7 @@ fn push_offered(draft: &mut Draft, message: &AllocationReport) -> Result<(), All
     draft.push_day(TRADE_DATE, message.trade_date)
 }
 
-/// Appends what an AllocationReport says.
+/// Appends the body of an AllocationReport.
 pub fn push_allocation(draft: &mut Draft, message: &AllocationReport) -> Result<(), AllocError>
     ensures { OnOk result (draft.new ≡ draft.old ++ allocation_fields message.now) }
 {

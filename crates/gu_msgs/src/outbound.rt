@@ -1,4 +1,4 @@
-//! Messages that are written, each with what it says.
+//! Messages that are written, and their contents.
 
 ghost use Rattle.std.specs.Prelude.{◌≡◌};
 
@@ -11,19 +11,19 @@ use gu_terms::{
     AccountId, Day, FirmId, Id, Lots, Moment, OfferEvent, OfferNo, Price, Side, Symbol,
 };
 
-/// A malformed or misplaced message (FIX: Reject, MsgType 3).
+/// A rejection of a malformed or misplaced message (FIX: Reject, MsgType 3).
 #[derive(Clone, Copy)]
 pub struct Reject {
     /// The number of the message.
     pub ref_seq_num: u64,
-    /// The tag at fault, or 0 where none can be read.
+    /// The tag at fault, or 0 if none can be read.
     pub ref_tag_id: u32,
-    /// The type of the message, where it has the form of one.
+    /// The type of the message, if it has the form of one.
     pub ref_msg_type: Option<TypeCode>,
     pub reason: SessionRejectReason,
 }
 
-/// A message that its own kind doesn't answer (FIX: BusinessMessageReject, MsgType j).
+/// A rejection of a message that no other answer fits (FIX: BusinessMessageReject, MsgType j).
 #[derive(Clone, Copy)]
 pub struct BusinessMessageReject {
     /// The number of the message.
@@ -51,7 +51,7 @@ pub struct AllocationInstructionAck {
 pub struct TradeCaptureReport {
     /// The number of the entry that made the trade.
     pub entry: u64,
-    /// The firm's own id of its report.
+    /// The firm's own id for its report.
     pub trade_report_ref_id: Id,
     pub trd_match_id: Id,
     pub symbol: Symbol,
@@ -62,7 +62,7 @@ pub struct TradeCaptureReport {
     pub account: AccountId,
 }
 
-/// What happens to an offer (FIX: AllocationReport, MsgType AS).
+/// An event of an offer (FIX: AllocationReport, MsgType AS).
 #[derive(Clone, Copy)]
 pub struct AllocationReport {
     pub alloc_report_id: OfferNo,
@@ -87,7 +87,7 @@ pub struct RequestForPositionsAck {
 #[derive(Clone, Copy)]
 pub struct PositionReport {
     pub pos_req_id: Id,
-    /// Its place among the reports of the question, from 1.
+    /// Its place among the reports for the question, counted from 1.
     pub place: u64,
     pub clearing_business_date: Day,
     pub account: AccountId,
@@ -96,8 +96,8 @@ pub struct PositionReport {
     pub short_qty: u64,
 }
 
-/// What an application message says after its header, by its type: any message but those that serve the session itself (FIX: MsgType j,
-/// AR, P, AE, AS, AO, AP).
+/// The body of an application message, by its type: any message that doesn't serve the session itself (FIX: MsgType j, AR, P, AE, AS, AO,
+/// AP).
 #[derive(Clone, Copy)]
 pub enum Application {
     BusinessMessageReject(BusinessMessageReject),
@@ -109,20 +109,20 @@ pub enum Application {
     PositionReport(PositionReport),
 }
 
-/// What a message says after its header, by its type.
+/// The body of a message, by its type.
 #[derive(Drop)]
 pub enum Body {
     Logon {
         heart_bt_int: u64,
         resets_seq_num: bool,
     },
-    /// With the id of the TestRequest that it answers.
+    /// A heartbeat, with the id of the TestRequest that it answers, if it answers one.
     Heartbeat(Option<TestReqId>),
     TestRequest,
-    /// From this number on.
+    /// A request for messages from this number on.
     ResendRequest(u64),
     Reject(Reject),
-    /// To this number.
+    /// A gap fill up to this number.
     SequenceReset(u64),
     Logout(Option<LogoutReason>),
     Application(Application),
@@ -134,18 +134,18 @@ pub struct Outbound {
     pub firm: FirmId,
     pub msg_seq_num: u64,
     pub sending_time: Moment,
-    /// When it was sent first, where it is sent again.
+    /// The time when it was first sent, if it is sent again.
     pub orig_sending_time: Option<Moment>,
     pub body: Body,
 }
 
-/// A message to a firm that says what lies elsewhere.
+/// A message to a firm with its body borrowed.
 #[derive(Clone, Copy)]
 pub struct OutboundRef<'a> {
     pub firm: FirmId,
     pub msg_seq_num: u64,
     pub sending_time: Moment,
-    /// When it was sent first, where it is sent again.
+    /// The time when it was first sent, if it is sent again.
     pub orig_sending_time: Option<Moment>,
     pub body: &'a Body,
 }
@@ -153,7 +153,7 @@ pub struct OutboundRef<'a> {
 impl Outbound {
     ghost use Rattle.gu_msgs.specs.Written.{outbound_of};
 
-    /// The same message, borrowed.
+    /// Returns the same message with its body borrowed.
     pub fn as_ref(&self) -> OutboundRef<'_>
         ensures { outbound_of result ≡ self.now }
     {

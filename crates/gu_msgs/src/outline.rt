@@ -1,4 +1,4 @@
-//! A message whose shape is sound, and the values of its rows.
+//! A message of sound shape, and the values of its rows.
 
 ghost use Rattle.std.specs.Prelude.{◌≡◌, ◌<◌, ◌+◌, ◌^◌, [], length, true, List, IfOk, MatchOption, MatchResult, None, Some, Ok, Err, ⊤};
 ghost use Rattle.gu_terms.specs.Days.{WritesDay};
@@ -35,7 +35,7 @@ use gu_terms::{AccountId, Day, Id, Lots, OfferNo, Price, Symbol};
 use std::alloc::Global;
 use std::marker::Model;
 
-/// The places of the header's tags in each table.
+/// The indexes of the header's tags in each table.
 const MSG_TYPE_PLACE: usize = 2;
 
 const SENDER_COMP_ID_PLACE: usize = 3;
@@ -46,8 +46,8 @@ const MSG_SEQ_NUM_PLACE: usize = 5;
 
 const POSS_DUP_FLAG_PLACE: usize = 7;
 
-/// A message of a type whose shape is sound, with where its tags are. Its values are read in the order of the type's table, so that
-/// the first that isn't allowed is found first. To a contract it is its type and its fields.
+/// A message of sound shape, with the positions of its tags. Its values are read in the order of its type's table, so that the first that
+/// isn't allowed is found first. To a contract it is its type and its fields.
 #[derive(Drop)]
 pub struct Outline<'n, 'a> {
     fields: Run<'a>,
@@ -66,7 +66,7 @@ impl<'n, 'a> Model for Outline<'n, 'a> {
 }
 
 impl<'n, 'a> Outline<'n, 'a> {
-    /// The message with these fields, whose tags are first at these places.
+    /// Returns the message with these fields, given the number of the first field for each tag.
     pub fn new(fields: Run<'a>, msg_type: MsgType, numbers: &'n Standings) -> Self
         requires shape { shape_fault msg_type fields ≡ None }
         requires standings { AreStandings (outer_rows msg_type) fields numbers.now }
@@ -79,7 +79,7 @@ impl<'n, 'a> Outline<'n, 'a> {
         }
     }
 
-    /// The text of a row's tag, where it is there.
+    /// Returns the text of a row's tag, if the tag is present.
     #[inline(always)]
     fn text(&self, place: usize) -> Option<&'a [u8]>
         requires { place < length (outer_rows self.now.kind) }
@@ -88,7 +88,7 @@ impl<'n, 'a> Outline<'n, 'a> {
         value_numbered(&self.fields, self.numbers[place])
     }
 
-    /// The text of a tag that is required.
+    /// Returns the text of a required tag.
     #[inline(always)]
     fn required(&self, place: usize) -> &'a [u8]
         requires within { place < length (outer_rows self.now.kind) }
@@ -98,7 +98,7 @@ impl<'n, 'a> Outline<'n, 'a> {
         self.fields.get(self.numbers[place] - 1).value
     }
 
-    /// The fault of a row's value.
+    /// Returns the fault of a row's value.
     #[cold]
     fn fault(&self, place: usize, reason: SessionRejectReason) -> Fault
         requires { place < length (outer_rows self.now.kind) }
@@ -107,7 +107,7 @@ impl<'n, 'a> Outline<'n, 'a> {
         fault_at(reason, outer_rows(self.msg_type)[place].tag())
     }
 
-    /// What was read of the text of a row that counts no group, or its fault.
+    /// Returns the value read from the text of a row that counts no group, or its fault.
     #[inline(always)]
     fn judged<T: Drop>(
         &self,
@@ -128,7 +128,7 @@ impl<'n, 'a> Outline<'n, 'a> {
         }
     }
 
-    /// The id of a row.
+    /// Returns the id in a row.
     #[inline(always)]
     pub fn id(&self, place: usize) -> Result<Id, Fault>
         requires row { IsPlain self.now place (Required (tag_at self.now place) kind.Id) }
@@ -138,7 +138,7 @@ impl<'n, 'a> Outline<'n, 'a> {
         Ok(Id::known(self.id_text(place)?))
     }
 
-    /// The text of the id of a row.
+    /// Returns the text of the id in a row.
     #[inline(always)]
     pub fn id_text(&self, place: usize) -> Result<&'a [u8], Fault>
         requires row { IsPlain self.now place (Required (tag_at self.now place) kind.Id) }
@@ -153,7 +153,7 @@ impl<'n, 'a> Outline<'n, 'a> {
         }
     }
 
-    /// The account of a row.
+    /// Returns the account in a row.
     #[inline(always)]
     pub fn account(&self, place: usize) -> Result<AccountId, Fault>
         requires row { IsPlain self.now place (Required (tag_at self.now place) kind.Name) }
@@ -164,7 +164,7 @@ impl<'n, 'a> Outline<'n, 'a> {
         self.judged(place, text, kinds::account(text))
     }
 
-    /// The instrument of a row.
+    /// Returns the instrument in a row.
     #[inline(always)]
     pub fn symbol(&self, place: usize) -> Result<Symbol, Fault>
         requires row { IsPlain self.now place (Required (tag_at self.now place) kind.Name) }
@@ -175,7 +175,7 @@ impl<'n, 'a> Outline<'n, 'a> {
         self.judged(place, text, kinds::symbol(text))
     }
 
-    /// The lots of a row.
+    /// Returns the lots in a row.
     #[inline(always)]
     pub fn lots(&self, place: usize) -> Result<Lots, Fault>
         requires row { IsPlain self.now place (Required (tag_at self.now place) kind.Lots) }
@@ -186,7 +186,7 @@ impl<'n, 'a> Outline<'n, 'a> {
         self.judged(place, text, kinds::lots(text))
     }
 
-    /// The price of a row.
+    /// Returns the price in a row.
     #[inline(always)]
     pub fn price(&self, place: usize) -> Result<Price, Fault>
         requires row { IsPlain self.now place (Required (tag_at self.now place) kind.Price) }
@@ -197,7 +197,7 @@ impl<'n, 'a> Outline<'n, 'a> {
         self.judged(place, text, kinds::price(text))
     }
 
-    /// The day of a row that may be absent.
+    /// Returns the day in a row that may be absent.
     #[inline(always)]
     pub fn day(&self, place: usize) -> Result<Option<Day>, Fault>
         requires row { IsPlain self.now place (Optional (tag_at self.now place) kind.Date) }
@@ -210,7 +210,7 @@ impl<'n, 'a> Outline<'n, 'a> {
         Ok(Some(self.judged(place, text, kinds::day(text))?))
     }
 
-    /// The whole number of a row.
+    /// Returns the whole number in a row.
     #[inline(always)]
     pub fn number(&self, place: usize, least: u64, most: u64) -> Result<u64, Fault>
         requires row { IsPlain self.now place (Required (tag_at self.now place) (kind.Number least most)) }
@@ -221,7 +221,7 @@ impl<'n, 'a> Outline<'n, 'a> {
         self.judged(place, text, kinds::number(text, least, most))
     }
 
-    /// The whole number of a row that may be absent.
+    /// Returns the whole number in a row that may be absent.
     #[inline(always)]
     pub fn may_number(&self, place: usize, least: u64, most: u64) -> Result<Option<u64>, Fault>
         requires row { IsPlain self.now place (Optional (tag_at self.now place) (kind.Number least most)) }
@@ -234,7 +234,7 @@ impl<'n, 'a> Outline<'n, 'a> {
         Ok(Some(self.judged(place, text, kinds::number(text, least, most))?))
     }
 
-    /// Whether a row says yes, which it doesn't where it is absent.
+    /// Returns whether a row's value is `Y`; false if it is absent.
     #[inline(always)]
     pub fn flag(&self, place: usize) -> Result<bool, Fault>
         requires row { IsPlain self.now place (Optional (tag_at self.now place) kind.YesOrNo) }
@@ -247,7 +247,7 @@ impl<'n, 'a> Outline<'n, 'a> {
         self.judged(place, text, kinds::yes_or_no(text))
     }
 
-    /// The offer of a row.
+    /// Returns the offer in a row.
     pub fn offer(&self, place: usize) -> Result<OfferNo, Fault>
         requires row { IsPlain self.now place (Required (tag_at self.now place) (kind.Number 1 16000000)) }
         requires judged { AreJudged self.now place }
@@ -257,7 +257,7 @@ impl<'n, 'a> Outline<'n, 'a> {
         self.judged(place, text, kinds::offer(text))
     }
 
-    /// The status of a row.
+    /// Returns the status in a row.
     pub fn status(&self, place: usize) -> Result<AllocStatus, Fault>
         requires row { IsPlain self.now place (Required (tag_at self.now place) kind.Status) }
         requires judged { AreJudged self.now place }
@@ -267,7 +267,7 @@ impl<'n, 'a> Outline<'n, 'a> {
         self.judged(place, text, kinds::status(text))
     }
 
-    /// The id of a TestRequest of a row.
+    /// Returns the id of a TestRequest in a row.
     pub fn test_req_id(&self, alloc: Global, place: usize) -> Result<TestReqId, MsgFault>
         requires row { IsPlain self.now place (Required (tag_at self.now place) kind.TestReqId) }
         requires judged { AreJudged self.now place }
@@ -288,7 +288,7 @@ impl<'n, 'a> Outline<'n, 'a> {
         Ok(())
     }
 
-    /// What the header says, where it lies: none of its tags is there twice.
+    /// Returns the header as references: none of its tags is repeated.
     #[inline(always)]
     pub fn header_in(&self) -> HeaderRef<'a>
         ensures { IsHeaderIn self.now.fields result }
@@ -304,7 +304,7 @@ impl<'n, 'a> Outline<'n, 'a> {
         }
     }
 
-    /// How many entries the group has that a row counts.
+    /// Returns the number of entries in the group that a row counts.
     #[inline(always)]
     pub fn count(&self, place: usize, least: u64, most: u64) -> Result<u64, Fault>
         requires row { IsCounter self.now place (Required (tag_at self.now place) (kind.Number least most)) }
@@ -319,7 +319,7 @@ impl<'n, 'a> Outline<'n, 'a> {
         }
     }
 
-    /// The one entry of the group that a row counts, which begins with this tag.
+    /// Returns the only entry of the group that a row counts, given the tag that it begins with.
     #[inline(always)]
     pub fn only_entry(&self, place: usize, first: u32) -> Result<Run<'a>, Fault>
         requires row { IsCounter self.now place (Required (tag_at self.now place) (kind.Number 1 1)) }
@@ -336,7 +336,7 @@ impl<'n, 'a> Outline<'n, 'a> {
         Ok(entry)
     }
 
-    /// The group that a row counts.
+    /// Returns the group that a row counts.
     #[inline(always)]
     pub fn group(&self, place: usize) -> Run<'a>
         requires { place < length (outer_rows self.now.kind) }

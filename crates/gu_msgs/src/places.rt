@@ -1,4 +1,4 @@
-//! The places of tags in tables.
+//! The indexes of tags in tables.
 
 ghost use Rattle.std.specs.Prelude.{◌≡◌, false, IfSome, MatchOption};
 ghost use Rattle.gu_msgs.specs.Rows.{is_listed};
@@ -17,7 +17,7 @@ use crate::tags::{
 };
 use gu_fix::{BEGIN_STRING, BODY_LENGTH, CHECK_SUM, MSG_TYPE};
 
-/// The place of the row with a tag.
+/// Returns the index of the row with a tag.
 fn place_of(rows: &[Row], tag: u32) -> Option<usize>
     ensures { MatchOption result (is_listed rows.now tag ≡ false) (λ place. IsRowOf rows.now tag place) }
 {
@@ -29,7 +29,7 @@ fn place_of(rows: &[Row], tag: u32) -> Option<usize>
     None
 }
 
-/// The place of a tag in a table: of the header's tags and CheckSum, or else of a type's own.
+/// The index of a tag in a table: among the header's tags and CheckSum, or else among a type's own.
 macro_rules! place_in {
     ($tag:expr, $($own:pat => $place:expr),* $(,)?) => {
         match $tag {
@@ -49,7 +49,7 @@ macro_rules! place_in {
     };
 }
 
-/// The place of a tag in the table of reports, of which there are more than of all other messages.
+/// Returns the index of a tag in the table of reports, which are more frequent than all other messages.
 #[tactic(auto, unfolding(crate::specs::Tables::header_rows, crate::specs::Tables::body_rows))]
 #[inline(always)]
 fn report_place(tag: u32) -> Option<usize>
@@ -70,7 +70,7 @@ fn report_place(tag: u32) -> Option<usize>
     )
 }
 
-/// The place of a tag in the table of give-ups, in which groups are looked for again and again.
+/// Returns the index of a tag in the table of give-ups, in which groups are looked up often.
 #[tactic(auto, unfolding(crate::specs::Tables::header_rows, crate::specs::Tables::body_rows))]
 #[inline(always)]
 fn give_up_place(tag: u32) -> Option<usize>
@@ -87,7 +87,7 @@ fn give_up_place(tag: u32) -> Option<usize>
     )
 }
 
-/// The place of a tag among those that are read at the outer level of a message of this type.
+/// Returns the index of a tag among those read at the outer level of a message of this type.
 #[inline(always)]
 pub fn outer_place(msg_type: MsgType, tag: u32) -> Option<usize>
     ensures { MatchOption result (is_listed (outer_rows msg_type) tag ≡ false) (λ place. IsRowOf (outer_rows msg_type) tag place) }
@@ -99,7 +99,7 @@ pub fn outer_place(msg_type: MsgType, tag: u32) -> Option<usize>
     }
 }
 
-/// The place of a tag among rows, which are those of the outer level of messages of a type where one is named.
+/// Returns the index of a tag among rows. If a type is given, the rows are those of the outer level of its messages.
 #[inline(always)]
 pub fn row_of(rows: &[Row], outer: Option<MsgType>, tag: u32) -> Option<usize>
     requires { IfSome outer (λ msg_type. rows.now ≡ outer_rows msg_type) }

@@ -1,4 +1,4 @@
-//! Messages from their fields.
+//! Reading messages from their fields.
 
 ghost use Rattle.std.specs.Prelude.{◌≡◌, Some, IfErr, IfOk, MatchResult};
 ghost use Rattle.gu_fix.specs.declared.tag.TheConstants.{MSG_TYPE};
@@ -32,7 +32,7 @@ use crate::type_code::TypeCode;
 use gu_fix::{Fields, MSG_TYPE};
 use std::alloc::{AllocError, Global};
 
-/// What is read of a message: what it says or its first fault, and its header.
+/// A message as read: its contents or its first fault, and its header.
 #[derive(Drop)]
 pub struct ReadMessage<'a> {
     pub content: Result<Inbound, Fault>,
@@ -46,7 +46,7 @@ struct SoundMessage<'a> {
     header: HeaderRef<'a>,
 }
 
-/// A message of this type whose shape is sound, and its header, unless some value isn't allowed.
+/// Returns a message of this type of sound shape, and its header, unless some value isn't allowed.
 #[inline(always)]
 fn read_outlined(
     alloc: Global,
@@ -72,7 +72,7 @@ fn read_outlined(
     }
 }
 
-/// A message of this type.
+/// Returns a message of this type.
 #[inline(always)]
 fn read_typed<'a>(
     alloc: Global,
@@ -94,7 +94,7 @@ fn read_typed<'a>(
     Ok(SoundMessage { message, header })
 }
 
-/// The fault of fields without a type.
+/// Returns the fault of fields without a type.
 fn untyped_fault(fields: &Run<'_>) -> Fault
     ensures { result ≡ untyped_fault fields.now }
 {
@@ -105,7 +105,7 @@ fn untyped_fault(fields: &Run<'_>) -> Fault
     }
 }
 
-/// A message without a fault, or the first fault of its fields.
+/// Returns a message without a fault, or the first fault of its fields.
 fn read_sound(alloc: Global, fields: &Fields) -> Result<SoundMessage<'_>, MsgFault>
     ensures says { IfOk result (λ sound. Says fields.now sound.message) }
     ensures header { IfOk result (λ sound. IsHeaderIn fields.now sound.header) }
@@ -127,7 +127,7 @@ fn read_sound(alloc: Global, fields: &Fields) -> Result<SoundMessage<'_>, MsgFau
     }
 }
 
-/// What a message's fields say, or their first fault.
+/// Returns the message in these fields, or their first fault.
 pub fn read(alloc: Global, fields: &Fields) -> Result<Inbound, MsgFault>
     ensures says { IfOk result (Says fields.now) }
     ensures refused { IfErr result (IsRefusal fields.now) }
@@ -138,7 +138,7 @@ pub fn read(alloc: Global, fields: &Fields) -> Result<Inbound, MsgFault>
     }
 }
 
-/// The same, and what the header says, whether or not there is a fault.
+/// Returns the same, with the header, whether or not there is a fault.
 pub fn read_with_header(alloc: Global, fields: &Fields) -> Result<ReadMessage<'_>, AllocError>
     ensures content { IfOk result (λ read. MatchResult read.content (Says fields.now) (IsFaultOf fields.now)) }
     ensures header { IfOk result (λ read. IsHeaderIn fields.now read.header) }

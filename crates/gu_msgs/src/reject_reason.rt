@@ -1,11 +1,11 @@
-//! Why a message is rejected by its session.
+//! Reasons for rejecting a message at session level.
 
 ghost use Rattle.std.specs.Prelude.{◌≡◌};
 ghost use Rattle.gu_msgs.specs.RejectReasons.{number_of};
 
 use gu_fix::SessionRejectReason as FieldReason;
 
-/// Why a message is rejected (FIX: SessionRejectReason, tag 373).
+/// The reason that a message is rejected (FIX: SessionRejectReason, tag 373).
 #[derive(Clone, Copy, Debug)]
 pub enum SessionRejectReason {
     InvalidTagNumber,
@@ -20,7 +20,7 @@ pub enum SessionRejectReason {
 }
 
 impl SessionRejectReason {
-    /// Its value on the wire.
+    /// Returns its value on the wire.
     pub fn number(self) -> u64
         ensures { result ≡ number_of self }
     {

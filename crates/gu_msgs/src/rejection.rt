@@ -1,16 +1,16 @@
-//! Why what a firm asked for isn't in the book.
+//! Why a firm's request isn't in the book.
 
 ghost use Rattle.std.specs.Prelude.{◌≡◌};
 ghost use Rattle.gu_msgs.specs.Rejections.{reason_number, reason_of};
 
 use gu_terms::Refusal;
 
-/// Why a command of a firm's isn't in the book.
+/// The reason that a firm's command isn't in the book.
 #[derive(Clone, Copy, Debug)]
 pub enum Rejection {
     /// The house refused it.
     Refused(Refusal),
-    /// There was no memory for it.
+    /// An allocation failed.
     Memory,
     /// The book is full.
     Full,
@@ -25,7 +25,7 @@ pub enum TradeReportRejectReason {
 }
 
 impl TradeReportRejectReason {
-    /// Its value on the wire.
+    /// Returns its value on the wire.
     pub fn number(self) -> u64
         ensures { result ≡ reason_number self }
     {
@@ -38,7 +38,7 @@ impl TradeReportRejectReason {
 }
 
 impl Rejection {
-    /// Its kind.
+    /// Returns its kind.
     pub fn reason(&self) -> TradeReportRejectReason
         ensures { result ≡ reason_of self.now }
     {

@@ -11,14 +11,14 @@ use crate::inbound::{Inbound, RequestForPositions};
 use crate::outline::Outline;
 use std::alloc::Global;
 
-/// The places of the rows of its table.
+/// The indexes of the rows in its table.
 const POS_REQ_ID_ROW: usize = 10;
 
 const POS_REQ_TYPE_ROW: usize = 11;
 
 const ACCOUNT_ROW: usize = 12;
 
-/// The question's id, and its account.
+/// Returns the question's id and its account.
 #[tactic(auto, using(crate::proofs::OutlineLemmas::of_type), unfolding(crate::specs::Tables::header_rows, crate::specs::Tables::body_rows, crate::specs::Tables::entry_rows))]
 pub fn read_request_for_positions(
     alloc: Global,

@@ -1,9 +1,9 @@
-//! What is read of a message, a row for each tag.
+//! The table of messages that are read: a row for each tag.
 
 ghost use Rattle.std.specs.Prelude.{◌≡◌};
 ghost use Rattle.gu_msgs.specs.Rows.{tag_of, is_required};
 
-/// What the text of a field must be.
+/// The kind of value that a field's text must have.
 #[derive(Clone, Copy)]
 pub enum Kind {
     /// Any bytes.
@@ -12,9 +12,9 @@ pub enum Kind {
     TestReqId,
     /// `Y` or `N`.
     YesOrNo,
-    /// An id of a firm's own.
+    /// An id that a firm gave.
     Id,
-    /// A name of the house's.
+    /// A name that the house gave.
     Name,
     /// A number of lots.
     Lots,
@@ -22,23 +22,23 @@ pub enum Kind {
     Price,
     /// A date in eight digits.
     Date,
-    /// A whole number from one number to another.
+    /// A whole number from the first number to the second.
     Number(u64, u64),
     /// The whole number of an AllocStatus.
     Status,
 }
 
-/// A tag that is read, and what its text must be.
+/// A tag that is read, and the kind of its value.
 #[derive(Clone, Copy)]
 pub enum Row {
-    /// It is required.
+    /// A required tag.
     Required(u32, Kind),
-    /// It may be absent.
+    /// A tag that may be absent.
     Optional(u32, Kind),
 }
 
 impl Row {
-    /// The tag.
+    /// Returns the tag.
     pub fn tag(self) -> u32
         ensures { result ≡ tag_of self }
     {
@@ -47,7 +47,7 @@ impl Row {
         }
     }
 
-    /// Whether the tag is required.
+    /// Returns whether the tag is required.
     pub fn is_required(self) -> bool
         ensures { result ≡ is_required self }
     {

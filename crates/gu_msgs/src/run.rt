@@ -1,4 +1,4 @@
-//! Fields that follow one another in a message.
+//! Consecutive fields of a message.
 
 ghost use Rattle.std.specs.Prelude.{◌≡◌, ◌<◌, ◌≤◌, ◌^◌, length, slice_get, Some, take, drop};
 ghost use Rattle.gu_fix.specs.TagValue.{tag_value};
@@ -6,7 +6,7 @@ ghost use Rattle.gu_fix.specs.TagValue.{tag_value};
 use gu_fix::{Field, Fields};
 use std::marker::Model;
 
-/// Fields that follow one another. To a contract they are the list of their tags and values.
+/// Consecutive fields of a message. To a contract they are the list of their tags and values.
 #[derive(Drop)]
 pub struct Run<'a> {
     fields: &'a Fields,
@@ -28,7 +28,7 @@ impl<'a> Model for Run<'a> {
 }
 
 impl<'a> Run<'a> {
-    /// All of these fields.
+    /// Returns all of these fields.
     pub fn of(fields: &'a Fields) -> Run<'a>
         ensures { result ≡ fields.now }
     {
@@ -39,7 +39,7 @@ impl<'a> Run<'a> {
         }
     }
 
-    /// The same fields once more.
+    /// Returns the same fields again.
     pub fn copy(&self) -> Run<'a>
         ensures { result ≡ self.now }
     {
@@ -50,14 +50,14 @@ impl<'a> Run<'a> {
         }
     }
 
-    /// How many they are.
+    /// Returns the number of fields.
     pub fn len(&self) -> usize
         ensures { result ≡ length self.now }
     {
         self.to - self.from
     }
 
-    /// The one at a place, counted from 0.
+    /// Returns the field at an index, counted from 0.
     pub fn get(&self, index: usize) -> Field<'a>
         requires { index < length self.now }
         ensures { slice_get self.now index ≡ Some (tag_value result.tag result.value.now) }
@@ -66,7 +66,7 @@ impl<'a> Run<'a> {
         self.fields.get(self.to - left)
     }
 
-    /// The first so many of them.
+    /// Returns the first `count` fields.
     pub fn first(&self, count: usize) -> Run<'a>
         requires { count ≤ length self.now }
         ensures first { result ≡ take count self.now }
@@ -79,7 +79,7 @@ impl<'a> Run<'a> {
         }
     }
 
-    /// Those after the first so many.
+    /// Returns the fields after the first `count`.
     pub fn from(&self, count: usize) -> Run<'a>
         requires { count ≤ length self.now }
         ensures { result ≡ drop count self.now }

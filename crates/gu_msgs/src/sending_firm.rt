@@ -1,4 +1,4 @@
-//! Who sent a message that no session carries.
+//! The sender of a message outside a session.
 
 ghost use Rattle.std.specs.Prelude.{◌≡◌, ◌↔◌, IsTrue, List, MatchOption};
 ghost use Rattle.std.specs.Option.{option_map};
@@ -16,7 +16,7 @@ use crate::tables::GREATEST;
 use gu_fix::Fields;
 use gu_terms::FirmId;
 
-/// Whether a message with this MsgSeqNum has a number that a message of a session can have.
+/// Returns whether the text of MsgSeqNum is a number that a message of a session can have.
 fn is_numbered(text: Option<&[u8]>) -> bool
     ensures { IsTrue result ↔ MatchOption (option_map (λ bytes. bytes.now) text.entry) ⊥ (IsNumberWithin 1 greatest) }
 {
@@ -26,7 +26,7 @@ fn is_numbered(text: Option<&[u8]>) -> bool
     }
 }
 
-/// The firm that sent a message with this header, where it is numbered and names one.
+/// Returns the firm that sent a message with this header, if the message is numbered and names one.
 pub fn sender_in(header: &HeaderRef<'_>) -> Option<FirmId>
     ensures { (fields : List TagValue) → IsHeaderIn fields header.now
         → MatchOption result ((firm : FirmOf) → IsSentBy fields firm → ⊥) (λ firm. IsSentBy fields firm) }
@@ -37,7 +37,7 @@ pub fn sender_in(header: &HeaderRef<'_>) -> Option<FirmId>
     FirmId::new(header.sender_comp_id?)
 }
 
-/// The firm that sent a message, where it is numbered and names one.
+/// Returns the firm that sent a message, if the message is numbered and names one.
 pub fn sender(fields: &Fields) -> Option<FirmId>
     ensures { MatchOption result ((firm : FirmOf) → IsSentBy fields.now firm → ⊥) (λ firm. IsSentBy fields.now firm) }
 {

@@ -1,4 +1,4 @@
-//! What messages of the session say, as fields.
+//! The fields of session messages.
 
 ghost use Rattle.std.specs.Prelude.{◌≡◌, ◌++◌, OnOk};
 ghost use Rattle.gu_msgs.specs.WrittenBodies.{business_fields, logon_fields, optional_field, reason_fields, reject_fields};
@@ -13,7 +13,7 @@ use crate::tags::{
 use crate::type_code::TypeCode;
 use std::alloc::AllocError;
 
-/// Appends what a Logon says.
+/// Appends the body of a Logon.
 pub fn push_logon(
     draft: &mut Draft,
     heart_bt_int: u64,
@@ -30,7 +30,7 @@ pub fn push_logon(
     Ok(())
 }
 
-/// Appends the type of a message that is rejected, where it is known.
+/// Appends the type of a rejected message, if it is known.
 fn push_type(draft: &mut Draft, msg_type: &Option<TypeCode>) -> Result<(), AllocError>
     ensures { OnOk result (draft.new ≡ draft.old ++ optional_field REF_MSG_TYPE msg_type.now) }
 {
@@ -40,7 +40,7 @@ fn push_type(draft: &mut Draft, msg_type: &Option<TypeCode>) -> Result<(), Alloc
     }
 }
 
-/// Appends what a Reject says.
+/// Appends the body of a Reject.
 pub fn push_reject(draft: &mut Draft, message: &Reject) -> Result<(), AllocError>
     ensures { OnOk result (draft.new ≡ draft.old ++ reject_fields message.now) }
 {
@@ -52,7 +52,7 @@ pub fn push_reject(draft: &mut Draft, message: &Reject) -> Result<(), AllocError
     draft.push_number(SESSION_REJECT_REASON, message.reason.number())
 }
 
-/// Appends why a message isn't answered by its own kind.
+/// Appends the reason for a BusinessMessageReject.
 fn push_reason(draft: &mut Draft, reason: &BusinessRejectReason) -> Result<(), AllocError>
     ensures { OnOk result (draft.new ≡ draft.old ++ reason_fields reason.now) }
 {
@@ -71,7 +71,7 @@ fn push_reason(draft: &mut Draft, reason: &BusinessRejectReason) -> Result<(), A
     }
 }
 
-/// Appends what a BusinessMessageReject says.
+/// Appends the body of a BusinessMessageReject.
 pub fn push_business_reject(
     draft: &mut Draft,
     message: &BusinessMessageReject,

@@ -1,4 +1,4 @@
-//! Messages of the session.
+//! Session messages.
 
 ghost use Rattle.std.specs.Prelude.{◌≡◌, ◌⊎◌, ◌≤◌, ◌↔◌, IsTrue, MatchResult};
 ghost use Rattle.gu_msgs.specs.Messages.{IsResendRequest, Says};
@@ -14,7 +14,7 @@ use crate::tables::GREATEST;
 use crate::tags::END_SEQ_NO;
 use std::alloc::Global;
 
-/// The id of a TestRequest.
+/// Returns the id of a TestRequest.
 #[tactic(auto, using(crate::proofs::OutlineLemmas::of_type), unfolding(crate::specs::Tables::header_rows, crate::specs::Tables::body_rows, crate::specs::Tables::entry_rows))]
 pub fn read_test_request(alloc: Global, outline: &Outline<'_, '_>) -> Result<Inbound, MsgFault>
     requires shaped { IsShaped kind.TestRequest outline.now }
@@ -25,7 +25,7 @@ pub fn read_test_request(alloc: Global, outline: &Outline<'_, '_>) -> Result<Inb
     Ok(Inbound::TestRequest(TestRequest { test_req_id }))
 }
 
-/// The numbers of a ResendRequest.
+/// Returns the numbers in a ResendRequest.
 #[tactic(auto, unfolding(crate::specs::Tables::header_rows, crate::specs::Tables::body_rows, crate::specs::Tables::entry_rows))]
 fn numbers_asked(outline: &Outline<'_, '_>) -> Result<ResendRequest, Fault>
     requires kind { outline.now.kind ≡ kind.ResendRequest }
@@ -40,14 +40,14 @@ fn numbers_asked(outline: &Outline<'_, '_>) -> Result<ResendRequest, Fault>
     })
 }
 
-/// Whether the last number that is asked for is 0, for all, or isn't below the first.
+/// Returns whether the last number requested is 0, for all, or isn't below the first.
 fn ends_right(request: ResendRequest) -> bool
     ensures { IsTrue result ↔ ((request.end_seq_no ≡ 0) ⊎ (request.begin_seq_no ≤ request.end_seq_no)) }
 {
     request.end_seq_no == 0 || request.begin_seq_no <= request.end_seq_no
 }
 
-/// What a ResendRequest asks for.
+/// Returns the ResendRequest in a message.
 pub fn read_resend_request(outline: &Outline<'_, '_>) -> Result<Inbound, MsgFault>
     requires shaped { IsShaped kind.ResendRequest outline.now }
     requires judged { AreJudged outline.now 10 }
@@ -61,7 +61,7 @@ pub fn read_resend_request(outline: &Outline<'_, '_>) -> Result<Inbound, MsgFaul
     }
 }
 
-/// What a SequenceReset sets.
+/// Returns the SequenceReset in a message.
 #[tactic(auto, using(crate::proofs::OutlineLemmas::of_type), unfolding(crate::specs::Tables::header_rows, crate::specs::Tables::body_rows, crate::specs::Tables::entry_rows))]
 pub fn read_sequence_reset(outline: &Outline<'_, '_>) -> Result<Inbound, MsgFault>
     requires shaped { IsShaped kind.SequenceReset outline.now }
@@ -76,7 +76,7 @@ pub fn read_sequence_reset(outline: &Outline<'_, '_>) -> Result<Inbound, MsgFaul
     }))
 }
 
-/// What a Logon asks for.
+/// Returns the Logon in a message.
 #[tactic(auto, using(crate::proofs::OutlineLemmas::of_type), unfolding(crate::specs::Tables::header_rows, crate::specs::Tables::body_rows, crate::specs::Tables::entry_rows))]
 pub fn read_logon(outline: &Outline<'_, '_>) -> Result<Inbound, MsgFault>
     requires shaped { IsShaped kind.Logon outline.now }

@@ -1,4 +1,4 @@
-//! The shape of a message: tags that are there twice, tags that are missing, and groups.
+//! The shape of a message: repeated tags, missing tags, and groups.
 
 ghost use Rattle.std.specs.Prelude.{◌≡◌, ◌<◌, ◌^◌, ◌==◌, length, IfSome, IsTrue, MatchOption, None, Some, ⊤};
 ghost use Rattle.std.specs.Option.{option_or, option_map};
@@ -22,15 +22,15 @@ use crate::tags::{NO_ALLOCS, NO_EXECS, NO_SIDES};
 use crate::trade_capture_report::NO_SIDES_ROW;
 use crate::whole_number::{is_numeral, number_of};
 
-/// A fault of this tag.
+/// Returns a fault of this tag.
 pub fn fault_at(reason: SessionRejectReason, tag: u32) -> Fault
     ensures { result ≡ fault_at reason tag }
 {
     Fault { tag, reason }
 }
 
-/// Finds the first fields with the tags of these rows, or their first fault: a tag that is there twice, or else a missing one. The
-/// rows are those of the outer level of messages of a type where one is named.
+/// Finds the first fields with the tags of these rows, or their first fault: a repeated tag, or else a missing one. If a type is given, the
+/// rows are those of the outer level of its messages.
 #[inline(always)]
 fn table_fault(
     fields: &Run<'_>,
@@ -52,7 +52,7 @@ fn table_fault(
     }
 }
 
-/// The first fault of the rows of an entry.
+/// Returns the first fault of the rows of an entry.
 fn tags_fault(fields: &Run<'_>, rows: &[Row]) -> Option<Fault>
     requires { IsTable rows.now }
     ensures { result ≡ tags_fault rows.now fields.now }
@@ -61,7 +61,7 @@ fn tags_fault(fields: &Run<'_>, rows: &[Row]) -> Option<Fault>
     table_fault(fields, rows, None, &mut numbers)
 }
 
-/// Whether a counter's number is that of the group's entries.
+/// Returns whether a counter's number is the number of the group's entries.
 fn is_counted(text: &[u8], group: &Run<'_>, first: u32) -> bool
     requires numeral { IsTrue (is_numeral text.now) }
     requires short { length group.now < 2 ^ 64 }
@@ -73,7 +73,7 @@ fn is_counted(text: &[u8], group: &Run<'_>, first: u32) -> bool
     }
 }
 
-/// A counter's fault: its text is no number, or not that of the group's entries.
+/// Returns a counter's fault: its text isn't a number, or isn't the number of the group's entries.
 fn count_fault(counter: u32, text: &[u8], group: &Run<'_>, first: u32) -> Option<Fault>
     requires { length group.now < 2 ^ 64 }
     ensures { result ≡ count_fault counter text.now (length (entries_by first group.now)) }
@@ -88,7 +88,7 @@ fn count_fault(counter: u32, text: &[u8], group: &Run<'_>, first: u32) -> Option
     }
 }
 
-/// The first fault of a group's entries, each in full before the next one.
+/// Returns the first fault of a group's entries, testing each in full before the next.
 fn entries_fault(group: &Run<'_>, first: u32, rows: &[Row]) -> Option<Fault>
     requires { IsTable rows.now }
     ensures { result ≡ entries_fault rows.now (entries_by first group.now) }
@@ -102,7 +102,7 @@ fn entries_fault(group: &Run<'_>, first: u32, rows: &[Row]) -> Option<Fault>
     None
 }
 
-/// The first fault of a group: its counter's, or else its entries'.
+/// Returns the first fault of a group: its counter's, or else its entries'.
 #[inline(never)]
 fn counted_fault(counter: u32, text: &[u8], group: &Run<'_>, rows: &[Row]) -> Option<Fault>
     requires short { length group.now < 2 ^ 64 }
@@ -116,7 +116,7 @@ fn counted_fault(counter: u32, text: &[u8], group: &Run<'_>, rows: &[Row]) -> Op
     }
 }
 
-/// The first fault of the group with this counter, which is first at the field with this number.
+/// Returns the first fault of the group with this counter, given the number of the counter's first field.
 #[inline(always)]
 fn group_fault(fields: &Run<'_>, msg_type: MsgType, counter: u32, number: usize) -> Option<Fault>
     requires { IsStanding fields.now counter number }
@@ -132,7 +132,7 @@ fn group_fault(fields: &Run<'_>, msg_type: MsgType, counter: u32, number: usize)
     }
 }
 
-/// The first fault of a message's groups, in order, where its outer tags are first at these fields.
+/// Returns the first fault of a message's groups, in order, given the numbers of the first fields with its outer tags.
 #[inline(always)]
 fn groups_fault(fields: &Run<'_>, msg_type: MsgType, numbers: &Standings) -> Option<Fault>
     requires { AreStandings (outer_rows msg_type) fields.now numbers.now }
@@ -164,7 +164,7 @@ fn typed_fault(fields: &Run<'_>, msg_type: MsgType, numbers: &mut Standings) -> 
     }
 }
 
-/// The same. Reports, of which there are more than of all other messages, have a walk of their own, in which their table is known.
+/// Returns the same. Reports, which are more frequent than all other messages, have a pass of their own in which their table is known.
 #[inline(always)]
 pub fn shape_fault(fields: &Run<'_>, msg_type: MsgType, numbers: &mut Standings) -> Option<Fault>
     ensures fault { MatchOption result (shape_fault msg_type fields.now ≡ None) (λ fault. shape_fault msg_type fields.now ≡ Some fault) }

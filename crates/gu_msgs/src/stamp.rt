@@ -1,4 +1,4 @@
-//! Moments with their texts.
+//! Moments and their texts.
 
 ghost use Rattle.std.specs.Prelude.{◌≡◌};
 ghost use Rattle.gu_msgs.specs.MomentTexts.{WritesMoment};
@@ -7,7 +7,7 @@ use crate::moment_texts::moment_text;
 use gu_terms::Moment;
 use std::marker::Model;
 
-/// A moment and its text, made once for all messages of that moment. To a contract it is the moment.
+/// A moment and its text, made once for all messages at that moment. To a contract it is the moment.
 #[derive(Drop)]
 pub struct Stamp {
     moment: Moment,
@@ -27,7 +27,7 @@ impl Model for Stamp {
 }
 
 impl Stamp {
-    /// A moment, and its text.
+    /// Returns a moment with its text.
     pub fn new(moment: Moment) -> Self
         ensures { result ≡ moment }
     {
@@ -37,14 +37,14 @@ impl Stamp {
         }
     }
 
-    /// The moment.
+    /// Returns the moment.
     pub fn moment(&self) -> Moment
         ensures { result ≡ self.now }
     {
         self.moment
     }
 
-    /// Its text.
+    /// Returns its text.
     pub(crate) fn text(&self) -> [u8; 21]
         ensures { WritesMoment self.now result }
     {

@@ -1,9 +1,9 @@
-//! What the header of a message says.
+//! The header of a message.
 
-/// What a header says (FIX: Standard Header), as bytes.
+/// The contents of a header (FIX: Standard Header), as bytes.
 #[derive(Drop)]
 pub struct Header {
-    /// The type: the first that is there.
+    /// The type: the first MsgType.
     pub msg_type: Option<Vec<u8>>,
     pub sender_comp_id: Option<Vec<u8>>,
     pub target_comp_id: Option<Vec<u8>>,
@@ -11,10 +11,10 @@ pub struct Header {
     pub poss_dup_flag: Option<Vec<u8>>,
 }
 
-/// The same, where its parts lie in the message.
+/// The same, as references into the message.
 #[derive(Clone, Copy)]
 pub struct HeaderRef<'a> {
-    /// The type: the first that is there.
+    /// The type: the first MsgType.
     pub msg_type: Option<&'a [u8]>,
     pub sender_comp_id: Option<&'a [u8]>,
     pub target_comp_id: Option<&'a [u8]>,

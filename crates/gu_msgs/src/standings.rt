@@ -1,4 +1,4 @@
-//! At which fields the tags of a table are first.
+//! The first field with each tag of a table.
 
 ghost use Rattle.std.specs.Prelude.{◌≡◌, ◌≤◌, length, false, IfSome, List, MatchOption, None, Some, ⊤};
 ghost use Rattle.gu_fix.specs.TagValue.{TagValue};
@@ -12,16 +12,16 @@ use crate::places::row_of;
 use crate::row::Row;
 use crate::run::Run;
 
-/// The rows that a table has at most.
+/// The most rows in a table.
 const MOST_ROWS: usize = 20;
 
-/// For each row of a table the number of the first field with its tag, from 1, or 0 where no field has it.
+/// For each row of a table, the number of the first field with its tag, counted from 1; 0 if there is none.
 pub type Standings = [usize; MOST_ROWS];
 
-/// The standings where no field has a tag of the table.
+/// The standings if no field has a tag of the table.
 pub const NONE_STANDS: Standings = [0; MOST_ROWS];
 
-/// Notes the number of the first field with a tag, unless one was noted before.
+/// Records the number of the first field with a tag, unless one was recorded before.
 #[inline(always)]
 fn note(
     rows: &[Row],
@@ -44,8 +44,8 @@ fn note(
     true
 }
 
-/// Finds the first fields with the tags of these rows, unless a tag is repeated: then the leftmost that is. The rows are those of
-/// the outer level of messages of a type where one is named.
+/// Finds the first fields with the tags of these rows, unless a tag is repeated: then returns the leftmost such tag. If a type is given,
+/// the rows are those of the outer level of its messages.
 #[inline(always)]
 pub fn standings(
     fields: &Run<'_>,
@@ -69,7 +69,7 @@ pub fn standings(
     None
 }
 
-/// The first tag of these rows that is required and missing.
+/// Returns the first required tag of these rows that is missing.
 #[inline(always)]
 pub fn missing(rows: &[Row], numbers: &Standings) -> Option<u32>
     requires { length rows.now ≤ 20 }
@@ -83,7 +83,7 @@ pub fn missing(rows: &[Row], numbers: &Standings) -> Option<u32>
     None
 }
 
-/// What follows the field with this number.
+/// Returns the fields after the one with this number.
 pub fn fields_after<'a>(fields: &Run<'a>, number: usize) -> Run<'a>
     requires { number ≤ length fields.now }
     ensures { result ≡ fields_after fields.now number }
@@ -94,7 +94,7 @@ pub fn fields_after<'a>(fields: &Run<'a>, number: usize) -> Run<'a>
     fields.from(number)
 }
 
-/// The value of the field with this number.
+/// Returns the value of the field with this number.
 pub fn value_numbered<'a>(fields: &Run<'a>, number: usize) -> Option<&'a [u8]>
     requires { number ≤ length fields.now }
     ensures { MatchOption result (value_numbered fields.now number ≡ None) (λ value. value_numbered fields.now number ≡ Some value.now) }

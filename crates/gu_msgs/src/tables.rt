@@ -17,10 +17,10 @@ use crate::tags::{
 };
 use gu_fix::{BEGIN_STRING, BODY_LENGTH, CHECK_SUM, MSG_TYPE};
 
-/// The greatest whole number of a message.
+/// The greatest whole number in a message.
 pub const GREATEST: u64 = 1_000_000_000;
 
-/// A table: the rows of the header and CheckSum, and after them a type's own.
+/// Makes a table: the rows of the header and CheckSum, followed by a type's own.
 macro_rules! table {
     ($($row:expr),* $(,)?) => {
         [
@@ -39,7 +39,7 @@ macro_rules! table {
     };
 }
 
-/// How many rows the header has.
+/// The number of rows in the header.
 pub const HEADER_ROWS: usize = 10;
 
 const HEADER: [Row; HEADER_ROWS] = table![];
@@ -102,7 +102,7 @@ const EXECS: [Row; 1] = [Required(EXEC_ID, Id)];
 
 const ALLOCS: [Row; 2] = [Required(ALLOC_ACCOUNT, Name), Required(ALLOC_QTY, Lots)];
 
-/// The tags of the header and CheckSum.
+/// Returns the tags of the header and CheckSum.
 #[tactic(auto, unfolding(crate::specs::Tables::header_rows))]
 pub fn header_rows() -> &'static [Row]
     ensures { result.now ≡ header_rows }
@@ -110,7 +110,7 @@ pub fn header_rows() -> &'static [Row]
     &HEADER
 }
 
-/// The tags of the header, and then those of a type's own.
+/// Returns the tags of the header, followed by the type's own.
 #[tactic(auto, unfolding(crate::specs::Tables::header_rows, crate::specs::Tables::body_rows))]
 #[inline(always)]
 pub fn outer_rows(msg_type: MsgType) -> &'static [Row]
@@ -130,7 +130,7 @@ pub fn outer_rows(msg_type: MsgType) -> &'static [Row]
     }
 }
 
-/// The tags of an entry of the group with this counter, none where the tag counts nothing.
+/// Returns the tags of an entry of the group with this counter; none if the tag counts nothing.
 #[tactic(auto, unfolding(crate::specs::Tables::entry_rows))]
 #[inline(always)]
 pub fn entry_rows(counter: u32) -> &'static [Row]

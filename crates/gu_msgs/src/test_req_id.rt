@@ -1,4 +1,4 @@
-//! The ids of TestRequests.
+//! Ids of TestRequests.
 
 ghost use Rattle.std.specs.Prelude.{◌≡◌, ◌↔◌, IfOk, IfSome, IsSome, IsTrue};
 ghost use Rattle.gu_fix.specs.Encoding.{has_soh};
@@ -10,7 +10,7 @@ use std::marker::Model;
 /// The byte that ends a field.
 const SOH: u8 = 1;
 
-/// The bytes that the id of a TestRequest has at most.
+/// The most bytes in the id of a TestRequest.
 const LONGEST_TEST_REQ_ID: usize = 1024;
 
 /// The id of a TestRequest (FIX: TestReqID, tag 112): 1 to 1,024 bytes, none of them SOH. To a contract it is these bytes.
@@ -31,14 +31,14 @@ impl Model for TestReqId {
     ghost invariant = { λ it. IsTestReqId it.bytes.items };
 }
 
-/// Whether SOH is among bytes.
+/// Returns whether the bytes contain SOH.
 fn contains_soh(bytes: &[u8]) -> bool
     ensures { result ≡ has_soh bytes.now }
 {
     bytes.contains(&SOH)
 }
 
-/// Whether bytes are the id of a TestRequest.
+/// Returns whether bytes are the id of a TestRequest.
 pub fn is_test_req_id(bytes: &[u8]) -> bool
     ensures { IsTrue result ↔ IsTestReqId bytes.now }
 {
@@ -46,7 +46,7 @@ pub fn is_test_req_id(bytes: &[u8]) -> bool
 }
 
 impl TestReqId {
-    /// The id with these bytes, where they are one.
+    /// Returns the id with these bytes, if they are valid.
     pub fn new(alloc: Global, bytes: &[u8]) -> Result<Option<Self>, AllocError>
         ensures sound { IfOk result (λ id. IsSome id ↔ IsTestReqId bytes.now) }
         ensures same { IfOk result (λ id. IfSome id (λ it. it ≡ bytes.now)) }
@@ -58,7 +58,7 @@ impl TestReqId {
         Ok(Some(TestReqId { bytes }))
     }
 
-    /// Its bytes.
+    /// Returns its bytes.
     pub fn get(&self) -> &[u8]
         ensures bytes { result.now ≡ self.now }
         ensures sound { IsTestReqId self.now }

@@ -18,7 +18,7 @@ use crate::tags::{ACCOUNT, NO_SIDES, SIDE};
 use gu_terms::{AccountId, Id, Side};
 use std::alloc::Global;
 
-/// The places of the rows of its table.
+/// The indexes of the rows in its table.
 const TRADE_REPORT_ID_ROW: usize = 10;
 
 const TRADE_REPORT_TRANS_TYPE_ROW: usize = 11;
@@ -37,7 +37,7 @@ const TRADE_DATE_ROW: usize = 17;
 
 pub const NO_SIDES_ROW: usize = 18;
 
-/// The side and the account that an entry says.
+/// Returns the side and the account in an entry.
 fn entry_side(entry: &Run<'_>) -> Result<(Side, AccountId), Fault>
     requires { tags_fault (entry_rows NO_SIDES) entry.now ≡ None }
     ensures { ReadsEntry (entry_rows NO_SIDES) entry.now (λ s. SaysSide entry.now s.0 s.1) result }
@@ -47,7 +47,7 @@ fn entry_side(entry: &Run<'_>) -> Result<(Side, AccountId), Fault>
     Ok((side, account))
 }
 
-/// The side of a report, and its account.
+/// Returns the side of a report and its account.
 #[tactic(auto, unfolding(crate::specs::Tables::header_rows, crate::specs::Tables::body_rows, crate::specs::Tables::entry_rows))]
 fn one_side(outline: &Outline<'_, '_>) -> Result<(Side, AccountId), Fault>
     requires kind { outline.now.kind ≡ kind.TradeCaptureReport }
@@ -57,7 +57,7 @@ fn one_side(outline: &Outline<'_, '_>) -> Result<(Side, AccountId), Fault>
     entry_side(&outline.only_entry(NO_SIDES_ROW, SIDE)?)
 }
 
-/// What a report says.
+/// Returns the report in a message.
 #[tactic(auto, using(crate::proofs::OutlineLemmas::of_type), unfolding(crate::specs::Tables::header_rows, crate::specs::Tables::body_rows, crate::specs::Tables::entry_rows))]
 pub fn read_trade_capture_report(
     alloc: Global,

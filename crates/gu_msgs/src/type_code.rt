@@ -1,4 +1,4 @@
-//! The codes of messages' types.
+//! Codes of message types.
 
 ghost use Rattle.std.specs.Prelude.{◌≡◌, ◌↔◌, IfSome, IsSome, IsTrue};
 ghost use Rattle.gu_msgs.specs.MsgTypes.{is_type_text};
@@ -7,7 +7,7 @@ use crate::msg_type::is_type_text;
 use gu_terms::Padded;
 use std::marker::Model;
 
-/// The bytes that the code of a type has at most.
+/// The most bytes in the code of a type.
 const LONGEST_CODE: usize = 3;
 
 /// The code of a message's type (FIX: MsgType, tag 35): one to three letters or digits. To a contract it is these bytes.
@@ -31,7 +31,7 @@ impl Model for TypeCode {
 }
 
 impl TypeCode {
-    /// The code with these bytes, where they have the form of one.
+    /// Returns the code with these bytes, if they have the form of one.
     pub fn new(code: &[u8]) -> Option<Self>
         ensures sound { IsSome result ↔ IsTrue (is_type_text code.now) }
         ensures same { IfSome result (λ it. it ≡ code.now) }
@@ -44,7 +44,7 @@ impl TypeCode {
         })
     }
 
-    /// Its bytes.
+    /// Returns its bytes.
     pub fn get(&self) -> &[u8]
         ensures code { result.now ≡ self.now }
         ensures sound { IsTrue (is_type_text self.now) }

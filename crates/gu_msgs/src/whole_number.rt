@@ -7,14 +7,14 @@ ghost use Rattle.gu_msgs.specs.Values.{is_numeral};
 
 use gu_terms::are_digits;
 
-/// Whether a text is digits alone, at least one.
+/// Returns whether a text consists of digits, at least one.
 pub fn is_numeral(text: &[u8]) -> bool
     ensures { result ≡ is_numeral text.now }
 {
     !text.is_empty() && are_digits(text)
 }
 
-/// The number with one more digit after it.
+/// Returns the number followed by one more digit.
 fn with_digit(number: u64, digit: u8) -> Option<u64>
     requires { 48 ≤ digit }
     ensures { MatchOption result (2 ^ 64 ≤ 10 * number + (digit - 48)) (λ n. n ≡ 10 * number + (digit - 48)) }
@@ -25,7 +25,7 @@ fn with_digit(number: u64, digit: u8) -> Option<u64>
     }
 }
 
-/// The number that a numeral writes, where it has 64 bits.
+/// Returns the value of a numeral, if it fits in 64 bits.
 pub fn number_of(text: &[u8]) -> Option<u64>
     requires { IsTrue (is_numeral text.now) }
     ensures { MatchOption result (2 ^ 64 ≤ digits_value 10 text.now) (λ n. n ≡ digits_value 10 text.now) }
@@ -40,10 +40,10 @@ pub fn number_of(text: &[u8]) -> Option<u64>
     Some(number)
 }
 
-/// The digits of a number that is short.
+/// The most digits in a short number.
 const FEW: usize = 9;
 
-/// The number that a short numeral writes, and none where the text is no such numeral.
+/// Returns the value of a short numeral, or None if the text isn't one.
 pub fn short_number(text: &[u8]) -> Option<u64>
     ensures { IfSome result (IsNumber text.now) }
 {

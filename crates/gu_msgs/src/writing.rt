@@ -1,4 +1,4 @@
-//! Fields from messages.
+//! Writing messages as fields.
 
 ghost use Rattle.std.specs.Prelude.{◌≡◌, ◌∷◌, ◌++◌, [], List, None, IfOk, IsTrue, OnOk, codes};
 ghost use Rattle.gu_fix.specs.Encoding.{fault_of, fields_of_message, message_of};
@@ -29,7 +29,7 @@ use std::alloc::{AllocError, Global};
 const HOUSE: &[u8] = b"GIVEUP";
 
 impl Application {
-    /// The code of its type.
+    /// Returns the code of its type.
     fn code(&self) -> &'static str
         ensures code { result.now ≡ application_code self.now }
         ensures plain { IsTrue (is_plain result.now) }
@@ -47,7 +47,7 @@ impl Application {
 }
 
 impl Body {
-    /// The code of its type.
+    /// Returns the code of its type.
     fn code(&self) -> &'static str
         ensures code { result.now ≡ body_code self.now }
         ensures plain { IsTrue (is_plain result.now) }
@@ -73,7 +73,7 @@ fn push_resend_request(draft: &mut Draft, from: u64) -> Result<(), AllocError>
     draft.push_number(END_SEQ_NO, 0)
 }
 
-/// Appends what takes the place of messages up to a number.
+/// Appends a gap fill for the messages up to a number.
 fn push_gap_fill(draft: &mut Draft, to: u64) -> Result<(), AllocError>
     ensures { OnOk result (draft.new ≡ draft.old ++ tag_value GAP_FILL_FLAG (codes "Y") ∷ number_field NEW_SEQ_NO to ∷ []) }
 {
@@ -81,7 +81,7 @@ fn push_gap_fill(draft: &mut Draft, to: u64) -> Result<(), AllocError>
     draft.push_number(NEW_SEQ_NO, to)
 }
 
-/// Appends what an application message says.
+/// Appends the body of an application message.
 fn push_application(draft: &mut Draft, message: &Application) -> Result<(), AllocError>
     ensures { OnOk result (draft.new ≡ draft.old ++ application_fields message.now) }
 {
@@ -96,7 +96,7 @@ fn push_application(draft: &mut Draft, message: &Application) -> Result<(), Allo
     }
 }
 
-/// Appends what a message says.
+/// Appends the body of a message.
 fn push_body(draft: &mut Draft, body: &Body) -> Result<(), AllocError>
     ensures { OnOk result (draft.new ≡ draft.old ++ body_fields body.now) }
 {
@@ -127,7 +127,7 @@ fn push_marks(draft: &mut Draft, first: Option<Moment>) -> Result<(), AllocError
     Ok(())
 }
 
-/// Appends the fields of a message to none, in order.
+/// Appends the fields of a message, in order, to an empty draft.
 #[inline(always)]
 fn push_message(
     draft: &mut Draft,
@@ -147,8 +147,8 @@ fn push_message(
     push_body(draft, message.body)
 }
 
-/// Writes a message over what a draft had, with the moment of its sending. Its fields can be encoded as a whole message, of 65,536 bytes
-/// at most, and are read back.
+/// Replaces the contents of a draft by a message with its sending time. Its fields can be encoded as a whole message of at most 65,536
+/// bytes, and are read back.
 pub fn write_over(
     draft: &mut Draft,
     message: &OutboundRef<'_>,
@@ -167,7 +167,7 @@ pub fn write_over(
     Ok(())
 }
 
-/// The fields of a message. They can be encoded as a whole message, of 65,536 bytes at most, and are read back.
+/// Returns the fields of a message. They can be encoded as a whole message of at most 65,536 bytes, and are read back.
 pub fn write(alloc: Global, message: &Outbound) -> Result<Fields, AllocError>
     ensures written { IfOk result (λ fields. IsWritten message.now fields) }
     ensures encodable { IfOk result (λ fields. fault_of fields ≡ None) }

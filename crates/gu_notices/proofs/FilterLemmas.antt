@@ -18,15 +18,15 @@ place_few firm = go firm.name 0 (omega arith)
     go [] place few = few
     go (byte ∷ bytes) place few = go bytes (next_place place byte) (mod_below (place * 17 + byte) 64 (omega arith))
 
--- a set of all places may hold every firm
+-- a set with all bits may hold every firm
 pub holds-every : (firm : FirmId) → may_hold (record { places = 2 ^ 64 - 1 }) firm ≡ true
 holds-every firm = ap (λ (bit : ℕ). not (bit == 0)) (bit_at_ones 64 (place_of firm) (place_few firm))
 
--- with a place, the firms of the place
+-- a set with a bit holds the firms with that bit
 pub holds-added : (places place : ℕ) (firm : FirmId) → place ≡ place_of firm → may_hold (record { places = bit_or places (1 * 2 ^ place % 2 ^ 64) }) firm ≡ true
 holds-added places place firm is = rw is (ap (λ (bit : ℕ). not (bit == 0)) (bit_at_set_same w64 places (place_of firm) (place_few firm)))
 
--- with more places, the firms that were held before
+-- with more bits, the firms that were held before are still held
 pub holds-still : (places more : ℕ) (firm : FirmId) → may_hold (record { places = places }) firm ≡ true → may_hold (record { places = bit_or places more }) firm ≡ true
 holds-still places more firm held =
     ap (λ (bit : ℕ). not (bit == 0)) (bit_at_or places more (place_of firm)) ∙ go (bit_at places (place_of firm)) (bit_at more (place_of firm)) held

@@ -1,4 +1,4 @@
--- What is told, one thing after another.
+-- Notices collected one after another.
 use Rattle.std.proofs.Common.{◌≡◌, ℕ, zero, suc, ◌+◌, ◌-◌, ◌<◌, ◌≤◌, ◌++◌, List, [], ◌∷◌, length, take, drop, get_or, None, Some, Result, Ok, Err, refl, sym, ap, ◌∙◌, arith, append-nil, append_assoc, subst, nat_lt, inl, inr}
 use Rattle.std.specs.List.{flat_map, range_with_len}
 use Rattle.std.specs.Prelude.{slice_get}
@@ -20,23 +20,23 @@ use Rattle.gu_notices.specs.Telling.{IsTold}
 use Rattle.gu_notices.specs.declared.register.Register.{Register as Kept}
 use Rattle.gu_notices.specs.declared.mailbox.Mailbox.{Mailbox}
 
--- things were told so far
+-- these notices were collected so far
 abbrev pub IsToldSoFar : Mailbox → Mailbox → List Told → Type 0
 IsToldSoFar old new told = IsTold {T = Unit {0}} {E = Unit {0}} old new (Ok tt) told
 
--- nothing was
+-- none were
 pub told-none : (box : Mailbox) → IsToldSoFar box box []
 told-none box = record { firm = refl; list = sym (append-nil box.list.items) }
 
--- nor is anything, where none of it is for the firm
+-- nor are any that aren't for the firm
 pub told-skipped : (box : Mailbox) (told : List Told) → told_to box.firm told ≡ [] → IsToldSoFar box box told
 told-skipped box told none = record { firm = refl; list = sym (ap (λ (list : List Notice). box.list.items ++ list) none ∙ append-nil box.list.items) }
 
--- where none were kept before, those of the firm are kept
+-- if none were collected before, the firm's are collected
 pub told-so-far : (old new : Mailbox) (told : List Told) → old.list.items ≡ [] → IsToldSoFar old new told → new.list.items ≡ told_to old.firm told
 told-so-far old new told none is = is.list ∙ ap (λ (list : List Notice). list ++ told_to old.firm told) none
 
--- and then others
+-- followed by others
 pub told-then : {T E : Type 0} (old mid new : Mailbox) (result : Result T E) (before after : List Told) → IsToldSoFar old mid before → IsTold mid new result after → IsTold old new result (before ++ after)
 told-then old mid new (Err error) before after first then = record { firm = then.firm ∙ first.firm; list = tt }
 told-then old mid new (Ok value) before after first then = record {
@@ -47,15 +47,15 @@ told-then old mid new (Ok value) before after first then = record {
       ∙ ap (λ (list : List Notice). old.list.items ++ list) (sym (told_to-append old.firm before after));
 }
 
--- where an allocation failed, the firm stays
+-- if an allocation failed, the firm is unchanged
 pub told-refused : {T E : Type 0} (old mid new : Mailbox) (error : E) (before after told : List Told) → IsToldSoFar old mid before → IsTold {T = T} mid new (Err error) after → IsTold {T = T} old new (Err error) told
 told-refused old mid new error before after told first then = record { firm = then.firm ∙ first.firm; list = tt }
 
--- the same things
+-- the same notices
 pub told-same : {T E : Type 0} (old new : Mailbox) (result : Result T E) (one two : List Told) → one ≡ two → IsTold old new result one → IsTold old new result two
 told-same old new result one two same told = subst (IsTold old new result) same told
 
--- what each of some things tells, and one more
+-- the notices of some things, and of one more
 pub flat_map-next : {X : Type 0} (tell : X → List Told) (items : List X) (i : ℕ) {item : X} → i < length items → item ≡ get_or items i item
     → flat_map tell (take i items) ++ tell item ≡ flat_map tell (take (i + 1) items)
 flat_map-next {X} tell items i {item} within is =
@@ -63,14 +63,14 @@ flat_map-next {X} tell items i {item} within is =
     ∙ flat_map-append tell (take i items) (item ∷ [])
     ∙ ap (λ (told : List Told). flat_map tell (take i items) ++ told) (append-nil (tell item)))
 
--- what each of some numbers tells, and one more
+-- the notices of some numbers, and of one more
 pub flat_map-range : (tell : ℕ → List Told) (first n : ℕ) → flat_map tell (range_with_len first n) ++ tell (first + n) ≡ flat_map tell (range_with_len first (suc n))
 flat_map-range tell first n =
     sym (ap (flat_map tell) (range_with_len-suc first n)
     ∙ flat_map-append tell (range_with_len first n) ((first + n) ∷ [])
     ∙ ap (λ (told : List Told). flat_map tell (range_with_len first n) ++ told) (append-nil (tell (first + n))))
 
--- what two reports tell
+-- the notices of two reports
 pub told_on-two : (number : ℕ) (side : Side) (first second : Report) → told_on number side (first ∷ []) ++ told_on number side (second ∷ []) ≡ told_on number side (first ∷ second ∷ [])
 told_on-two number side first second =
     elim (cases_Bool (same_side first.side side)) [
@@ -78,7 +78,7 @@ told_on-two number side first second =
       | inr miss ↦ rw miss refl
     ]
 
--- a number beyond those of offers is that of none
+-- no offer has a number beyond the last
 pub no_line : (kept : Kept) (n : ℕ) → length kept.offers.now ≤ 16000000 → (IsOfferNo n → ⊥) → told_of_line (register_in kept) n ≡ []
 no_line kept zero few other = refl
 no_line kept (suc place) few other =
@@ -89,7 +89,7 @@ no_line kept (suc place) few other =
           rw none refl
     ]
 
--- what entries tell, and one more
+-- the notices of entries, and of one more
 pub told_from-next : (register : Register) (first : ℕ) (entries : List Entry) (i : ℕ) {entry : Entry} → i < length entries → entry ≡ get_or entries i entry
     → told_from register first (take i entries) ++ told_by register (first + i) entry ≡ told_from register first (take (i + 1) entries)
 told_from-next register first entries i {entry} within is =
@@ -107,7 +107,7 @@ told_from-next register first entries i {entry} within is =
         let size : length (take i entries) ≡ i = omega (arith, length-take i entries, within) in
         ap (λ (k : ℕ). told_from register first (take i entries) ++ told_by register (first + k) entry) size
 
--- what the entries from a place on tell, and the next of them
+-- the notices of the entries from an index on, and of the next
 pub told_at : (register : Register) (start : ℕ) (history : List Entry) (place : ℕ) (entry : Entry) → start ≤ place → slice_get history place ≡ Some entry
     → told_from register (start + 1) (take (place - start) (drop start history)) ++ told_by register (place + 1) entry
     ≡ told_from register (start + 1) (take (place + 1 - start) (drop start history))
@@ -123,7 +123,7 @@ told_at register start history place entry behind is =
     ∙ told_from-next register (start + 1) rest i (omega (arith, length-drop start history, inside, behind)) there
     ∙ ap (λ (n : ℕ). told_from register (start + 1) (take n rest)) next
 
--- before the first of them nothing was told
+-- before the first of them there were no notices
 pub told-nothing : (box : Mailbox) (register : Register) (start : ℕ) (history : List Entry)
     → IsToldSoFar box box (told_from register (start + 1) (take (start - start) (drop start history)))
 told-nothing box register start history =

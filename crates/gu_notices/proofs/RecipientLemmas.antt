@@ -1,4 +1,4 @@
--- Which firms entries may tell something.
+-- The firms that entries may notify.
 use Rattle.std.proofs.Common.{◌≡◌, ◌<◌, ◌≤◌, ◌+◌, ℕ, zero, suc, true, false, List, [], ◌∷◌, ◌++◌, length, Option, None, Some, IfSome, refl, sym, ap, ◌∙◌, arith, append-nil, append_assoc, subst, inl, inr, unwrap_or}
 use Rattle.std.specs.List.{AllByRecursion}
 use Rattle.std.specs.Option.{option_map, option_map_or}
@@ -32,22 +32,22 @@ use Rattle.gu_notices.specs.declared.firm_filter.FirmFilter.{FirmFilter}
 
 -- ---- what a set may hold
 
--- what the one may hold, one that keeps it may hold too
+-- every firm that one set may hold, a larger one may hold too
 pub holds-more : (old new : FirmFilter) → Keeps old new → (told : List Told) → Holds old told → Holds new told
 holds-more old new keeps [] all = tt
 holds-more old new keeps (t ∷ told) all = (keeps t.firm all.0, holds-more old new keeps told all.1)
 
--- what is told first, and then more
+-- recipients of some notices, and of more
 pub holds-append : (firms : FirmFilter) (before after : List Told) → Holds firms before → Holds firms after → Holds firms (before ++ after)
 holds-append firms [] after first then = then
 holds-append firms (t ∷ before) after first then = (first.0, holds-append firms before after first.1 then)
 
--- a set of all firms may hold whoever is told something
+-- a set of all firms may hold every recipient
 pub holds-all : (firms : FirmFilter) → ((firm : FirmId) → may_hold firms firm ≡ true) → (told : List Told) → Holds firms told
 holds-all firms all [] = tt
 holds-all firms all (t ∷ told) = (all t.firm, holds-all firms all told)
 
--- to a firm that a set doesn't hold nothing is told
+-- a firm that a set doesn't hold gets none of the notices
 pub told_to-nobody : (firms : FirmFilter) (firm : FirmId) (told : List Told) → has_place firms (place_of firm) ≡ false → Holds firms told → told_to firm told ≡ []
 told_to-nobody firms firm [] without all = refl
 told_to-nobody firms firm (t ∷ told) without all =
@@ -60,7 +60,7 @@ told_to-nobody firms firm (t ∷ told) without all =
       | inr miss ↦ rw miss (told_to-nobody firms firm told without all.1)
     ]
 
--- ---- whom things tell
+-- ---- recipients
 
 -- the firm that carries an offer's account
 carrier-held : (reference : Tables) (o : Offer) (firms : FirmFilter) (notice : Notice) → IfSome (carrier_in reference o) (λ (firm : FirmId). may_hold firms firm ≡ true) → Holds firms (to_carrier reference o notice)
@@ -103,7 +103,7 @@ on-held firms number side (r ∷ reports) held =
       | inr miss ↦ rw miss (on-held firms number side reports held.1)
     ]
 
--- where two are two at most, there is none after them
+-- if two are at most two, there is none after them
 no_third : (first second : Report) (more : List Report) → length (first ∷ second ∷ more) ≤ 2 → more ≡ []
 no_third first second [] few = refl
 no_third first second (third ∷ more) few = absurd (omega (arith, few))
@@ -136,7 +136,7 @@ take-held later t firms held =
 
 -- ---- later entries
 
--- a match id has two reports at most
+-- a match id has at most two reports
 pub few_sides : (reports : List Report) → are_sides reports ≡ true → length reports ≤ 2
 few_sides [] are = omega arith
 few_sides (first ∷ []) are = omega arith
@@ -147,7 +147,7 @@ few_sides (first ∷ second ∷ third ∷ more) are = absurd (cc)
 pub grows-self : (register : Register) → ((id : Id) → length (with_match id register.reports) ≤ 2) → Grows register register
 grows-self register few = record { reference = refl; reports = ([], sym (append-nil register.reports)); sides = few; offers = λ n o is. is }
 
--- more was added, and then more
+-- more was added, and then still more
 grows-on : (register later last : Register) → Grows register later → Grows later last → Grows register last
 grows-on register later last first then = record {
   reference = then.reference ∙ first.reference;
@@ -159,7 +159,7 @@ grows-on register later last first then = record {
   offers = λ n o is. then.offers n o (first.offers n o is);
 }
 
--- whom entries tell, later
+-- the recipients of entries, later
 pub recipients-later : (register later : Register) → Grows register later → (history : List Entry) (recipients : List FirmFilter) → AreRecipients register history recipients → AreRecipients later history recipients
 recipients-later register later grows history [] are = tt
 recipients-later register later grows [] (firms ∷ recipients) are = absurd are
@@ -168,13 +168,13 @@ recipients-later register later grows (entry ∷ history) (firms ∷ recipients)
   recipients-later register later grows history recipients are.1,
 )
 
--- and where more entries come
+-- and when there are more entries
 pub recipients-longer : (register : Register) (history more : List Entry) (recipients : List FirmFilter) → AreRecipients register history recipients → AreRecipients register (history ++ more) recipients
 recipients-longer register history more [] are = tt
 recipients-longer register [] more (firms ∷ recipients) are = absurd are
 recipients-longer register (entry ∷ history) more (firms ∷ recipients) are = (are.0, recipients-longer register history more recipients are.1)
 
--- whom one entry more tells
+-- the recipients of one more entry
 pub recipients-push : (register : Register) (history : List Entry) (recipients : List FirmFilter) (entry : Entry) (firms : FirmFilter) → AreRecipients register history recipients
     → slice_get history (length recipients) ≡ Some entry → Covers register entry firms → AreRecipients register history (recipients ++ firms ∷ [])
 recipients-push register [] [] entry firms are at covers = cc
@@ -182,7 +182,7 @@ recipients-push register [] (some ∷ recipients) entry firms are at covers = ab
 recipients-push register (one ∷ history) [] entry firms are at covers = (subst (λ (e : Entry). Covers register e firms) (sym (λ i. unwrap_or (at i) one)) covers, tt)
 recipients-push register (one ∷ history) (some ∷ recipients) entry firms are at covers = (are.0, recipients-push register history recipients entry firms are.1 at covers)
 
--- whom the entry at a place tells
+-- the recipients of the entry at an index
 pub recipients-at : (register : Register) (history : List Entry) (recipients : List FirmFilter) (place : ℕ) (entry : Entry) (firms : FirmFilter) → AreRecipients register history recipients
     → slice_get history place ≡ Some entry → slice_get recipients place ≡ Some firms → Covers register entry firms
 recipients-at register history [] place entry firms are at_history at_recipients = cc
@@ -191,19 +191,19 @@ recipients-at register (one ∷ history) (some ∷ recipients) zero entry firms 
     subst (λ (e : Entry). Covers register e firms) (λ i. unwrap_or (at_history i) one) (subst (Covers register one) (λ i. unwrap_or (at_recipients i) some) are.0)
 recipients-at register (one ∷ history) (some ∷ recipients) (suc place) entry firms are at_history at_recipients = recipients-at register history recipients place entry firms are.1 at_history at_recipients
 
--- where a set has not a place, there is one
+-- an entry that may not notify the firms with a bit has a recorded set, without that bit
 pub held-out : (found : Option FirmFilter) (own : ℕ) → option_map_or (λ (firms : FirmFilter). has_place firms own) found true ≡ false
     → (firms : FirmFilter) × (found ≡ Some firms) × (has_place firms own ≡ false)
 held-out None own out = cc
 held-out (Some firms) own out = (firms, refl, out)
 
--- there is something at each place of a list
+-- there is an element at each index of a list
 at-place : {X : Type 0} (xs : List X) (place : ℕ) → place < length xs → (x : X) × (slice_get xs place ≡ Some x)
 at-place [] place within = absurd (omega (arith, within))
 at-place (x ∷ xs) zero within = (x, refl)
 at-place (x ∷ xs) (suc place) within = at-place xs place (omega (arith, within))
 
--- where a firm isn't held, the entry tells it nothing
+-- if a firm isn't held, the entry doesn't notify it
 pub nobody-told : (register : Register) (history : List Entry) (recipients : List FirmFilter) (place : ℕ) (firms : FirmFilter) (firm : FirmId) → AreRecipients register history recipients
     → ((id : Id) → length (with_match id register.reports) ≤ 2) → slice_get recipients place ≡ Some firms → has_place firms (place_of firm) ≡ false → place < length history
     → (entry : Entry) × (slice_get history place ≡ Some entry) × (told_to firm (told_by register (place + 1) entry) ≡ [])

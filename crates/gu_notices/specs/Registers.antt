@@ -1,4 +1,4 @@
--- Machinery: what notices are written by, as a book keeps it.
+-- Machinery: the data that notices are made from, as the book stores it.
 use Rattle.std.specs.Prelude.{ℕ, Option}
 use Rattle.std.specs.Option.{option_and_then, option_map}
 use Rattle.gu_terms.specs.declared.firm.FirmId.{FirmId}
@@ -14,7 +14,7 @@ use Rattle.gu_trades.specs.declared.terms.Terms.{Terms}
 use Rattle.gu_rules.specs.Notices.{Register as WrittenBy}
 use Rattle.gu_notices.specs.declared.register.Register.{Register}
 
--- what is kept, as notices are written by it
+-- the stored data, as notices are made from it
 abbrev pub register_in : Register → WrittenBy
 register_in kept =
     record {
@@ -23,7 +23,7 @@ register_in kept =
       offer = λ n. option_map (λ (r : Row). r.offer) (row_at kept.offers.now n);
     }
 
--- the offer of a number, and the terms of the report that it gives up
+-- the offer with a number, and the terms of the report that it gives up
 abbrev pub given_in : WrittenBy → ℕ → Option (Offer × Terms)
 given_in register n = option_and_then (λ (o : Offer). option_map (λ (r : Report). (o, terms_of r)) (report_by register.reports o.firm o.report)) (register.offer n)
 

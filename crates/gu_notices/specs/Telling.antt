@@ -1,4 +1,4 @@
--- Machinery: notices, as they are kept for a firm.
+-- Machinery: notices as collected for a firm.
 use Rattle.std.specs.Prelude.{◌≡◌, ℕ, ◌+◌, ◌-◌, ◌<◌, ◌≤◌, ◌++◌, ◌||◌, Bool, false, List, drop, length, take, Result, OnOk}
 use Rattle.std.specs.Option.{option_map_or}
 use Rattle.gu_terms.specs.Same.{same_firm}
@@ -17,21 +17,21 @@ use Rattle.gu_notices.specs.declared.span.Span.{Span}
 abbrev pub is_party : Tables → FirmId → Offer → Bool
 is_party reference firm o = same_firm o.firm firm || option_map_or (λ (a : Account). same_firm a.firm firm) (account_row reference o.account) false
 
--- and so it is with the offer of a number: of no other offer the firm gets a notice
+-- a firm is a party to the offer with a number; it gets notices of no other offer
 abbrev pub is_party_to : Register → FirmId → ℕ → Bool
 is_party_to register firm n = option_map_or (is_party register.reference firm) (register.offer n) false
 
--- once these were told without a refused growth, the firm's are kept after those before
+-- if no allocation failed, the firm's notices among these are appended to the earlier ones
 pub record IsTold {T E : Type 0} (old new : Mailbox) (result : Result T E) (told : List Told) : Type 0 where
   pub firm : new.firm ≡ old.firm
   pub list : OnOk result (new.list.items ≡ old.list.items ++ told_to old.firm told)
 
--- what is told to a firm of the entries from a place on up to another place
+-- a firm's notices of the entries from one index up to another
 abbrev pub told_at_places : Register → List Entry → FirmId → ℕ → ℕ → List Notice
 told_at_places register history firm start place = told_to firm (told_from register (start + 1) (take (place - start) (drop start history)))
 
--- the entries of a span were walked over up to a place, and gave these notices to a firm: it stopped at its end, or had more
--- notices than the most, and before the last entry it had no more
+-- the entries of a span were covered up to an index, with these notices to a firm; the walk stopped at the span's end or with more than
+-- `most` notices, and before its last entry it had at most `most`
 pub record IsWalked (register : Register) (history : List Entry) (firm : FirmId) (span : Span) (list : List Notice) (place : ℕ) : Type 0 where
   pub start : span.start ≤ place
   pub end : place ≤ span.end

@@ -1,4 +1,4 @@
-//! Sets of firms that fit in one number.
+//! Sets of firms that fit in one 64-bit number.
 
 ghost use Rattle.std.specs.Prelude.{◌≡◌, ◌<◌, true};
 ghost use Rattle.gu_terms.specs.declared.firm.FirmId.{FirmId as FirmOf};
@@ -6,10 +6,10 @@ ghost use Rattle.gu_notices.specs.Filters.{Keeps, has_place, may_hold, place_of}
 
 use gu_terms::FirmId;
 
-/// How many places there are for firms.
+/// The number of bits in a set.
 const PLACES: u32 = 64;
 
-/// The place of a firm. Some firms share one.
+/// The bit for a firm. Some firms share one.
 #[derive(Clone, Copy, Debug)]
 pub struct FirmPlace {
     number: u32,
@@ -17,7 +17,7 @@ pub struct FirmPlace {
 }
 
 impl FirmPlace {
-    /// The place of a firm.
+    /// Returns the bit for a firm.
     pub fn of(firm: &FirmId) -> Self
         ensures { result.number ≡ place_of firm.now }
     {
@@ -37,7 +37,7 @@ impl FirmPlace {
     }
 }
 
-/// Firms, as a set that may hold more of them: with a firm it holds each one that shares its place.
+/// A set of firms that may hold more than were added: with a firm it holds every firm that shares its bit.
 #[derive(Clone, Copy, Debug, PartialEq, Eq)]
 pub struct FirmFilter {
     /// A bit for each place.
@@ -45,7 +45,7 @@ pub struct FirmFilter {
 }
 
 impl FirmFilter {
-    /// No firms.
+    /// The empty set.
     pub const NONE: FirmFilter = FirmFilter { places: 0 };
 
     /// Adds a firm.
@@ -63,14 +63,14 @@ impl FirmFilter {
         self.places = u64::MAX;
     }
 
-    /// Returns a number with a bit for each place: the lowest for place 0.
+    /// Returns the set as a number, with place 0 in the lowest bit.
     pub fn bits(self) -> u64
         ensures { result ≡ self.places }
     {
         self.places
     }
 
-    /// Whether it may hold the firms of a place.
+    /// Returns whether it may hold the firms with this bit.
     pub fn has(self, place: FirmPlace) -> bool
         ensures { result ≡ has_place self place.number }
     {

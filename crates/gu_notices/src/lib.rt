@@ -1,4 +1,4 @@
-//! Notices: what entries tell of their own accord, and whom.
+//! Notices: what entries send unsolicited, and to which firms.
 #![tactic(auto)]
 
 mod firm_filter;

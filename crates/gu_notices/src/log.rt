@@ -1,4 +1,4 @@
-//! What a book tells firms by.
+//! The entries that a book's notices come from.
 
 ghost use Rattle.std.specs.Prelude.{◌≡◌, true, slice_get};
 ghost use Rattle.std.specs.Option.{option_map_or};
@@ -8,7 +8,7 @@ ghost use Rattle.gu_notices.specs.declared.firm_filter.FirmFilter.{FirmFilter as
 use crate::firm_filter::{FirmFilter, FirmPlace};
 use gu_terms::History;
 
-/// All entries, and of the first of them the firms that each may tell something.
+/// A log of all entries and, for the first of them, the firms that each may notify.
 #[derive(Clone, Copy)]
 pub struct Log<'a> {
     pub history: &'a History,
@@ -16,7 +16,7 @@ pub struct Log<'a> {
 }
 
 impl<'a> Log<'a> {
-    /// Whether the entry at a place may tell the firms of a place something.
+    /// Returns whether the entry at an index may notify the firms with this bit.
     pub(crate) fn may_tell(&self, place: usize, own: FirmPlace) -> bool
         ensures { result ≡ option_map_or (λ (firms : FilterOf). has_place firms own.number) (slice_get self.now.recipients.now place) true }
     {

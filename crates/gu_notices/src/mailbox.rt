@@ -17,7 +17,7 @@ use gu_terms::{
 use gu_trades::{Sides, Terms};
 use std::alloc::AllocError;
 
-/// The notices to one firm.
+/// A mailbox of the notices to one firm.
 #[derive(Drop)]
 pub struct Mailbox {
     pub firm: FirmId,
@@ -25,7 +25,7 @@ pub struct Mailbox {
 }
 
 impl Mailbox {
-    /// Keeps a notice to a firm, where it is this one.
+    /// Adds a notice if it is to this firm.
     fn tell(&mut self, to: &FirmId, notice: &Notice) -> Result<(), AllocError>
         ensures { IsTold self.old self.new result (record { firm = to.now; notice = notice.now } ∷ []) }
     {
@@ -35,7 +35,7 @@ impl Mailbox {
         Ok(())
     }
 
-    /// Keeps a notice to the firm that carries an offer's account.
+    /// Adds a notice to the firm that carries an offer's account.
     fn tell_carrier(
         &mut self,
         reference: &Reference,
@@ -50,7 +50,7 @@ impl Mailbox {
         }
     }
 
-    /// Keeps a notice to both firms of an offer.
+    /// Adds a notice to both firms of an offer.
     fn tell_both(
         &mut self,
         reference: &Reference,
@@ -63,7 +63,7 @@ impl Mailbox {
         self.tell_carrier(reference, offer, notice)
     }
 
-    /// Whether the firm gives an offer up, or carries its account.
+    /// Returns whether the firm gives an offer up, or carries its account.
     fn is_party(&self, reference: &Reference, offer: &Offer) -> bool
         ensures { result ≡ is_party reference.now self.now.firm offer.now }
     {
@@ -76,7 +76,7 @@ impl Mailbox {
         }
     }
 
-    /// Whether the firm is a party to the offer of a number: of no other offer it gets a notice.
+    /// Returns whether the firm is a party to the offer with a number. It gets notices of no other offer.
     fn is_party_to(&self, register: &Register<'_>, number: OfferNo) -> bool
         ensures { result ≡ is_party_to (register_in register.now) self.now.firm number }
     {
@@ -86,12 +86,11 @@ impl Mailbox {
         }
     }
 
-    /// Keeps what an offer's line tells.
+    /// Adds the notice for the offer that a line made.
     fn tell_line(&mut self, register: &Register<'_>, number: u64) -> Result<(), AllocError>
         ensures { IsTold self.old self.new result (told_of_line (register_in register.now) number) }
     {
-        // There are numbers for all offers.
-        // Shows the prover: what the type of the offers keeps.
+        // All offers have valid numbers. Shows the prover: the rules of the offers.
         register.offers.rules();
         let Some(number) = OfferNo::new(number) else {
             return Ok(());
@@ -108,7 +107,7 @@ impl Mailbox {
         }
     }
 
-    /// Keeps what an event of an offer tells.
+    /// Adds the notices for an event of an offer.
     fn tell_event(
         &mut self,
         register: &Register<'_>,
@@ -130,7 +129,7 @@ impl Mailbox {
         }
     }
 
-    /// Keeps what a take of a sweep tells.
+    /// Adds the notices for a take of a sweep.
     fn tell_take(&mut self, register: &Register<'_>, take: &Take) -> Result<(), AllocError>
         ensures { IsTold self.old self.new result (told_of_take (register_in register.now) take.now) }
     {
@@ -140,7 +139,7 @@ impl Mailbox {
         }
     }
 
-    /// Keeps what the lines of a give-up tell, which are offers from a number on.
+    /// Adds the notices for the lines of a give-up, which are offers numbered from `first`.
     fn tell_lines(
         &mut self,
         register: &Register<'_>,
@@ -156,7 +155,7 @@ impl Mailbox {
         Ok(())
     }
 
-    /// Keeps what the takes of a sweep tell.
+    /// Adds the notices for the takes of a sweep.
     fn tell_takes(&mut self, register: &Register<'_>, takes: &[Take]) -> Result<(), AllocError>
         ensures { IsTold self.old self.new result (flat_map (told_of_take (register_in register.now)) takes.now) }
     {
@@ -166,7 +165,7 @@ impl Mailbox {
         Ok(())
     }
 
-    /// Keeps what a report tells, where it is on a side.
+    /// Adds the notice for a report, if it is on this side.
     fn tell_report(&mut self, number: u64, side: Side, report: &Report) -> Result<(), AllocError>
         ensures { IsTold self.old self.new result (told_on number side (report.now ∷ [])) }
     {
@@ -180,7 +179,7 @@ impl Mailbox {
         self.tell(&report.firm, &notice)
     }
 
-    /// Keeps what the reports on a side tell.
+    /// Adds the notices for the reports on a side.
     fn tell_side(&mut self, number: u64, side: Side, sides: &Sides) -> Result<(), AllocError>
         ensures { IsTold self.old self.new result (told_on number side (reports_in sides.now)) }
     {
@@ -194,7 +193,7 @@ impl Mailbox {
         }
     }
 
-    /// Keeps what the entry that made a trade tells.
+    /// Adds the notices for the entry that made a trade.
     fn tell_trade(
         &mut self,
         register: &Register<'_>,
@@ -208,7 +207,7 @@ impl Mailbox {
         self.tell_side(number, Side::Sell, &sides)
     }
 
-    /// Keeps what the entry of a number tells.
+    /// Adds the notices for the entry with a number.
     pub(crate) fn tell_entry(
         &mut self,
         register: &Register<'_>,
@@ -235,7 +234,7 @@ impl Mailbox {
     }
 }
 
-/// An event of an offer, of so many lots.
+/// Returns the notice of an event of an offer with these lots.
 fn offer_notice(
     number: OfferNo,
     event: OfferEvent,

@@ -1,4 +1,4 @@
-//! Which firms an entry may tell something.
+//! The firms that an entry may notify.
 
 ghost use Rattle.std.specs.Prelude.{◌≡◌, ℕ};
 ghost use Rattle.std.specs.List.{flat_map, range_with_len};
@@ -27,7 +27,7 @@ impl FirmFilter {
         }
     }
 
-    /// Adds whom an offer's line tells: all firms, where there is no such offer yet.
+    /// Adds the firms notified of a line's offer: all firms, if there is no such offer yet.
     fn add_line(&mut self, register: &Register<'_>, number: u64)
         ensures added { CoversEach (register_in register.now) self.new (λ later. told_of_line later number) }
         ensures kept { Keeps self.old self.new }
@@ -42,7 +42,7 @@ impl FirmFilter {
         }
     }
 
-    /// Adds whom an event of an offer tells: all firms, where there is no such offer yet.
+    /// Adds the firms notified of an event of an offer: all firms, if there is no such offer yet.
     fn add_event(&mut self, register: &Register<'_>, number: OfferNo)
         ensures added { (event : EventOf) (lots : ℕ) → CoversEach (register_in register.now) self.new (λ later. told_of_event later number event lots) }
         ensures kept { Keeps self.old self.new }
@@ -56,7 +56,7 @@ impl FirmFilter {
         }
     }
 
-    /// Adds whom the lines of a give-up tell, which are offers from a number on.
+    /// Adds the firms notified of the lines of a give-up, which are offers numbered from `first`.
     fn add_lines(&mut self, register: &Register<'_>, first: OfferNo, count: u8)
         ensures added { CoversEach (register_in register.now) self.new (λ later. flat_map (told_of_line later) (range_with_len first count)) }
         ensures kept { Keeps self.old self.new }
@@ -67,7 +67,7 @@ impl FirmFilter {
         }
     }
 
-    /// Adds whom the takes of a sweep tell.
+    /// Adds the firms notified of the takes of a sweep.
     fn add_takes(&mut self, register: &Register<'_>, takes: &[Take])
         ensures added { CoversEach (register_in register.now) self.new (λ later. flat_map (told_of_take later) takes.now) }
         ensures kept { Keeps self.old self.new }
@@ -77,7 +77,7 @@ impl FirmFilter {
         }
     }
 
-    /// Adds whom a trade tells: all firms, where there is no such trade yet.
+    /// Adds the firms notified of a trade: all firms, if there is no such trade yet.
     fn add_trade(&mut self, register: &Register<'_>, match_id: &Id)
         ensures added { (number : ℕ) → CoversEach (register_in register.now) self.new (λ later. told_of_trade number (with_match match_id.now later.reports)) }
         ensures kept { Keeps self.old self.new }
@@ -92,7 +92,7 @@ impl FirmFilter {
     }
 }
 
-/// The firms that an entry may tell something, now and after later entries.
+/// Returns the firms that an entry may notify, now and after later entries.
 pub fn recipients_of(register: &Register<'_>, entry: &EntryRef) -> FirmFilter
     ensures { Covers (register_in register.now) entry.now result }
 {
@@ -109,7 +109,7 @@ pub fn recipients_of(register: &Register<'_>, entry: &EntryRef) -> FirmFilter
     firms
 }
 
-/// Notes the firms of the entries of which none are noted yet. Where an allocation fails, some may be left out.
+/// Records the recipients of the entries that have none recorded yet. If an allocation fails, some may be left out.
 pub fn note_recipients(
     register: &Register<'_>,
     history: &History,

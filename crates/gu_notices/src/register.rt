@@ -1,4 +1,4 @@
-//! What notices are written by.
+//! The data that notices are made from.
 
 ghost use Rattle.std.specs.Prelude.{◌≡◌};
 ghost use Rattle.gu_trades.specs.Reports.{with_match};
@@ -10,7 +10,7 @@ use gu_ref::Reference;
 use gu_terms::{FirmId, Id, Offer, OfferNo};
 use gu_trades::{Sides, Terms, Trades};
 
-/// What notices are written by: the reference, the reports, and the offers.
+/// The data that notices are made from: the reference, the reports and the offers.
 #[derive(Clone, Copy)]
 pub struct Register<'a> {
     pub reference: &'a Reference,
@@ -19,14 +19,14 @@ pub struct Register<'a> {
 }
 
 impl<'a> Register<'a> {
-    /// The offer of a number.
+    /// Returns the offer with this number.
     pub(crate) fn offer(&self, number: OfferNo) -> Option<Offer>
         ensures { result ≡ (register_in self.now).offer number }
     {
         self.offers.get(number)
     }
 
-    /// The offer of a number, and the terms of the report that it gives up.
+    /// Returns the offer with this number, and the terms of the report that it gives up.
     pub(crate) fn given(&self, number: OfferNo) -> Option<(Offer, Terms)>
         ensures { result ≡ given_in (register_in self.now) number }
     {
@@ -35,7 +35,7 @@ impl<'a> Register<'a> {
         Some((offer, report))
     }
 
-    /// The firm that carries an offer's account.
+    /// Returns the firm that carries an offer's account.
     pub(crate) fn carrier(&self, offer: &Offer) -> Option<FirmId>
         ensures { result ≡ carrier_in (register_in self.now).reference offer.now }
     {
@@ -43,7 +43,7 @@ impl<'a> Register<'a> {
         Some(account.firm)
     }
 
-    /// The reports with a match id.
+    /// Returns the reports with a match id.
     pub(crate) fn trade(&self, match_id: &Id) -> Sides
         ensures { reports_in result ≡ with_match match_id.now (register_in self.now).reports }
     {

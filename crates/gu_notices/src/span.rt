@@ -1,24 +1,24 @@
-//! Spans of entries to be walked over.
+//! Spans of entries to walk over.
 
 ghost use Rattle.std.specs.Prelude.{◌≡◌, ◌+◌, ◌-◌, ◌≤◌, max, min};
 
-/// The entries that a stretch of notices looks at, and the notices at which it ends: at most this
-/// many entries, and no further entry once it has this many notices.
+/// The most entries that a batch of notices covers, and the number of notices at which it stops: it covers no further entry once it has
+/// this many.
 pub const LONGEST_STRETCH: usize = 1_024;
 
-/// Entries to be walked over, by their places from 0 on.
+/// A span of entries to walk over, by index from 0.
 #[derive(Clone, Copy, Debug)]
 pub struct Span {
     pub start: usize,
-    /// The place after the last one.
+    /// The index after the last one.
     pub end: usize,
-    /// The walk goes on to a further entry while it has no more notices than this.
+    /// The walk continues to a further entry as long as it has no more notices than this.
     pub most: usize,
     ghost ordered: { start ≤ end },
 }
 
 impl Span {
-    /// The entries from a number on, of so many. The first has number 1.
+    /// Returns the entries from a number on, out of `len`. The first entry has number 1.
     pub fn rest(len: usize, from: u64) -> Self
         ensures start { result.start ≡ max 1 from - 1 }
         ensures end { result.end ≡ max result.start len }
@@ -32,7 +32,7 @@ impl Span {
         }
     }
 
-    /// Those of them that a stretch may look at.
+    /// Returns those of them that a batch may cover.
     pub fn stretch(len: usize, from: u64) -> Self
         ensures start { result.start ≡ max 1 from - 1 }
         ensures end { result.end ≡ max result.start (min (result.start + 1024) len) }

@@ -1,4 +1,4 @@
-//! Entries walked over for the notices to a firm.
+//! Walking over entries for a firm's notices.
 
 ghost use Rattle.std.specs.Prelude.{◌≡◌, ◌-◌, ◌<◌, ◌≤◌, [], drop, max, IfOk, length};
 ghost use Rattle.gu_rules.specs.Notices.{IsStretchOf, told_from, told_to};
@@ -15,8 +15,8 @@ use gu_terms::{FirmId, Notice, Notices, Stretch};
 use std::alloc::{AllocError, Global};
 
 impl Mailbox {
-    /// Keeps what the entries of a span tell, as far as it goes, and returns the place after the
-    /// last of them. It looks only into those that may tell the firm something.
+    /// Adds the notices of a span's entries, as far as it goes, and returns the index after the last one covered. It reads only entries
+    /// that may notify the firm.
     fn tell_entries(
         &mut self,
         register: &Register<'_>,
@@ -45,8 +45,7 @@ impl Mailbox {
     }
 }
 
-/// The notices to a firm of the entries of a span, as far as it goes, and the place after the last
-/// of them.
+/// Returns a firm's notices of a span's entries, as far as it goes, and the index after the last one covered.
 fn walk(
     alloc: Global,
     register: &Register<'_>,
@@ -68,7 +67,7 @@ fn walk(
     Ok((list, place))
 }
 
-/// The notices to a firm of the entries from a number on.
+/// Returns a firm's notices of the entries from a number on.
 pub fn notices_of(
     alloc: Global,
     register: &Register<'_>,
@@ -86,7 +85,7 @@ pub fn notices_of(
     Ok(list)
 }
 
-/// A stretch of the notices to a firm, from the entry of a number on.
+/// Returns a batch of a firm's notices, starting at the entry with a number.
 pub fn stretch_of(
     alloc: Global,
     register: &Register<'_>,

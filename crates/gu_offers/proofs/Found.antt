@@ -1,4 +1,4 @@
--- The offer of a number, as it is kept.
+-- The offer with a number, as stored.
 use Rattle.std.proofs.Common.{◌≡◌, ◌∙◌, sym, ap, ℕ, ◌+◌, ◌<◌, ◌≤◌, List, length, slice_get, slice_index_or, Option, Some, None, add-one}
 use Rattle.std.specs.Option.{option_map, option_map_or}
 use Rattle.std.proofs.lemmas.Option.{slice_get-get_or, slice_get-map, slice_get_past}
@@ -8,25 +8,25 @@ use Rattle.gu_offers.specs.Given.{row_of}
 use Rattle.gu_offers.specs.Kept.{rows_of}
 use Rattle.gu_offers.specs.Rows.{Row, left_in, left_of, row_at}
 
--- the offer of a number stands at its place
+-- the offer with a number is at its index
 pub row_at-place : (rows : List Row) (place number : ℕ) → place + 1 ≡ number → row_at rows number ≡ slice_get rows place
 row_at-place rows place number e = ap (row_at rows) (sym e ∙ add-one place)
 
--- what a look-up by place gives
+-- the result of a look-up by index
 pub looked_up : {X : Type 0} (xs : List X) (place : ℕ) (x : X) → place < length xs → ((d : X) → x ≡ slice_index_or xs place d) → slice_get xs place ≡ Some x
 looked_up xs place x inside at = slice_get-get_or xs place x inside ∙ ap Some (sym (at x))
 
--- the offer of a number is the one that is kept at its place
+-- the offer with a number is the one stored at its index
 pub row_at-kept : (kept : Inside) (rows : List Row) → rows_of kept ≡ rows → (place number : ℕ) → place + 1 ≡ number → (o : Option GivenUp) → slice_get kept.rows place ≡ o
     → row_at rows number ≡ option_map (row_of kept.day) o
 row_at-kept kept rows view place number e o at =
     row_at-place rows place number e ∙ ap (λ it. slice_get it place) (sym view) ∙ slice_get-map (row_of kept.day) kept.rows place ∙ ap (option_map (row_of kept.day)) at
 
--- none stands past the end
+-- there is none past the end
 pub past : {X : Type 0} (xs : List X) (place : ℕ) → length xs ≤ place → slice_get xs place ≡ None
 past xs place h = slice_get_past xs place h
 
--- what is left of an offer that is kept
+-- the lots left of a stored offer
 pub left_in-kept : (kept : Inside) (rows : List Row) → rows_of kept ≡ rows → (place number : ℕ) → place + 1 ≡ number → (g : GivenUp) → slice_get kept.rows place ≡ Some g
     → left_in rows number ≡ left_of (row_of kept.day g)
 left_in-kept kept rows view place number e g at = ap (λ o. option_map_or left_of o 0) (row_at-kept kept rows view place number e (Some g) at)

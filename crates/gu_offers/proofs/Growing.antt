@@ -1,4 +1,4 @@
--- What a give-up offers goes after, and a day is opened: all stays kept.
+-- A give-up's offers are added last, or a day is opened: everything stays stored correctly.
 use Rattle.std.proofs.Common.{◌≡◌, ◌∙◌, sym, refl, ap, subst, ℕ, ◌+◌, ◌-◌, ◌*◌, ◌≤◌, ◌==◌, Bool, true, false, cond, ◌&&◌, List, [], ◌∷◌, ◌++◌, length, map, arith, length-append, if◌then◌else◌}
 use Rattle.std.specs.List.{All, AllByRecursion, range_with_len}
 use Rattle.std.proofs.lemmas.Bool.Decides.{Decides-eqb}
@@ -27,7 +27,7 @@ no_day : (b : Bool) → ◌≡◌ {A = ℕ} (if b then 0 else 0) 0
 no_day true = refl
 no_day false = refl
 
--- what is kept for a line is what the line offers, whatever the day
+-- the stored form of a line is the offer that the line makes, on any day
 row_of-given_for : (day : ℕ) (firm : FirmId) (report : Id) (group : Group) (line : Line) → row_of day (given_for firm report group line) ≡ offered firm report group line
 row_of-given_for day firm report group line =
     λ i. record {
@@ -41,7 +41,7 @@ rows-given_for : (day : ℕ) (firm : FirmId) (report : Id) (group : Group) (line
 rows-given_for day firm report group [] = refl
 rows-given_for day firm report group (line ∷ lines) = λ i. row_of-given_for day firm report group line i ∷ rows-given_for day firm report group lines i
 
--- an offer of a day that is opened
+-- an offer as of the day that is opened
 pub rows-forgotten : (day : ℕ) (items : List GivenUp) → map (row_of day) (map forgotten items) ≡ map next_day (map (row_of day) items)
 rows-forgotten day [] = refl
 rows-forgotten day (g ∷ items) =
@@ -55,14 +55,14 @@ earlier moved_on day today h = by (moved_on == day + 1) refl
     by true e = let same = (Decides-eqb moved_on (day + 1)).0 e in absurd (omega arith)
     by false e = refl
 
--- nothing was moved on a day that comes
+-- nothing was moved on a later day
 pub rows-next : (day : ℕ) (items : List GivenUp) → AllByRecursion (λ (g : GivenUp). g.moved_on ≤ day) items → map (row_of (day + 1)) items ≡ map next_day (map (row_of day) items)
 rows-next day [] before = refl
 rows-next day (g ∷ items) before =
     let first : row_of (day + 1) g ≡ next_day (row_of day g) = λ i. record { offer = g.offer; moved = g.moved; today = earlier g.moved_on day g.today before.0 i; is_shut = g.is_shut } in
     λ i. first i ∷ rows-next day items before.1 i
 
--- days that come, too
+-- the days still hold on a later day
 pub days-next : (day : ℕ) (items : List GivenUp) → AllByRecursion (λ (g : GivenUp). g.moved_on ≤ day) items → AllByRecursion (λ (g : GivenUp). g.moved_on ≤ day + 1) items
 days-next day items = all-imply (λ (g : GivenUp). g.moved_on ≤ day) (λ (g : GivenUp). g.moved_on ≤ day + 1) (λ g h. omega arith) items
 
@@ -84,7 +84,7 @@ counted-next (r ∷ rows) firm id =
     let f : Row → ℕ = λ x. if is_of_report firm id x then counted_of x else 0 in
     omega (arith, sum_by-cons f (next_day r) (map next_day rows), sum_by-cons f r rows, counted-next rows firm id)
 
--- all is kept when a day was opened
+-- everything is stored correctly after a day is opened
 pub kept-next : (kept later : Inside) → IsKept kept → rows_of later ≡ map next_day (rows_of kept) → AllByRecursion (λ (g : GivenUp). g.moved_on ≤ later.day) later.rows
     → length later.rows ≡ length kept.rows
     → ((group : Group) → numbers_in later.groups group ≡ numbers_in kept.groups group) → ((firm : FirmId) (id : Id) → lots_under later.counts firm id ≡ lots_under kept.counts firm id) → IsKept later
@@ -101,7 +101,7 @@ counted_within true true moved lots h k = omega arith
 counted_within false true moved lots h k = omega arith
 counted_within b false moved lots h k = omega arith
 
--- of one report less than 2^64 lots are held
+-- fewer than 2^64 lots of a report are held
 pub counted-few : (rows : List Row) (firm : FirmId) (id : Id) → AllByRecursion IsSound rows → counted_under rows firm id ≤ 1000000 * length rows
 counted-few [] firm id sound = omega arith
 counted-few (r ∷ rows) firm id sound =
@@ -161,13 +161,13 @@ module _ (firm : FirmId) (report : Id) (group : Group) where
 
   module _ (kept later : Inside) (is_kept : IsKept kept) (lines : List Line) (lots : All (λ (line : Line). IsLots line.lots) lines)
       (pushed : later.rows ≡ kept.rows ++ map (given_for firm report group) lines) (today : later.day ≡ kept.day) where
-    -- the offers, and those of the lines after them
+    -- the offers, followed by those of the lines
     pub rows-offered : rows_of later ≡ with_lines (rows_of kept) firm report group lines
     rows-offered =
         (λ i. map (row_of (today i)) (pushed i)) ∙ map-append (row_of kept.day) kept.rows (map (given_for firm report group) lines)
         ∙ ap (λ rows. rows_of kept ++ rows) (rows-given_for kept.day firm report group lines)
 
-    -- all is kept then
+    -- everything is then stored correctly
     pub kept-offered : (first : ℕ) → first ≡ length kept.rows + 1 → length kept.rows + length lines ≤ 16000000
         → ((other : Group) → numbers_in later.groups other ≡ (if same_group group other then numbers_in kept.groups other ++ range_with_len first (length lines) else numbers_in kept.groups other))
         → ((other : FirmId) (another : Id)
@@ -207,7 +207,7 @@ module _ (firm : FirmId) (report : Id) (group : Group) where
         held other another true these = omega (arith, is_kept.counts other another, these)
         held other another false these = omega (arith, is_kept.counts other another, these)
 
--- offers that stay, with tables that say what they said, are kept as they were
+-- unchanged offers with tables that say the same are stored as before
 module _ (old new : Inside) (kept : IsKept old) (items : new.rows ≡ old.rows) (day : new.day ≡ old.day) where
   rows-same : rows_of old ≡ rows_of new
   rows-same = λ i. map (row_of (sym day i)) (sym items i)

@@ -1,4 +1,4 @@
--- Offers as they are kept: the ids of their reports stay where they stand, whatever comes after them.
+-- Stored offers: the ids of their reports stay at their positions, whatever is added after them.
 use Rattle.std.proofs.Common.{◌≡◌, ◌∙◌, sym, refl, ap, subst, ℕ, suc, ◌+◌, ◌<◌, ◌≤◌, List, [], ◌∷◌, ◌++◌, All, length, map, set, take, drop, get_or, arith, slice_get, Option, Some, None}
 use Rattle.std.specs.Option.{option_map, option_map_or}
 use Rattle.std.proofs.lemmas.List.{drop-append-le, length-append, length-drop, length-map, map-append, map-set, take-append-le, take_all}
@@ -16,13 +16,13 @@ use Rattle.gu_offers.specs.declared.open_offer.OpenOffer.{OpenOffer}
 use Rattle.gu_terms.specs.declared.offer.Offer.{Offer}
 
 module _ (ids more : List ℕ) (g : Given) (within : g.at + g.len ≤ length ids) where
-  -- the id of a report stays
+  -- the id of a report is unchanged
   report-front : report_in (ids ++ more) g ≡ report_in ids g
   report-front =
       ap (take g.len) (drop-append-le g.at ids more (omega (arith, within)))
       ∙ take-append-le g.len (drop g.at ids) more (omega (arith, length-drop g.at ids, within))
 
-  -- and so does the offer
+  -- so is the offer
   given-front : given_in (ids ++ more) g ≡ given_in ids g
   given-front = rw report-front refl
 
@@ -38,7 +38,7 @@ map-front ids more (g ∷ gs) h =
     ap (λ e. e ∷ map (given_in (ids ++ more)) gs) (given-front ids more g (h 0 g (omega arith)).within)
     ∙ ap (λ es. given_in ids g ∷ es) (map-front ids more gs (λ i d inside. h (suc i) d (omega arith)))
 
--- the lines of a give-up, whose id comes after the others
+-- the lines of a give-up, whose id follows the others
 module _ (ids id : List ℕ) (shared : Shared) (at : shared.at ≡ length ids) (len : shared.len ≡ length id) where
   found : (line : Line) → report_in (ids ++ id) (kept_for shared line) ≡ id
   found line = rw (at, len) (rw (drop-append_seam ids id) (take_all (length id) id (omega arith)))
@@ -66,11 +66,11 @@ module _ (ids id : List ℕ) (shared : Shared) (at : shared.at ≡ length ids) (
     within_more = rw (one, longer)
         (All-append (IsWithin (ids ++ id)) list (map (kept_for shared) lines) (λ i d inside. IsWithin-front ids id (get_or list i d) (h i d inside)) (within is lines))
 
--- a failed growth changes nothing, whatever stands after the ids
+-- a failed allocation changes nothing, whatever is after the ids
 pub given_as_before : (ids more all : List ℕ) (list new : List Given) → All (IsWithin ids) list → new ≡ list → all ≡ ids ++ more → map (given_in all) new ≡ map (given_in ids) list
 given_as_before ids more all list new h same longer = rw (same, longer) (map-front ids more list h)
 
--- what was moved on a day is forgotten
+-- what was moved today is reset
 pub given_forgotten : (ids : List ℕ) (list : List Given) → map (given_in ids) (map without_today list) ≡ map forgotten (map (given_in ids) list)
 given_forgotten ids [] = refl
 given_forgotten ids (g ∷ gs) = ap (λ es. forgotten (given_in ids g) ∷ es) (given_forgotten ids gs)
@@ -78,7 +78,7 @@ given_forgotten ids (g ∷ gs) = ap (λ es. forgotten (given_in ids g) ∷ es) (
 pub within_forgotten : (ids : List ℕ) (list : List Given) → All (IsWithin ids) list → All (IsWithin ids) (map without_today list)
 within_forgotten ids list h = All-map (IsWithin ids) without_today list (λ i d inside. record { within = (h i d inside).within; id = (h i d inside).id })
 
--- one offer was changed at its place
+-- one offer was changed at its index
 module _ (ids : List ℕ) (list : List Given) (rows : List GivenUp) (place : ℕ) (was : Given) (view : map (given_in ids) list ≡ rows)
     (inside : place < length rows) (at : was ≡ get_or list place was) where
   pub inside_list : place < length list
@@ -106,7 +106,7 @@ module _ (ids : List ℕ) (list : List Given) (rows : List GivenUp) (place : ℕ
   pub within_changed : All (IsWithin ids) list → (now : Given) → (IsWithin ids was → IsWithin ids now) → All (IsWithin ids) (set list place now)
   within_changed h now still = All-set (IsWithin ids) list place now (still (rw at (h place was inside_list))) h
 
--- what is told of an offer that is kept is told of its row
+-- what is read from a stored offer is read from its row
 pub read_by : (f : Row → ℕ) (day : ℕ) (o : Option GivenUp) (n : ℕ) → option_map (λ (g : GivenUp). f (row_of day g)) o ≡ Some n → option_map_or f (option_map (row_of day) o) 0 ≡ n
 read_by f day None n e = cc
 read_by f day (Some g) n e = cc
@@ -122,6 +122,6 @@ pub shown_by : (day number left : ℕ) (offer : Offer) (o : Option GivenUp) → 
 shown_by day number left offer None e f = cc
 shown_by day number left offer (Some g) e f = cc
 
--- what was appended is taken off again
+-- what was appended is removed again
 pub taken_off : (old more pushed later : List GivenUp) (count : ℕ) → later ≡ take count pushed → count ≡ length old → pushed ≡ old ++ more → later ≡ old
 taken_off old more pushed later count e f h = rw (e, f, h) (take-append_seam old more)

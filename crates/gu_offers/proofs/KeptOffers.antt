@@ -1,4 +1,4 @@
--- One offer that is kept is changed: all stays kept, and the others are as they were.
+-- One stored offer is changed: everything stays stored correctly, and the others are unchanged.
 use Rattle.std.proofs.Common.{◌≡◌, ◌≢◌, ◌∙◌, sym, refl, ap, subst, ℕ, suc, ◌+◌, ◌-◌, ◌≤◌, Bool, true, false, ◌&&◌, List, length, map, set, slice_get, Some, nat_lt, arith, if◌then◌else◌}
 use Rattle.std.specs.List.{AllByRecursion}
 use Rattle.std.specs.Option.{option_map, option_map_or}
@@ -45,7 +45,7 @@ as_before : (b : Bool) (m l lots : ℕ) → lots ≤ (if b then 0 else l - m) �
 as_before true m l lots h = omega arith
 as_before false m l lots h = omega arith
 
--- a move changes nothing of what is held of the report
+-- a move doesn't change the lots held of the report
 pub counted-taken : (r : Row) (lots : ℕ) → lots ≤ left_of r → counted_of r ≡ counted_of (taken lots r) + 0
 counted-taken r lots h = as_before r.is_shut r.moved r.offer.lots lots h
 
@@ -53,7 +53,7 @@ closing : (b : Bool) (m l : ℕ) → m ≤ l → (if b then m else l) ≡ m + (i
 closing true m l h = omega arith
 closing false m l h = omega arith
 
--- what is left of an offer is held no longer once it is closed
+-- what is left of an offer is no longer held after it is closed
 pub counted-closed : (r : Row) → IsSound r → counted_of r ≡ counted_of (closed r) + left_of r
 counted-closed r sound = closing r.is_shut r.moved r.offer.lots sound.moved
 
@@ -61,7 +61,7 @@ reversing : (b : Bool) (m l today : ℕ) → m ≤ l → today ≤ m → (if b t
 reversing true m l today h k left = omega arith
 reversing false m l today h k left = omega arith
 
--- what is moved no longer of a closed offer is held no longer
+-- what is taken back of a closed offer is no longer held
 pub counted-reversed : (r : Row) → IsSound r → left_of r ≡ 0 → counted_of r ≡ counted_of (reversed r) + r.today
 counted-reversed r sound left = reversing r.is_shut r.moved r.offer.lots r.today sound.moved sound.today left
 
@@ -83,16 +83,16 @@ still_left : (b : Bool) (l m lots : ℕ) → (if b then 0 else l - (m + lots)) �
 still_left true l m lots h e = h e
 still_left false l m lots h e = h (omega arith)
 
--- an offer of which lots are left after a move was open, and is
+-- an offer with lots left after a move was open, and still is
 pub open-taken : (r : Row) (lots : ℕ) → left_of (taken lots r) ≢ 0 → is_open (taken lots r) ≡ is_open r
 open-taken r lots h = above_zero (left_of (taken lots r)) h ∙ sym (above_zero (left_of r) (still_left r.is_shut r.offer.lots r.moved lots h))
 
--- each offer that is kept is sound on its day
+-- each stored offer is sound on its day
 pub sound_at : (kept : Inside) → IsKept kept → (place : ℕ) → IsSoundAt kept.rows place kept.day
 sound_at kept is_kept place g at =
     all-at IsSound (rows_of kept) place (row_of kept.day g) is_kept.sound (slice_get-map (row_of kept.day) kept.rows place ∙ ap (option_map (row_of kept.day)) at)
 
--- the numbers that are kept of a group ascend
+-- the stored numbers of a group ascend
 pub ascending : (kept : Inside) → IsKept kept → (group : Group) → IsAscending (numbers_in kept.groups group)
 ascending kept is_kept group = subst IsAscending (sym (is_kept.numbers group)) (numbers-ascend group 1 (rows_of kept))
 
@@ -105,7 +105,7 @@ module _ (kept : Inside) (is_kept : IsKept kept) (place : ℕ) (new : List Given
   abbrev before : Row
   before = row_of kept.day written.was
 
-  -- it stands at its place
+  -- it is at its index
   pub stands_there : slice_get (rows_of kept) place ≡ Some before
   stands_there = slice_get-map (row_of kept.day) kept.rows place ∙ ap (option_map (row_of kept.day)) written.there
 
@@ -120,13 +120,13 @@ module _ (kept : Inside) (is_kept : IsKept kept) (place : ℕ) (new : List Given
   after-changed = after ∙ sym (ap (λ o. option_map_or (λ r. set (rows_of kept) place (change r)) o (rows_of kept)) stands_there)
 
   module _ (same : (change before).offer ≡ before.offer) where
-    -- what is as open as it was
+    -- if it is as open as before
     pub numbers-as_they_were : is_open (change before) ≡ is_open before → (group : Group) → numbers_in kept.groups group ≡ open_numbers (set (rows_of kept) place (change before)) group
     numbers-as_they_were open_as group =
         is_kept.numbers group
         ∙ sym (numbers-same group 1 (rows_of kept) place before (change before) stands_there (λ i. same_group (same i).group group && open_as i))
 
-    -- what is closed is taken out of its group's
+    -- a closed offer's number is removed from its group's
     pub numbers-taken_out : is_open (change before) ≡ false → (group : Group)
         → (if same_group offer.group group then without (place + 1) (numbers_in kept.groups group) else numbers_in kept.groups group)
         ≡ open_numbers (set (rows_of kept) place (change before)) group
@@ -144,7 +144,7 @@ module _ (kept : Inside) (is_kept : IsKept kept) (place : ℕ) (new : List Given
             (other-one (same_group (change before).offer.group group) (same_group before.offer.group group) (is_open (change before)) (is_open before)
             ((λ i. same_group (same i).group group) ∙ (λ i. same_group (sym written.own i).group group) ∙ e) ((λ i. same_group (sym written.own i).group group) ∙ e)))
 
-    -- of its report so much less is held
+    -- this much less of its report is held
     pub counts-less : (less : ℕ) → counted_of before ≡ counted_of (change before) + less → (firm : FirmId) (id : Id)
         → (if same_firm offer.firm firm && same_id offer.report id then lots_under kept.counts firm id - less else lots_under kept.counts firm id)
         ≡ counted_under (set (rows_of kept) place (change before)) firm id
@@ -163,7 +163,7 @@ module _ (kept : Inside) (is_kept : IsKept kept) (place : ℕ) (new : List Given
             let none : (if is_of_report firm id before then less else 0) ≡ 0 = λ i. if sym e i then less else 0 in
             omega (arith, sums, none, is_kept.counts firm id)
 
-    -- what is held of a report is at least what one of its offers holds
+    -- the lots held of a report are at least those that one of its offers holds
     pub held-within : (less : ℕ) → counted_of before ≡ counted_of (change before) + less → less ≤ lots_under kept.counts offer.firm offer.report
     held-within less is =
         let own : is_of_report offer.firm offer.report before ≡ true =
@@ -172,13 +172,13 @@ module _ (kept : Inside) (is_kept : IsKept kept) (place : ℕ) (new : List Given
         let held : (if is_of_report offer.firm offer.report before then less else 0) ≡ less = λ i. if own i then less else 0 in
         omega (arith, counted-set offer.firm offer.report (rows_of kept) place before (change before) less stands_there same is, held, is_kept.counts offer.firm offer.report)
 
-    -- what is held of reports stays where this offer holds what it held
+    -- the lots held of reports are unchanged if this offer holds the same
     pub counts-as_they_were : counted_of before ≡ counted_of (change before) + 0 → (firm : FirmId) (id : Id)
         → lots_under kept.counts firm id ≡ counted_under (set (rows_of kept) place (change before)) firm id
     counts-as_they_were is firm id =
         omega (arith, counted-set firm id (rows_of kept) place before (change before) 0 stands_there same is, nothing (is_of_report firm id before), is_kept.counts firm id)
 
-    -- all is kept then
+    -- everything is then stored correctly
     pub kept-changed : (later : Inside) → later.rows ≡ new → later.day ≡ kept.day → IsSound (change before)
         → ((group : Group) → numbers_in later.groups group ≡ open_numbers (set (rows_of kept) place (change before)) group)
         → ((firm : FirmId) (id : Id) → lots_under later.counts firm id ≡ counted_under (set (rows_of kept) place (change before)) firm id)

@@ -1,4 +1,4 @@
--- The tables beside the offers: lots of reports, and numbers of groups.
+-- The tables beside the offers: the lots of reports, and the numbers of groups.
 use Rattle.std.proofs.Common.{◌≡◌, ◌∙◌, refl, ap, ℕ, Bool, true, false, cond, ◌&&◌, List, [], ◌++◌, Option, Some, None, is_some, unwrap_or, Result, Ok, Err, IsOk, OnOk, OnErr, if◌then◌else◌}
 use Rattle.std.specs.Option.{option_map_or}
 use Rattle.indexmap.specs.IndexMap.{IndexMap, get, Updates}
@@ -17,7 +17,7 @@ both true true h = (refl, refl)
 both true false h = cc
 both false q h = cc
 
--- nothing is there
+-- there is nothing
 pub none : {X : Type 0} (o : Option X) → is_some o ≡ false → o ≡ None
 none None h = refl
 none (Some x) h = cc
@@ -41,18 +41,18 @@ module _ (old new : Counts) (firm : FirmId) (id : Id) where
       → (other : FirmId) (another : Id) → lots_under new other another ≡ (if same_firm firm other && same_id id another then f (lots_under old other another) else lots_under old other another)
   lots_under-changed f v w updated was is = lots_under-written f w updated.0 (is ∙ ap f (ap (λ o. unwrap_or o 0) was))
 
--- what is written last stays
+-- the last write counts
 pub last_write : {X : Type 0} (b : Bool) (v w o : X) → cond b w (cond b v o) ≡ cond b w o
 last_write true v w o = refl
 last_write false v w o = refl
 
--- what holds where a call succeeds holds where it does
+-- a property that holds if a call succeeds, when it does
 pub of_ok : {T E : Type 0} {P : Type 0} (r : Result T E) → OnOk r P → IsOk r → P
 of_ok (Ok x) p ok = p
 of_ok (Err e) p ok = cc
 
 module _ {V S : Type 0} (list : V → List ℕ) (old new : IndexMap Group V S) (group : Group) where
-  -- a group that is new has these numbers alone
+  -- a new group has only these numbers
   pub listed-new : (v : V) (numbers : List ℕ) → Updates same_group old new group (Some v) → list v ≡ numbers → None ≡ get same_group old group
       → (other : Group) → option_map_or list (get same_group new other) []
       ≡ (if same_group group other then option_map_or list (get same_group old other) [] ++ numbers else option_map_or list (get same_group old other) [])
@@ -63,7 +63,7 @@ module _ {V S : Type 0} (list : V → List ℕ) (old new : IndexMap Group V S) (
       by true e = is ∙ ap (λ o. option_map_or list o [] ++ numbers) none ∙ (λ i. option_map_or list (get same_group old (same_group-true group other e i)) [] ++ numbers)
       by false e = refl
 
-  -- a list that is written as it was leaves all
+  -- a list rewritten as it was changes nothing
   pub listed-same : (v w : V) → Updates same_group old new group (Some w) → Some v ≡ get same_group old group → list w ≡ list v
       → (other : Group) → option_map_or list (get same_group new other) [] ≡ option_map_or list (get same_group old other) []
   listed-same v w updated was same other = ap (λ o. option_map_or list o []) (updated.0 other) ∙ by (same_group group other) refl
@@ -72,7 +72,7 @@ module _ {V S : Type 0} (list : V → List ℕ) (old new : IndexMap Group V S) (
       by true e = same ∙ ap (λ o. option_map_or list o []) was ∙ (λ i. option_map_or list (get same_group old (same_group-true group other e i)) [])
       by false e = refl
 
--- what a refusal leaves, said in another way
+-- what a refusal leaves, restated
 pub on_err : {T E : Type 0} (r : Result T E) (P Q : Type 0) → (P → Q) → OnErr r P → OnErr r Q
 on_err (Ok x) P Q f p = p
 on_err (Err e) P Q f p = f p

@@ -1,4 +1,4 @@
--- What the rows at a place, or more rows, do to the numbers of open offers and to the lots of reports.
+-- How a change of one row, or more rows, affects the numbers of open offers and the lots of reports.
 use Rattle.std.proofs.Common.{◌≡◌, ◌≢◌, ◌∙◌, sym, refl, ap, subst, ℕ, zero, suc, ◌+◌, ◌<◌, ◌≤◌, ◌==◌, Bool, true, false, not, cond, ◌&&◌, List, [], ◌∷◌, ◌++◌, length, set, slice_get, Some, arith, if◌then◌else◌}
 use Rattle.std.specs.List.{AllByRecursion}
 use Rattle.std.proofs.lemmas.List.Sums.{sum_by-cons}
@@ -11,30 +11,30 @@ use Rattle.gu_offers.specs.Rows.{Row, counted_of, counted_under, is_of_report, i
 use Rattle.gu_offers.proofs.NumberLists.{other_than, own_number, without, without-above}
 
 module _ {X : Type 0} (P : X → Type 0) where
-  -- what holds of each holds of the one at a place
+  -- a property of each element holds of the one at an index
   pub all-at : (xs : List X) (place : ℕ) (x : X) → AllByRecursion P xs → slice_get xs place ≡ Some x → P x
   all-at [] place x all at = cc
   all-at (y ∷ xs) zero x all at = let one : y ≡ x = cc in subst P one all.0
   all-at (y ∷ xs) (suc place) x all at = all-at xs place x all.1 at
 
-  -- and of each after one is changed of which it holds
+  -- and still holds of each after one is replaced by another with it
   pub all-set : (xs : List X) (place : ℕ) (x : X) → AllByRecursion P xs → P x → AllByRecursion P (set xs place x)
   all-set [] place x all one = tt
   all-set (y ∷ xs) zero x all one = (one, all.1)
   all-set (y ∷ xs) (suc place) x all one = (all.0, all-set xs place x all.1 one)
 
-  -- and of each of both lists
+  -- and holds of each in both lists joined
   pub all-append : (xs ys : List X) → AllByRecursion P xs → AllByRecursion P ys → AllByRecursion P (xs ++ ys)
   all-append [] ys all more = more
   all-append (x ∷ xs) ys all more = (all.0, all-append xs ys all.1 more)
 
-  -- and another fact follows
+  -- and implies another property
   pub all-imply : (Q : X → Type 0) → ((x : X) → P x → Q x) → (xs : List X) → AllByRecursion P xs → AllByRecursion Q xs
   all-imply Q f [] all = tt
   all-imply Q f (x ∷ xs) all = (f x all.0, all-imply Q f xs all.1)
 
 module _ (group : Group) where
-  -- the numbers lie from the first on
+  -- the numbers start at the first
   pub numbers-within : (n : ℕ) (rows : List Row) → AllByRecursion (λ m. (n ≤ m) × (m < n + length rows)) (numbers_from n rows group)
   numbers-within n [] = tt
   numbers-within n (r ∷ rows) =
@@ -59,7 +59,7 @@ module _ (group : Group) where
       by true above up = (above, up)
       by false above up = up
 
-  -- a row that is as open as it was leaves them
+  -- a row that is as open as before leaves them unchanged
   pub numbers-same : (n : ℕ) (rows : List Row) (place : ℕ) (old new : Row) → slice_get rows place ≡ Some old → is_open_in group new ≡ is_open_in group old
       → numbers_from n (set rows place new) group ≡ numbers_from n rows group
   numbers-same n [] place old new at same = refl
@@ -69,7 +69,7 @@ module _ (group : Group) where
   numbers-same n (r ∷ rows) (suc place) old new at same =
       ap (λ l. cond (is_open_in group r) (n ∷ l) l) (numbers-same (n + 1) rows place old new at same)
 
-  -- a row that is closed takes its number out
+  -- closing a row removes its number
   pub numbers-closed : (n : ℕ) (rows : List Row) (place : ℕ) (old new : Row) → slice_get rows place ≡ Some old → is_open_in group new ≡ false
       → numbers_from n (set rows place new) group ≡ without (n + place) (numbers_from n rows group)
   numbers-closed n [] place old new at shut = refl
@@ -98,7 +98,7 @@ module _ (group : Group) where
       by true other = rw other refl
       by false other = refl
 
-  -- more rows have their numbers after
+  -- more rows add their numbers at the end
   pub numbers-append : (n : ℕ) (rows more : List Row) → numbers_from n (rows ++ more) group ≡ numbers_from n rows group ++ numbers_from (n + length rows) more group
   numbers-append n [] more = let e : n + 0 ≡ n = omega arith in ap (λ m. numbers_from m more group) (sym e)
   numbers-append n (r ∷ rows) more =
@@ -111,7 +111,7 @@ module _ (group : Group) where
       by false xs ys = refl
 
 module _ (firm : FirmId) (report : Id) where
-  -- a row of which less is counted
+  -- a row that counts less
   pub counted-set : (rows : List Row) (place : ℕ) (old new : Row) (less : ℕ) → slice_get rows place ≡ Some old → new.offer ≡ old.offer → counted_of old ≡ counted_of new + less
       → counted_under (set rows place new) firm report + (if is_of_report firm report old then less else 0) ≡ counted_under rows firm report
   counted-set [] place old new less at own less_is = cc

@@ -1,4 +1,4 @@
--- Lists of numbers that ascend: one more, and one fewer.
+-- Ascending lists of numbers: one more, and one fewer.
 use Rattle.std.proofs.Common.{◌≡◌, ◌≢◌, ◌∙◌, sym, refl, ap, ℕ, zero, suc, ◌+◌, ◌<◌, ◌≤◌, ◌==◌, Bool, true, false, not, List, [], ◌∷◌, ◌++◌, length, get_or, filter, nat_lt, ◌⊎◌, inl, inr, Ok, Err, arith}
 use Rattle.std.specs.List.{AllByRecursion, range_with_len, remove}
 use Rattle.std.specs.List.Sorted.{IsBinarySearchResult}
@@ -15,14 +15,14 @@ cases_lt k i = by (nat_lt k i) refl
     by true e = inl (ltb-true k i e)
     by false e = inr (ltb-false k i e)
 
--- one number more
+-- one more number
 pub range_with_len-suc : (first n : ℕ) → range_with_len first (suc n) ≡ range_with_len first n ++ (first + n) ∷ []
 range_with_len-suc first zero = let e : first ≡ first + 0 = omega arith in ap (λ n. n ∷ []) e
 range_with_len-suc first (suc n) =
     let e : first + 1 + n ≡ first + suc n = omega arith in
     ap (λ l. first ∷ l) (range_with_len-suc (first + 1) n ∙ ap (λ m. range_with_len (first + 1) n ++ m ∷ []) e)
 
--- all that holds of each holds of the one at a place
+-- a property of each number holds of the one at an index
 pub at_place : (P : ℕ → Type 0) (xs : List ℕ) (i : ℕ) → AllByRecursion P xs → i < length xs → P (get_or xs i 0)
 at_place P [] i all inside = absurd (omega arith)
 at_place P (x ∷ xs) zero all inside = all.0
@@ -36,7 +36,7 @@ rising (x ∷ xs) up zero (suc j) before inside = let below = at_place (λ m. x 
 rising (x ∷ xs) up (suc i) zero before inside = absurd (omega arith)
 rising (x ∷ xs) up (suc i) (suc j) before inside = rising xs up.1 i j (omega arith) (omega arith)
 
--- the numbers that are not this one
+-- the numbers other than this one
 abbrev pub without : ℕ → List ℕ → List ℕ
 without number xs = filter (λ other. not (other == number)) xs
 
@@ -50,13 +50,13 @@ other_than x number apart = by (x == number) refl
 pub own_number : (number : ℕ) → not (number == number) ≡ false
 own_number number = ap not ((Decides-eqb number number).1 refl)
 
--- where none of them is this one, all stay
+-- if none of them is this one, all stay
 pub without-absent : (number : ℕ) (xs : List ℕ) → ((k : ℕ) → k < length xs → get_or xs k 0 ≢ number) → without number xs ≡ xs
 without-absent number [] apart = refl
 without-absent number (x ∷ xs) apart =
     rw (other_than x number (apart 0 (omega arith))) (ap (λ l. x ∷ l) (without-absent number xs (λ k inside. apart (suc k) (omega arith))))
 
--- the one at a place is taken out
+-- the one at an index is removed
 pub remove-without : (number : ℕ) (xs : List ℕ) (i : ℕ) → IsAscending xs → i < length xs → get_or xs i 0 ≡ number → remove xs i ≡ without number xs
 remove-without number [] i up inside at = absurd (omega arith)
 remove-without number (x ∷ xs) zero up inside at =
@@ -67,20 +67,20 @@ remove-without number (x ∷ xs) (suc i) up inside at =
     let apart : x ≢ number = λ same. omega (arith, same, at, below) in
     rw (other_than x number apart) (ap (λ l. x ∷ l) (remove-without number xs i up.1 (omega arith) at))
 
--- what a search finds is taken out
+-- what a search finds is removed
 pub found-without : (number : ℕ) (xs : List ℕ) (i : ℕ) → IsAscending xs → IsBinarySearchResult (λ y. nat_cmp y number) xs (Ok i) → remove xs i ≡ without number xs
 found-without number xs i up found =
     let at = searched xs number (Ok i) found (rising xs up) in
     remove-without number xs i up at.0 at.1
 
--- and what it doesn't find is not there
+-- what it doesn't find isn't there
 pub unfound-without : (number : ℕ) (xs : List ℕ) (i : ℕ) → IsAscending xs → IsBinarySearchResult (λ y. nat_cmp y number) xs (Err i) → without number xs ≡ xs
 unfound-without number xs i up missed =
     let at = searched xs number (Err i) missed (rising xs up) in
     without-absent number xs (λ k inside same.
     elim (cases_lt k i) [ inl before ↦ omega (arith, at.1 k before, same) | inr after ↦ omega (arith, at.2 k after inside, same) ])
 
--- where all of them are above this one, all stay
+-- if all of them are above this one, all stay
 pub without-above : (number : ℕ) (xs : List ℕ) → AllByRecursion (λ m. number < m) xs → without number xs ≡ xs
 without-above number [] above = refl
 without-above number (x ∷ xs) above =

@@ -1,14 +1,14 @@
--- The offer at a place, before and after it is changed.
+-- The offer at an index, before and after a change.
 use Rattle.std.proofs.Common.{◌≡◌, ◌∙◌, sym, refl, ap, ℕ, zero, suc, ◌+◌, ◌-◌, ◌<◌, ◌≤◌, Bool, true, false, List, [], ◌∷◌, ◌++◌, length, map, take, get_or, slice_get, slice_index_or, Option, Some, arith, if◌then◌else◌}
 use Rattle.std.specs.List.{filter_map}
 use Rattle.std.proofs.lemmas.List.Elements.{filter_map-append}
 use Rattle.std.proofs.lemmas.Option.{slice_get-get_or}
 
--- what is read at a place stands there
+-- what is read at an index is there
 pub stands : {X : Type 0} (xs : List X) (place : ℕ) (x : X) → place < length xs → x ≡ slice_index_or xs place x → slice_get xs place ≡ Some x
 stands xs place x inside at = slice_get-get_or xs place x inside ∙ ap Some (sym at)
 
--- one thing stands at a place
+-- there is only one element at an index
 pub one : {X : Type 0} (xs : List X) (place : ℕ) (x y : X) → slice_get xs place ≡ Some x → slice_get xs place ≡ Some y → x ≡ y
 one xs place x y at there = cc
 
@@ -27,7 +27,7 @@ front : {X : Type 0} (xs ys : List X) → take (length xs) (xs ++ ys) ≡ xs
 front [] ys = refl
 front (x ∷ xs) ys = ap (λ l. x ∷ l) (front xs ys)
 
--- the front of two lists is the first
+-- the first part of two joined lists is the first list
 pub take-front : {X : Type 0} (n : ℕ) (xs ys : List X) → n ≡ length xs → take n (xs ++ ys) ≡ xs
 take-front n xs ys e = ap (λ m. take m (xs ++ ys)) e ∙ front xs ys
 

@@ -1,4 +1,4 @@
--- What becomes of the offers.
+-- How offers change.
 use Rattle.std.specs.Prelude.{ℕ, zero, suc, ◌+◌, ◌-◌, true, false, List, ◌++◌, map, slice_get, slice_set}
 use Rattle.std.specs.Option.{option_map_or}
 use Rattle.gu_terms.specs.declared.firm.FirmId.{FirmId}
@@ -17,27 +17,27 @@ offered firm report group line =
       is_shut = false;
     }
 
--- the offers, and those of the lines of a give-up after them
+-- the offers, followed by those that the lines of a give-up make
 abbrev pub with_lines : List Row → FirmId → Id → Group → List Line → List Row
 with_lines rows firm report group lines = rows ++ map (offered firm report group) lines
 
--- the offers, of which the one of a number is changed
+-- the offers after the one with this number is changed
 abbrev pub changed : List Row → ℕ → (Row → Row) → List Row
 changed rows zero change = rows
 changed rows (suc place) change = option_map_or (λ r. slice_set rows place (change r)) (slice_get rows place) rows
 
--- lots of an offer were moved
+-- an offer after lots of it are moved
 abbrev pub taken : ℕ → Row → Row
 taken lots r = record { offer = r.offer; moved = r.moved + lots; today = r.today + lots; is_shut = r.is_shut }
 
--- an offer was closed: what was moved of it stays moved
+-- an offer after it is closed: lots already moved stay moved
 abbrev pub closed : Row → Row
 closed r = record { offer = r.offer; moved = r.moved; today = r.today; is_shut = true }
 
--- what was moved of an offer since the last opening of a day is moved no longer, and it was closed
+-- an offer after what was moved since the day was opened is taken back and it is closed
 abbrev pub reversed : Row → Row
 reversed r = record { offer = r.offer; moved = r.moved - r.today; today = 0; is_shut = true }
 
--- a day was opened: nothing of an offer was moved since
+-- an offer after a day is opened: nothing has been moved since
 abbrev pub next_day : Row → Row
 next_day r = record { offer = r.offer; moved = r.moved; today = 0; is_shut = r.is_shut }

@@ -1,4 +1,4 @@
--- Machinery: an offer as it is kept, on the day of a number.
+-- Machinery: an offer as stored, with the number of the day on which lots were last moved.
 use Rattle.std.specs.Prelude.{ℕ, ◌+◌, ◌≤◌, ◌==◌, false, Bool, List, length, if◌then◌else◌}
 use Rattle.gu_terms.specs.Names.{IsId}
 use Rattle.gu_terms.specs.PackedEntries.{text_at}
@@ -11,8 +11,8 @@ use Rattle.gu_offers.specs.declared.given.Given.{Given}
 use Rattle.gu_offers.specs.declared.given.Shared.{Shared}
 use Rattle.gu_offers.specs.Rows.{Row}
 
--- what is kept of an offer: what was given up, the lots of it that were moved, the number of the day on which lots were moved last,
--- those that were moved on it, and whether it was closed
+-- an offer as stored: what was given up, the lots of it that were moved, the number of the day on which lots were last moved, those moved
+-- on it, and whether it was closed
 pub record GivenUp : Type 0 where
   pub offer : Offer
   pub moved : ℕ
@@ -20,11 +20,11 @@ pub record GivenUp : Type 0 where
   pub today : ℕ
   pub is_shut : Bool
 
--- the id of its report, among those of all
+-- the id of its report, taken from the ids of all
 abbrev pub report_in : List ℕ → Given → List ℕ
 report_in ids g = text_at ids g.at g.len
 
--- what is kept so, with the id of its report
+-- the offer stored as this, with the id of its report
 abbrev pub given_in : List ℕ → Given → GivenUp
 given_in ids g =
     record {
@@ -35,16 +35,16 @@ given_in ids g =
       is_shut = g.is_shut;
     }
 
--- the id is among those of all
+-- the id is valid and lies within those of all
 pub record IsWithin (ids : List ℕ) (g : Given) : Type 0 where
   pub within : g.at + g.len ≤ length ids
   pub id : IsId (report_in ids g)
 
--- what was moved last was moved on this day, or nothing was moved on it
+-- the offer as of a day: lots moved last count as today's if they were moved on this day, else 0
 abbrev pub row_of : ℕ → GivenUp → Row
 row_of day g = record { offer = g.offer; moved = g.moved; today = if g.moved_on == day then g.today else 0; is_shut = g.is_shut }
 
--- what a line of a give-up offers, as it is kept
+-- the stored form of the offer that a line of a give-up makes
 abbrev pub given_for : FirmId → Id → Group → Line → GivenUp
 given_for firm report group line =
     record {
@@ -55,11 +55,11 @@ given_for firm report group line =
       is_shut = false;
     }
 
--- what was moved on a day is forgotten
+-- the stored offer after today's lots are reset to 0
 abbrev pub forgotten : GivenUp → GivenUp
 forgotten g = record { offer = g.offer; moved = g.moved; moved_on = g.moved_on; today = 0; is_shut = g.is_shut }
 
--- what is kept of a line of a give-up beside the id of its report
+-- the stored form of a line of a give-up, apart from the id of its report
 abbrev pub kept_for : Shared → Line → Given
 kept_for shared line =
     record {
@@ -75,7 +75,7 @@ kept_for shared line =
       today = 0;
     }
 
--- and what is kept once that was forgotten
+-- the same, after today's lots are reset to 0
 abbrev pub without_today : Given → Given
 without_today g =
     record {

@@ -1,4 +1,4 @@
--- Machinery: how offers are kept: in the order of their numbers, with the numbers of each group's open ones and the lots of each report.
+-- Machinery: how offers are stored: by number, with the numbers of each group's open offers and the lots held of each report.
 use Rattle.std.specs.Prelude.{◌≡◌, ℕ, ◌≤◌, List, map, length, slice_get, slice_set, Some}
 use Rattle.std.specs.List.{AllByRecursion}
 use Rattle.gu_terms.specs.declared.firm.FirmId.{FirmId}
@@ -16,7 +16,7 @@ use Rattle.gu_offers.specs.Rows.{IsSound, Row, counted_under, open_numbers}
 abbrev pub rows_of : Inside → List Row
 rows_of kept = map (row_of kept.day) kept.rows
 
--- the offers that are kept are sound, nothing was moved after this day, and both tables say what they say
+-- the offers are sound, none was moved after this day, there are at most 16,000,000, and the tables of open numbers and held lots are right
 pub record IsKept (kept : Inside) : Type 0 where
   pub sound : AllByRecursion IsSound (rows_of kept)
   pub days : AllByRecursion (λ (g : GivenUp). g.moved_on ≤ kept.day) kept.rows
@@ -24,7 +24,7 @@ pub record IsKept (kept : Inside) : Type 0 where
   pub numbers : (group : Group) → numbers_in kept.groups group ≡ open_numbers (rows_of kept) group
   pub counts : (firm : FirmId) (id : Id) → lots_under kept.counts firm id ≡ counted_under (rows_of kept) firm id
 
--- one offer that is kept was changed in this way
+-- one stored offer was changed in this way
 pub record IsWritten (old new : List GivenUp) (place day : ℕ) (change : Row → Row) (offer : Offer) : Type 0 where
   pub was : GivenUp
   pub now : GivenUp
@@ -34,6 +34,6 @@ pub record IsWritten (old new : List GivenUp) (place day : ℕ) (change : Row �
   pub on : was.moved_on ≤ day → now.moved_on ≤ day
   pub own : offer ≡ was.offer
 
--- the offer at a place may be changed: it is sound on this day
+-- the offer at an index, if there is one, is sound on this day
 abbrev pub IsSoundAt : List GivenUp → ℕ → ℕ → Type 0
 IsSoundAt items place day = (g : GivenUp) → slice_get items place ≡ Some g → IsSound (row_of day g)

@@ -1,4 +1,4 @@
-//! The lots of reports that offers hold.
+//! The lots of reports that are held by offers.
 
 ghost use Rattle.std.specs.Prelude.{◌≡◌, ◌+◌, ◌-◌, ◌<◌, ◌≤◌, ◌^◌, ◌&&◌, OnOk, if◌then◌else◌};
 ghost use Rattle.indexmap.specs.IndexMap.{hasher_of, spare};
@@ -11,14 +11,14 @@ use gu_terms::{FirmId, Id, Seed};
 use indexmap::IndexMap;
 use std::alloc::{AllocError, Global};
 
-/// What a firm knows its report by.
+/// The firm and id that identify a report.
 #[derive(Clone, Copy, PartialEq, Eq, Hash)]
 pub(crate) struct ReportKey {
     pub(crate) firm: FirmId,
     pub(crate) id: Id,
 }
 
-/// The lots of each report that its offers hold.
+/// The lots of each report that are held by its offers.
 pub(crate) struct Counts {
     pub(crate) lots: IndexMap<ReportKey, u64, Seed>,
 }
@@ -30,7 +30,7 @@ impl Drop for Counts {
     }
 }
 
-/// A report of a firm, as its lots are kept under it.
+/// Returns the key of a firm's report.
 fn key_of(firm: &FirmId, id: &Id) -> ReportKey
     ensures { result ≡ report_key firm.now id.now }
 {
@@ -43,7 +43,7 @@ fn key_of(firm: &FirmId, id: &Id) -> ReportKey
 impl Counts {
     ghost use Rattle.gu_offers.specs.Counts.{lots_under};
 
-    /// No lots of any report, with a seed by which reports are found.
+    /// Returns an empty table whose report hashes use `seed`.
     pub(crate) fn seeded(alloc: Global, seed: Seed) -> Self
         ensures none { (firm : Firm) (id : IdOf) → lots_under result firm id ≡ 0 }
         ensures seed { hasher_of result.lots ≡ seed }
@@ -53,14 +53,14 @@ impl Counts {
         }
     }
 
-    /// The lots of a report that its offers hold.
+    /// Returns the lots of a report that are held by its offers.
     pub(crate) fn of(&self, firm: FirmId, id: Id) -> u64
         ensures { result ≡ lots_under self.now firm id }
     {
         self.lots.get(&ReportKey { firm, id }).copied().unwrap_or(0)
     }
 
-    /// Makes room for one more report, and for a write after it.
+    /// Makes room for one more report, and for the write after it.
     pub(crate) fn reserve(&mut self) -> Result<(), AllocError>
         ensures room { OnOk result (1 < spare self.new.lots) }
         ensures same { (other : Firm) (another : IdOf) → lots_under self.new other another ≡ lots_under self.old other another }
@@ -68,14 +68,14 @@ impl Counts {
         self.lots.reserve(2)
     }
 
-    /// More lots of a report are held. There is room for it, where it is new.
+    /// Adds to the lots held of a report. If the report is new, there is room for it.
     pub(crate) fn add(&mut self, firm: &FirmId, id: &Id, more: u64)
         requires room { 1 < spare self.old.lots }
         requires fits { lots_under self.old firm.now id.now + more < 2 ^ 64 }
         ensures { (other : Firm) (another : IdOf)
             → lots_under self.new other another ≡ (if same_firm firm.now other && same_id id.now another then lots_under self.old other another + more else lots_under self.old other another) }
     {
-        // There is room, so that neither write fails.
+        // There is room, so neither write can fail.
         match self.lots.insert(key_of(firm, id), more) {
             Ok(Some(before)) => {
                 let _ = self.lots.insert(key_of(firm, id), before + more);
@@ -85,7 +85,7 @@ impl Counts {
         }
     }
 
-    /// Fewer lots of a report are held.
+    /// Subtracts from the lots held of a report.
     pub(crate) fn take(&mut self, firm: &FirmId, id: &Id, fewer: u64)
         requires { fewer ≤ lots_under self.old firm.now id.now }
         ensures { (other : Firm) (another : IdOf)

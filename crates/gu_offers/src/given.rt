@@ -1,4 +1,4 @@
-//! What is kept of an offer.
+//! An offer as stored.
 
 ghost use Rattle.std.specs.Prelude.{◌≡◌, ◌+◌, ◌-◌, ◌≤◌, if◌then◌else◌, ◌==◌, List, ℕ};
 ghost use Rattle.gu_offers.specs.Changes.{taken, reversed};
@@ -6,27 +6,26 @@ ghost use Rattle.gu_offers.specs.Given.{given_in, row_of, IsWithin};
 
 use gu_terms::{AccountId, FirmId, Group, Lots};
 
-/// What is kept of an offer: all but the id of its report, which is among those of all offers. The fields are ordered from small to
-/// large, so that they take little room.
+/// An offer as stored, without the id of its report, which is stored with those of all offers. Fields go from small to large, to save room.
 #[derive(Clone, Copy)]
 pub(crate) struct Given {
     pub(crate) firm: FirmId,
     pub(crate) group: Group,
     pub(crate) account: AccountId,
-    /// How many bytes the id has.
+    /// The length of the id in bytes.
     pub(crate) len: u8,
     pub(crate) is_shut: bool,
     pub(crate) lots: Lots,
-    /// At which byte the id begins.
+    /// The position of the id's first byte.
     pub(crate) at: usize,
     pub(crate) moved: u64,
-    /// The number of the day on which lots of it were moved last.
+    /// The number of the day on which lots of it were last moved.
     pub(crate) moved_on: u64,
-    /// The lots that were moved on that day.
+    /// The lots moved on that day.
     pub(crate) today: u64,
 }
 
-/// What the lines of a give-up share.
+/// The values that the lines of a give-up share.
 #[derive(Clone, Copy)]
 pub(crate) struct Shared {
     pub(crate) firm: FirmId,
@@ -36,7 +35,7 @@ pub(crate) struct Shared {
 }
 
 impl Given {
-    /// The lots that are left of it.
+    /// Returns the lots left of it.
     pub(crate) fn left(&self) -> u64
         ensures { result ≡ (if self.now.is_shut then 0 else self.now.lots - self.now.moved) }
     {
@@ -46,14 +45,14 @@ impl Given {
         self.lots.get().saturating_sub(self.moved)
     }
 
-    /// The lots of it that were moved on the day of this number.
+    /// Returns the lots of it that were moved on the day with this number.
     pub(crate) fn moved_on(&self, day: u64) -> u64
         ensures { result ≡ (if self.now.moved_on == day then self.now.today else 0) }
     {
         if self.moved_on == day { self.today } else { 0 }
     }
 
-    /// Lots of it are moved.
+    /// Moves lots of it.
     pub(crate) fn take(&mut self, lots: u64, day: u64)
         requires fits { self.old.moved + lots ≤ self.old.lots }
         requires today { (if self.old.moved_on == day then self.old.today else 0) ≤ self.old.moved }
@@ -69,7 +68,7 @@ impl Given {
         self.moved_on = day;
     }
 
-    /// The lots of it that were moved on this day are moved no longer, and it is closed. Answers how many these are.
+    /// Takes back the lots moved on this day, and closes it. Returns the number of those lots.
     pub(crate) fn reverse(&mut self, day: u64) -> u64
         requires { (if self.old.moved_on == day then self.old.today else 0) ≤ self.old.moved }
         ensures row { (ids : List ℕ) → row_of day (given_in ids self.new) ≡ reversed (row_of day (given_in ids self.old)) }

@@ -10,7 +10,7 @@ use gu_terms::Group;
 use indexmap::IndexMap;
 use std::alloc::{AllocError, Global};
 
-/// The numbers of the open offers of each product group, ascending.
+/// The numbers of each product group's open offers, ascending.
 pub(crate) struct Groups {
     pub(crate) numbers: IndexMap<Group, Vec<u64>>,
     pub(crate) alloc: Global,
@@ -23,7 +23,7 @@ impl Drop for Groups {
     }
 }
 
-/// Appends as many numbers, from the first on, or none.
+/// Appends `count` numbers starting at `first`, or none.
 fn append_to(numbers: &mut Vec<u64>, first: u64, count: usize) -> Result<(), AllocError>
     requires { first + count < 2 ^ 64 }
     ensures appended { OnOk result (numbers.new.items ≡ numbers.old.items ++ range_with_len first count) }
@@ -36,7 +36,7 @@ fn append_to(numbers: &mut Vec<u64>, first: u64, count: usize) -> Result<(), All
     Ok(())
 }
 
-/// Takes a number out of ascending ones, where it is among them.
+/// Removes a number from an ascending list, if it is there.
 fn take_from(numbers: &mut Vec<u64>, number: u64)
     requires { IsAscending numbers.old.items }
     ensures { numbers.new.items ≡ filter (λ other. not (other == number)) numbers.old.items }
@@ -49,7 +49,7 @@ fn take_from(numbers: &mut Vec<u64>, number: u64)
 impl Groups {
     ghost use Rattle.gu_offers.specs.Groups.{numbers_in};
 
-    /// No numbers.
+    /// Returns an empty table.
     pub(crate) fn new(alloc: Global) -> Self
         ensures { (group : GroupOf) → numbers_in result group ≡ [] }
     {
@@ -59,7 +59,7 @@ impl Groups {
         }
     }
 
-    /// The numbers of a group's open offers.
+    /// Returns the numbers of a group's open offers.
     pub(crate) fn of(&self, group: &Group) -> &[u64]
         ensures { result.now ≡ numbers_in self.now group.now }
     {
@@ -69,7 +69,7 @@ impl Groups {
         }
     }
 
-    /// Appends as many numbers to a group's, from the first on, or none. A group that is new has its list put in once it is written.
+    /// Appends consecutive numbers to a group's list, or none. A new group's list is inserted once it is written.
     pub(crate) fn append(
         &mut self,
         group: &Group,
@@ -90,7 +90,7 @@ impl Groups {
         Ok(())
     }
 
-    /// Takes a number out of a group's, where it is among them.
+    /// Removes a number from a group's list, if it is there.
     pub(crate) fn take_out(&mut self, group: &Group, number: u64)
         requires { IsAscending (numbers_in self.old group.now) }
         ensures { (other : GroupOf)

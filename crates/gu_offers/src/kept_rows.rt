@@ -1,4 +1,4 @@
-//! The offers, as they are kept.
+//! Offers as stored.
 
 ghost use Rattle.std.specs.Prelude.{◌≡◌, ℕ, ◌+◌, ◌++◌, ◌<◌, ◌≤◌, [], length, map, slice_get, take, vec_capacity, vec_len, OnErr, OnOk, Some};
 ghost use Rattle.std.specs.Option.{option_map};
@@ -14,11 +14,11 @@ use gu_terms::{AccountId, FirmId, Group, Id, Line, Offer};
 use std::alloc::{AllocError, Global};
 use std::marker::Model;
 
-/// The offers in the order of their numbers. To a contract it is their list.
+/// A list of offers in the order of their numbers. To a contract it is their list.
 #[derive(Drop)]
 pub(crate) struct KeptRows {
     list: Vec<Given>,
-    /// The ids of their reports, one a give-up, one after the other.
+    /// The ids of their reports, one for each give-up, joined in order.
     ids: Vec<u8>,
 }
 
@@ -33,7 +33,7 @@ impl Model for KeptRows {
     ghost invariant = { λ r. All (IsWithin r.ids.items) r.list.items };
 }
 
-/// Appends what is kept of each line. There is room.
+/// Appends the stored form of each line. There is room.
 fn push_lines(list: &mut Vec<Given>, shared: &Shared, lines: &[Line])
     requires { vec_len list.old + length lines.now ≤ vec_capacity list.old }
     ensures { list.new.items ≡ list.old.items ++ map (kept_for shared.now) lines.now }
@@ -54,7 +54,7 @@ fn push_lines(list: &mut Vec<Given>, shared: &Shared, lines: &[Line])
     }
 }
 
-/// Forgets what was moved on a day.
+/// Resets what was moved today to 0.
 fn forget(list: &mut Vec<Given>)
     ensures { list.new.items ≡ map without_today list.old.items }
 {
@@ -64,7 +64,7 @@ fn forget(list: &mut Vec<Given>)
 }
 
 impl KeptRows {
-    /// No offers.
+    /// Returns an empty list.
     pub(crate) fn new(alloc: Global) -> Self
         ensures { result ≡ [] }
     {
@@ -74,14 +74,14 @@ impl KeptRows {
         }
     }
 
-    /// How many there are.
+    /// Returns the number of offers.
     pub(crate) fn len(&self) -> usize
         ensures { result ≡ length self.now }
     {
         self.list.len()
     }
 
-    /// What is offered at a place.
+    /// Returns the offer at an index.
     pub(crate) fn offer(&self, place: usize) -> Offer
         requires { place < length self.now }
         ensures { option_map (λ (g : GivenOf). g.offer) (slice_get self.now place) ≡ Some result }
@@ -96,7 +96,7 @@ impl KeptRows {
         }
     }
 
-    /// The firm of the offer at a place, and its account.
+    /// Returns the firm and the account of the offer at an index.
     pub(crate) fn parties(&self, place: usize) -> (FirmId, AccountId)
         requires { place < length self.now }
         ensures { option_map (λ (g : GivenOf). (g.offer.firm, g.offer.account)) (slice_get self.now place) ≡ Some result }
@@ -105,7 +105,7 @@ impl KeptRows {
         (given.firm, given.account)
     }
 
-    /// The lots that are left of the offer at a place.
+    /// Returns the lots left of the offer at an index.
     pub(crate) fn left(&self, place: usize) -> u64
         requires { place < length self.now }
         ensures { (day : ℕ) → option_map (λ (g : GivenOf). left_of (row_of day g)) (slice_get self.now place) ≡ Some result }
@@ -113,7 +113,7 @@ impl KeptRows {
         self.list[place].left()
     }
 
-    /// The lots of the offer at a place that were moved on the day of this number.
+    /// Returns the lots of the offer at an index that were moved on the day with this number.
     pub(crate) fn moved_on(&self, place: usize, day: u64) -> u64
         requires { place < length self.now }
         ensures { option_map (λ (g : GivenOf). (row_of day g).today) (slice_get self.now place) ≡ Some result }
@@ -121,7 +121,7 @@ impl KeptRows {
         self.list[place].moved_on(day)
     }
 
-    /// Appends what the lines of a give-up of a report offer, or nothing.
+    /// Appends an offer for each line of a give-up, or none.
     pub(crate) fn push(
         &mut self,
         report: &ReportKey,
@@ -144,14 +144,14 @@ impl KeptRows {
         Ok(())
     }
 
-    /// Keeps the first ones, so many of them.
+    /// Keeps the first `count` offers.
     pub(crate) fn truncate(&mut self, count: usize)
         ensures { self.new ≡ take count self.old }
     {
         self.list.truncate(count);
     }
 
-    /// Forgets what was moved on a day.
+    /// Resets what was moved today to 0.
     pub(crate) fn forget(&mut self)
         ensures { self.new ≡ map forgotten self.old }
     {
@@ -159,7 +159,7 @@ impl KeptRows {
     }
 }
 
-/// Lots of an offer are moved. Answers its product group, and the lots that are left of it.
+/// Moves lots of an offer. Returns its product group and the lots left of it.
 pub(crate) fn take_of(rows: &mut KeptRows, place: usize, lots: u64, day: u64) -> (Group, u64)
     requires inside { place < length rows.old }
     requires sound { IsSoundAt rows.old place day }
@@ -173,7 +173,7 @@ pub(crate) fn take_of(rows: &mut KeptRows, place: usize, lots: u64, day: u64) ->
     (group, given.left())
 }
 
-/// An offer is closed. Answers what is offered, and the lots that were left of it.
+/// Closes an offer. Returns the offer and the lots that were left of it.
 pub(crate) fn close_of(rows: &mut KeptRows, place: usize, day: u64) -> (Offer, u64)
     requires { place < length rows.old }
     ensures written { IsWritten rows.old rows.new place day closed result.0 }
@@ -186,7 +186,7 @@ pub(crate) fn close_of(rows: &mut KeptRows, place: usize, day: u64) -> (Offer, u
     (offer, left)
 }
 
-/// What was moved of an offer on this day is moved no longer, and it is closed. Answers what is offered, and these lots.
+/// Takes back what was moved of an offer on this day, and closes it. Returns the offer and those lots.
 pub(crate) fn reverse_of(rows: &mut KeptRows, place: usize, day: u64) -> (Offer, u64)
     requires inside { place < length rows.old }
     requires sound { IsSoundAt rows.old place day }

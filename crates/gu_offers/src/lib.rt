@@ -1,4 +1,4 @@
-//! Offers: what is given up, how much of it was moved, and what is left.
+//! Offers: the lots given up, how many of them were moved, and how many are left.
 #![tactic(auto)]
 
 mod counts;

@@ -1,4 +1,4 @@
-//! The offers of the house, by their numbers.
+//! The offers of the house, by number.
 
 ghost use Rattle.std.specs.Prelude.{◌≡◌, ℕ, ◌+◌, ◌<◌, ◌≤◌, ◌++◌, [], length, map, slice_get, All, Some, vec_len, vec_capacity, OnOk, OnErr, IfOk};
 ghost use Rattle.std.specs.Option.{option_map};
@@ -15,12 +15,12 @@ use gu_terms::{AccountId, FirmId, Group, Id, Line, Lines, Offer, OfferNo, Seed};
 use std::alloc::{AllocError, Global};
 use std::marker::Model;
 
-/// The offers of the house, numbered from 1. To a contract it is their list, the offer of number n at place n - 1.
+/// The offers of the house, numbered from 1. To a contract it is their list, with offer n at index n - 1.
 pub struct Offers {
     rows: KeptRows,
     groups: Groups,
     counts: Counts,
-    /// The number of the day, by which it is known what was moved since it was opened.
+    /// The number of the day, by which lots moved since it was opened are known.
     day: u64,
 }
 
@@ -51,14 +51,14 @@ impl Model for Offers {
     ghost invariant = { IsKept };
 }
 
-/// The place of a number.
+/// Returns the index of a number.
 fn place_of(number: OfferNo) -> usize
     ensures { result + 1 ≡ number }
 {
     number.get() as usize - 1
 }
 
-/// The lots of each line are in their range.
+/// Shows the prover: the lots of each line are in their range.
 fn are_lots(lines: &[Line])
     ensures { All (λ line. IsLots line.lots) lines.now }
 {
@@ -68,7 +68,7 @@ fn are_lots(lines: &[Line])
     }
 }
 
-/// The offer of a number, with what is left of it.
+/// Returns the offer with this number and the lots left of it.
 fn open_offer(rows: &KeptRows, number: u64) -> OpenOffer
     requires some { 1 ≤ number }
     requires inside { number ≤ length rows.now }
@@ -84,14 +84,14 @@ fn open_offer(rows: &KeptRows, number: u64) -> OpenOffer
 }
 
 impl Offers {
-    /// No offers.
+    /// Returns an empty table.
     pub fn new(alloc: Global) -> Self
         ensures { result ≡ [] }
     {
         Offers::seeded(alloc, Seed::new(0))
     }
 
-    /// No offers, with a seed by which reports are found. What is answered doesn't depend on it.
+    /// Returns an empty table whose report hashes use `seed`. The seed affects no answer.
     pub fn seeded(alloc: Global, seed: Seed) -> Self
         ensures { result ≡ [] }
     {
@@ -103,23 +103,23 @@ impl Offers {
         }
     }
 
-    /// The rules of all offers.
+    /// Shows the prover the rules of all offers.
     pub fn rules(&self)
         ensures sound { All IsSound self.now }
         ensures few { length self.now ≤ 16000000 }
     {
-        // A field that is read shows what the type keeps.
+        // Reading a field shows the prover the invariant of its type.
         let _ = &self.rows;
     }
 
-    /// How many offers there are.
+    /// Returns the number of offers.
     pub fn count(&self) -> usize
         ensures { result ≡ length self.now }
     {
         self.rows.len()
     }
 
-    /// The offer of a number.
+    /// Returns the offer with this number.
     pub fn get(&self, number: OfferNo) -> Option<Offer>
         ensures { result ≡ option_map (λ r. r.offer) (row_at self.now number) }
     {
@@ -130,7 +130,7 @@ impl Offers {
         Some(self.rows.offer(place))
     }
 
-    /// The firm that gave up the offer of a number, and the account to which it did.
+    /// Returns the firm that gave up the offer with this number, and the account to which it did.
     pub fn parties(&self, number: OfferNo) -> Option<(FirmId, AccountId)>
         ensures { result ≡ option_map (λ r. (r.offer.firm, r.offer.account)) (row_at self.now number) }
     {
@@ -141,7 +141,7 @@ impl Offers {
         Some(self.rows.parties(place))
     }
 
-    /// The lots that are left of an offer, 0 where there is none of this number.
+    /// Returns the lots left of an offer; 0 if there is none with this number.
     pub fn left(&self, number: OfferNo) -> u64
         ensures { result ≡ left_in self.now number }
     {
@@ -152,7 +152,7 @@ impl Offers {
         self.rows.left(place)
     }
 
-    /// The lots of an offer that were moved since the last opening of a day, 0 where there is none of this number.
+    /// Returns the lots of an offer that were moved since the day was opened; 0 if there is none with this number.
     pub fn moved_today(&self, number: OfferNo) -> u64
         ensures { result ≡ today_in self.now number }
     {
@@ -163,28 +163,28 @@ impl Offers {
         self.rows.moved_on(place, self.day)
     }
 
-    /// The lots of a report that its offers hold.
+    /// Returns the lots of a report that are held by its offers.
     pub fn counted(&self, firm: FirmId, report: Id) -> u64
         ensures { result ≡ counted_under self.now firm report }
     {
         self.counts.of(firm, report)
     }
 
-    /// How many open offers a product group has.
+    /// Returns the number of open offers in a product group.
     pub fn open_count(&self, group: Group) -> usize
         ensures { result ≡ open_count self.now group }
     {
         self.groups.of(&group).len()
     }
 
-    /// The numbers of a product group's open offers, ascending. It takes no memory.
+    /// Returns the numbers of a product group's open offers, ascending. It allocates nothing.
     pub fn open_numbers(&self, group: Group) -> &[u64]
         ensures { result.now ≡ open_numbers self.now group }
     {
         self.groups.of(&group)
     }
 
-    /// Lots of an offer are moved, as many as are left of it at most.
+    /// Moves lots of an offer, at most those that are left.
     pub fn take(&mut self, number: OfferNo, lots: u64)
         requires { lots ≤ left_in self.old number }
         ensures { self.new ≡ changed self.old number (taken lots) }
@@ -200,7 +200,7 @@ impl Offers {
         }
     }
 
-    /// An offer is closed: nothing is left of it. What was moved stays moved.
+    /// Closes an offer: nothing is left of it. Lots already moved stay moved.
     pub fn close(&mut self, number: OfferNo)
         ensures { self.new ≡ changed self.old number closed }
     {
@@ -214,7 +214,7 @@ impl Offers {
         self.counts.take(&offer.firm, &offer.report, left);
     }
 
-    /// What was moved of a closed offer since the last opening of a day is moved no longer. It stays closed, for good.
+    /// Takes back what was moved of a closed offer since the day was opened. The offer stays closed for good.
     pub fn reverse(&mut self, number: OfferNo)
         requires closed { left_in self.old number ≡ 0 }
         requires moved { 0 < today_in self.old number }
@@ -229,7 +229,7 @@ impl Offers {
         self.counts.take(&offer.firm, &offer.report, lots);
     }
 
-    /// Offers the lines of a give-up, all of them or none, and answers the number of the first.
+    /// Makes an offer for each line of a give-up, or none, and returns the number of the first.
     pub fn give_up(
         &mut self,
         firm: FirmId,
@@ -262,7 +262,7 @@ impl Offers {
         }
     }
 
-    /// A day is opened: nothing was moved since.
+    /// Opens a day: nothing has been moved since.
     pub fn new_day(&mut self)
         ensures { self.new ≡ map next_day self.old }
     {
@@ -272,7 +272,7 @@ impl Offers {
         }
     }
 
-    /// A product group's open offers, in the order of their numbers.
+    /// Returns a product group's open offers, in the order of their numbers.
     pub fn of_group(&self, group: Group) -> Result<Vec<OpenOffer>, AllocError>
         ensures { IfOk result (λ offers. offers.items ≡ open_offers self.now group) }
     {

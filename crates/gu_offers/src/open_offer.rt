@@ -1,12 +1,12 @@
-//! Offers that are open.
+//! Open offers.
 
 use gu_terms::{Offer, OfferNo};
 
-/// An offer of which lots are left.
+/// An offer with lots left.
 #[derive(Clone, Copy, Debug, PartialEq, Eq)]
 pub struct OpenOffer {
     pub number: OfferNo,
     pub offer: Offer,
-    /// The lots that are left of it.
+    /// The lots left of it.
     pub left: u64,
 }

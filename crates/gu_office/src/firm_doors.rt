@@ -35,7 +35,7 @@ fn path_of(alloc: Global, folder: &str, firm: &FirmId) -> io::Result<String>
     Ok(path)
 }
 
-/// The sockets that were made, and where they are.
+/// The sockets that were made, and their paths.
 #[derive(Drop)]
 pub struct MadeDoors {
     pub listeners: Vec<UnixListener>,
@@ -43,7 +43,7 @@ pub struct MadeDoors {
 }
 
 impl MadeDoors {
-    /// Creates those of doors of which none was made yet.
+    /// Creates an empty list of doors.
     pub fn new(alloc: Global) -> Self {
         MadeDoors {
             listeners: Vec::new(alloc),
@@ -82,7 +82,7 @@ impl<'a, 'f> FirmDoors<'a, 'f> {
         made.make(rt, path)
     }
 
-    /// Returns what a fault at a firm's socket is called.
+    /// Returns the error for a fault at a firm's socket.
     fn error_of(self, firm: FirmId, fault: ListenFault) -> ListenError<'a> {
         match fault {
             ListenFault::Io(error) if is_of_descriptors(&error) => {
@@ -96,7 +96,7 @@ impl<'a, 'f> FirmDoors<'a, 'f> {
         }
     }
 
-    /// Makes the sockets, in the order of the firms. Where one can't be had, those that were made are gone again.
+    /// Makes the sockets, in the order of the firms. If one can't be made, those already made are removed.
     pub fn make<R: Files + Net>(self, rt: &R, alloc: Global) -> Result<MadeDoors, ListenError<'a>> {
         let mut made = MadeDoors::new(alloc);
         for firm in self.firms {

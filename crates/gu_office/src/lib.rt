@@ -1,4 +1,4 @@
-//! Where firms and operators come in to a server: its port, the doors of firms, and the sockets of operators.
+//! The ways in to a server for firms and operators: its port, the doors of firms, and the sockets of operators.
 #![tactic(auto)]
 
 mod firm_doors;

@@ -1,13 +1,13 @@
-//! What can't be listened at, and why.
+//! Where listening failed, and why.
 
 use gu_sockets::ListenFault;
 use gu_terms::FirmId;
 use std::io;
 
-/// The number of the error by which the system says that a program has as many descriptors as it may have: EMFILE.
+/// EMFILE: the system's error number for a program that has no descriptor left.
 const EMFILE: i32 = 24;
 
-/// What can't be listened at, and why.
+/// Where listening failed, and why.
 #[derive(Debug, Drop)]
 pub enum ListenError<'a> {
     /// The socket of this path.
@@ -20,11 +20,11 @@ pub enum ListenError<'a> {
     },
     /// The doors of firms, this many in all: the program may have too few descriptors for them.
     TooFewDescriptors(usize),
-    /// The port, or what waits at it and at the sockets.
+    /// The port, or the poll that waits at it and at the sockets.
     Port(io::Error),
 }
 
-/// Returns whether an error says that the program has as many descriptors as it may have.
+/// Returns whether an error means that the program has no descriptor left.
 pub fn is_of_descriptors(error: &io::Error) -> bool {
     error.raw_os_error() == Some(EMFILE)
 }

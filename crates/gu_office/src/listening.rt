@@ -1,4 +1,4 @@
-//! Where firms and operators come in: the port, the doors of firms, and the sockets of operators.
+//! The ways in for firms and operators: the port, the doors of firms, and the sockets of operators.
 
 use crate::firm_doors::{FirmDoors, MadeDoors, remove_all};
 use crate::listen_error::{ListenError, is_of_descriptors};
@@ -10,16 +10,16 @@ use std::os::unix::net::UnixListener;
 use std::rt::Files;
 use std::{fs, io};
 
-/// Where firms and operators come in.
+/// The ways in for firms and operators.
 #[derive(Clone, Copy, Debug)]
 pub struct Addresses<'a, 'f> {
     /// The port of this machine for firms, if one is to be open.
     pub port: Option<u16>,
     /// The doors of firms, if there are any.
     pub doors: Option<FirmDoors<'a, 'f>>,
-    /// The path of the socket of operators, where there is one.
+    /// The path of the socket of operators, if there is one.
     pub console: Option<&'a str>,
-    /// The path of the socket for those who may only look, where there is one.
+    /// The path of the socket for those who may only look, if there is one.
     pub watch: Option<&'a str>,
 }
 
@@ -87,7 +87,7 @@ impl<'a, 'f> Addresses<'a, 'f> {
         Ok(Front { door, bell })
     }
 
-    /// Returns what an error is called that came once the sockets were made.
+    /// Returns the error to report for a failure after the sockets were made.
     fn error_of(&self, error: io::Error) -> ListenError<'a> {
         match self.doors {
             Some(doors) if is_of_descriptors(&error) => {
@@ -135,8 +135,8 @@ impl<'a, 'f> Addresses<'a, 'f> {
         front
     }
 
-    /// Listens at the console, then at the socket for those who may only look, then at the doors of firms, and then at the port. Where one of
-    /// them can't be had, the sockets that were made for the others are gone again. Else they stay, also after the day: a dead one is replaced
+    /// Listens at the console, then at the socket for those who may only look, then at the doors of firms, and then at the port. If one of
+    /// them can't be opened, the sockets already made are removed. Otherwise they stay, even after the day: a dead one is replaced
     /// by the next desk.
     pub fn listen<R: Files + Net<Listener = TcpListener, Stream = TcpStream>>(
         &self,

@@ -1,4 +1,4 @@
--- Lots that come to a row that is kept, and lots that leave one.
+-- Lots added to a stored row, and lots taken from one.
 use Rattle.std.proofs.Common.{◌≡◌, ◌∙◌, sym, refl, ap, subst, ℕ, ◌+◌, ◌-◌, ◌<◌, ◌≤◌, ◌^◌, Bool, true, false, ◌&&◌, Some, unwrap_or, arith, if◌then◌else◌}
 use Rattle.std.specs.Map.{set_value}
 use Rattle.std.specs.Option.{option_map_or}
@@ -23,12 +23,12 @@ use Rattle.gu_positions.proofs.RowNumbers.{has_row-numbered}
 use Rattle.gu_terms.proofs.SameNames.{same_symbol-true}
 use Rattle.gu_terms.proofs.SameValues.{both}
 
--- a row of which more is held is a row with more, and its instrument's open interest stands where it stood
+-- a stored row with more lots is the row with more, and its instrument's open interest keeps its index
 pub row_of-more : (side : Side) (lots : ℕ) (h w : Holding) → w ≡ more side lots h → (w.interest ≡ h.interest) × ((k : Place) → row_of (k, w) ≡ more_in side lots (row_of (k, h)))
 row_of-more Buy lots h w is = (λ i. (is i).interest, λ k. ap (λ h. row_of (k, h)) is)
 row_of-more Sell lots h w is = (λ i. (is i).interest, λ k. ap (λ h. row_of (k, h)) is)
 
--- and with less
+-- the same with fewer lots
 pub row_of-less : (side : Side) (lots : ℕ) (h w : Holding) → w ≡ less side lots h → (w.interest ≡ h.interest) × ((k : Place) → row_of (k, w) ≡ less_in side lots (row_of (k, h)))
 row_of-less Buy lots h w is = (λ i. (is i).interest, λ k. ap (λ h. row_of (k, h)) is)
 row_of-less Sell lots h w is = (λ i. (is i).interest, λ k. ap (λ h. row_of (k, h)) is)
@@ -39,7 +39,7 @@ same_side-true Sell Sell h = refl
 same_side-true _ _ h = cc
 
 module _ (kept : Inside) (is_kept : IsKept kept) (side : Side) (account : AccountId) (symbol : Symbol) (lots : ℕ) where
-  -- lots for which there is room among all fit into a row
+  -- lots that fit into the total fit into a row
   pub fits : (was : Holding) → get same_key kept.rows (place_of account symbol) ≡ Some was → lots_on (rows_of kept) side symbol + lots < 2 ^ 64 → held side was + lots < 2 ^ 64
   fits was at room = omega (arith, room, lots_in-lookup side account symbol kept.rows.entries ∙ ap (λ o. option_map_or (held side) o 0) at, lots_in-within (rows_of kept) side account symbol)
 
@@ -47,7 +47,7 @@ module _ (kept : Inside) (is_kept : IsKept kept) (side : Side) (account : Accoun
   pub enough : (was : Holding) → get same_key kept.rows (place_of account symbol) ≡ Some was → lots ≤ lots_in (rows_of kept) side account symbol → lots ≤ held side was
   enough was at has = subst (λ n. lots ≤ n) (lots_in-lookup side account symbol kept.rows.entries ∙ ap (λ o. option_map_or (held side) o 0) at) has
 
-  -- all lots stay few where more come for which there is room
+  -- totals stay below 2^64 when lots that fit are added
   pub few-more : (number : ℕ) → is_numbered (rows_of kept) account symbol number ≡ true → lots_on (rows_of kept) side symbol + lots < 2 ^ 64
       → (t : Side) (s : Symbol) → lots_on (with_more (rows_of kept) side account symbol lots) t s < 2 ^ 64
   few-more number made room t s =
@@ -60,7 +60,7 @@ module _ (kept : Inside) (is_kept : IsKept kept) (side : Side) (account : Accoun
           omega (arith, here, room)
       by false e = omega (arith, is_kept.few t s)
 
-  -- and where some leave
+  -- and when lots are taken
   pub few-less : (number : ℕ) → is_numbered (rows_of kept) account symbol number ≡ true → lots ≤ lots_in (rows_of kept) side account symbol
       → (t : Side) (s : Symbol) → lots_on (with_less (rows_of kept) side account symbol lots) t s < 2 ^ 64
   few-less number made has t s =
@@ -70,7 +70,7 @@ module _ (kept : Inside) (is_kept : IsKept kept) (account : AccountId) (symbol :
     (was w : Holding) (at : get same_key kept.rows (place_of account symbol) ≡ Some was) (each : (w.interest ≡ was.interest) × ((k : Place) → row_of (k, w) ≡ g (row_of (k, was))))
     (few : (t : Side) (s : Symbol) → lots_on (changed account symbol g keeps (rows_of kept)) t s < 2 ^ 64)
     (before after : ℕ) (before_is : before ≡ was.long - was.short) (after_is : after ≡ w.long - w.short) where
-  -- the open interest has its place and is enough, and it fits when it follows
+  -- the open interest is at its index, is large enough, and doesn't overflow when it is updated
   pub settles : (s : Symbol) × StandsAt kept.interests.entries s was.interest × (before ≤ unwrap_or (get same_symbol kept.interests s) 0)
       × (unwrap_or (get same_symbol kept.interests s) 0 - before + after < 2 ^ 64)
   settles =
@@ -81,7 +81,7 @@ module _ (kept : Inside) (is_kept : IsKept kept) (account : AccountId) (symbol :
       omega (arith, follows, open_interest-within (changed account symbol g keeps (rows_of kept)) symbol, few Buy symbol) in
       (symbol, is_kept.places account symbol was at, enough, fits)
 
-  -- all is kept then
+  -- everything is then stored correctly
   pub keeps-written : (later : Inside) → later.rows.entries ≡ set_value (same_key (place_of account symbol)) kept.rows.entries w
       → Updates same_key kept.rows later.rows (place_of account symbol) (Some w)
       → ((s : Symbol) → StandsAt kept.interests.entries s was.interest → Updates same_symbol kept.interests later.interests s (Some (unwrap_or (get same_symbol kept.interests s) 0 - before + after)))

@@ -1,4 +1,4 @@
--- Rows of which the one of an account and an instrument is changed: what they have then, and what they keep.
+-- Rows after the one for an account and instrument is changed: their lots, and what they keep.
 use Rattle.std.proofs.Common.{◌≡◌, ◌∙◌, sym, refl, ap, subst, ℕ, ◌+◌, ◌-◌, ◌≤◌, Bool, true, false, cond, ◌&&◌, ◌||◌, List, [], ◌∷◌, map, Option, Some, None, arith, if◌then◌else◌}
 use Rattle.std.specs.List.{AllByRecursion, IsDistinct, find, list_any, sum_by}
 use Rattle.std.specs.Option.{option_map_or}
@@ -13,7 +13,7 @@ use Rattle.gu_positions.specs.Rows.{Row, has_row, is_of, lots_in, lots_of, lots_
 use Rattle.gu_positions.proofs.Places.{same_place-true, same_place-own}
 use Rattle.gu_terms.proofs.SameNames.{same_symbol-own}
 
--- the first that passes a test does pass it
+-- the first element that passes a test passes it
 pub find-passes : {X : Type 0} (test : X → Bool) (xs : List X) (x : X) → find test xs ≡ Some x → test x ≡ true
 find-passes test [] x h = cc
 find-passes {X} test (y ∷ xs) x h = by (test y) refl h (find-passes test xs x)
@@ -22,7 +22,7 @@ find-passes {X} test (y ∷ xs) x h = by (test y) refl h (find-passes test xs x)
     by true e k rest = let one : y ≡ x = cc in ap test (sym one) ∙ e
     by false e k rest = rest k
 
--- an element that was found is no more than the sum
+-- an element that was found is at most the sum
 pub found_within_sum : {X : Type 0} (test : X → Bool) (f : X → ℕ) (xs : List X) (x : X) → find test xs ≡ Some x → f x ≤ sum_by f xs
 found_within_sum test f [] x h = cc
 found_within_sum {X} test f (y ∷ xs) x h = by (test y) h (found_within_sum test f xs x)
@@ -31,7 +31,7 @@ found_within_sum {X} test f (y ∷ xs) x h = by (test y) h (found_within_sum tes
     by true k rest = let one : f y ≡ f x = let same : y ≡ x = cc in ap f same in omega (arith, sum_by-cons f y xs)
     by false k rest = omega (arith, sum_by-cons f y xs, rest k)
 
--- what is among them is found
+-- an element of the list is found
 pub found-among : {X : Type 0} (test : X → Bool) (xs : List X) → list_any test xs ≡ true → (x : X) × (find test xs ≡ Some x)
 found-among test [] h = cc
 found-among {X} test (y ∷ xs) h = by (test y) h (found-among test xs)
@@ -41,11 +41,11 @@ found-among {X} test (y ∷ xs) h = by (test y) h (found-among test xs)
     by false k rest = rest k
 
 module _ (account : AccountId) (symbol : Symbol) (g : Row → Row) (keeps : (r : Row) → ((g r).account ≡ r.account) × ((g r).symbol ≡ r.symbol)) where
-  -- the rows, of which the one of this account and instrument is changed
+  -- the rows after the one for this account and instrument is changed
   abbrev pub changed : List Row → List Row
   changed rows = map (λ r. if is_of account symbol r then g r else r) rows
 
-  -- a row that is changed stays of its account and instrument
+  -- a changed row keeps its account and instrument
   pub is_of-changed : (a : AccountId) (s : Symbol) (b : Bool) (r : Row) → is_of a s (cond b (g r) r) ≡ is_of a s r
   is_of-changed a s true r = λ i. same_place a s ((keeps r).0 i) ((keeps r).1 i)
   is_of-changed a s false r = refl
@@ -77,7 +77,7 @@ module _ (account : AccountId) (symbol : Symbol) (g : Row → Row) (keeps : (r :
           cc
       own false e h = refl
 
-  -- the lots of the account are changed
+  -- the lots of the account change
   pub lots_in-own : (t : Side) (f : ℕ → ℕ) → ((r : Row) → lots_of t (g r) ≡ f (lots_of t r)) → (rows : List Row) → has_row rows account symbol ≡ true
       → lots_in (changed rows) t account symbol ≡ f (lots_in rows t account symbol)
   lots_in-own t f each [] there = cc
@@ -90,7 +90,7 @@ module _ (account : AccountId) (symbol : Symbol) (g : Row → Row) (keeps : (r :
       by true e h rest = rw (is_of-changed account symbol true r, e) (each r)
       by false e h rest = rw e (rest h)
 
-  -- where a row is this one, none after it is
+  -- if a row is this one, none after it is
   pub rest_unchanged : (x : Row) (rows : List Row) → is_of account symbol x ≡ true → AllByRecursion (λ r. same_row x r ≡ false) rows → changed rows ≡ rows
   rest_unchanged x [] own apart = refl
   rest_unchanged x (r ∷ rows) own apart =
@@ -98,7 +98,7 @@ module _ (account : AccountId) (symbol : Symbol) (g : Row → Row) (keeps : (r :
       let other : is_of account symbol r ≡ false = (λ i. same_place (here.0 i) (here.1 i) r.account r.symbol) ∙ apart.0 in
       rw (other, rest_unchanged x rows own apart.1) refl
 
-  -- a sum over the rows changes as the one row does
+  -- a sum over the rows changes as that row does
   pub sum_by-changed : (f : Row → ℕ) (n m : ℕ) (rows : List Row) → IsDistinct same_row rows → has_row rows account symbol ≡ true
       → ((r : Row) → find (is_of account symbol) rows ≡ Some r → f (g r) + n ≡ f r + m) → sum_by f (changed rows) + n ≡ sum_by f rows + m
   unfolding IsDistinct
@@ -120,7 +120,7 @@ module _ (account : AccountId) (symbol : Symbol) (g : Row → Row) (keeps : (r :
   apart-changed x y ea es (r ∷ rows) apart =
       ((λ i. is_of (ea i) (es i) (cond (is_of account symbol r) (g r) r)) ∙ is_of-changed y.account y.symbol (is_of account symbol r) r ∙ apart.0, apart-changed x y ea es rows apart.1)
 
-  -- no row is there twice
+  -- no row occurs twice
   pub distinct-changed : (rows : List Row) → IsDistinct same_row rows → IsDistinct same_row (changed rows)
   unfolding IsDistinct
   distinct-changed [] once = tt
@@ -130,7 +130,7 @@ module _ (account : AccountId) (symbol : Symbol) (g : Row → Row) (keeps : (r :
       by true = apart-changed (g r) r (keeps r).0 (keeps r).1 rows once.0
       by false = apart-changed r r refl refl rows once.0
 
--- a row with more lots, or with fewer, is of the account and instrument that it was
+-- a row with more or fewer lots keeps its account and instrument
 pub keeps-more : (side : Side) (lots : ℕ) (r : Row) → ((more_in side lots r).account ≡ r.account) × ((more_in side lots r).symbol ≡ r.symbol)
 keeps-more Buy lots r = (refl, refl)
 keeps-more Sell lots r = (refl, refl)
@@ -146,7 +146,7 @@ lots_of-more Buy lots Sell r = omega arith
 lots_of-more Sell lots Buy r = omega arith
 lots_of-more Sell lots Sell r = refl
 
--- and with fewer
+-- and with fewer lots
 pub lots_of-less : (side : Side) (lots : ℕ) (t : Side) (r : Row) → lots_of t (less_in side lots r) ≡ lots_of t r - (if same_side side t then lots else 0)
 lots_of-less Buy lots Buy r = refl
 lots_of-less Buy lots Sell r = omega arith
@@ -164,7 +164,7 @@ elsewhere false false lots e = refl
 elsewhere p true lots e = cc
 
 module _ (rows : List Row) (side : Side) (account : AccountId) (symbol : Symbol) (lots : ℕ) (there : has_row rows account symbol ≡ true) where
-  -- lots come in their place alone
+  -- lots are added only at their place
   pub lots_in-with_more : (t : Side) (a : AccountId) (s : Symbol) → lots_in (with_more rows side account symbol lots) t a s ≡ lots_in rows t a s + lots_at side account symbol lots t a s
   lots_in-with_more t a s = by (same_place account symbol a s) refl
     where
@@ -179,7 +179,7 @@ module _ (rows : List Row) (side : Side) (account : AccountId) (symbol : Symbol)
           let same = lots_in-others account symbol (more_in side lots) (keeps-more side lots) t a s e rows in
           omega (arith, same, elsewhere (same_side side t) (same_place account symbol a s) lots e)
 
-  -- and leave their place alone
+  -- lots are taken only at their place
   pub lots_in-with_less : (t : Side) (a : AccountId) (s : Symbol) → lots_in (with_less rows side account symbol lots) t a s ≡ lots_in rows t a s - lots_at side account symbol lots t a s
   lots_in-with_less t a s = by (same_place account symbol a s) refl
     where
@@ -206,7 +206,7 @@ more_on Buy lots Sell false r = refl
 more_on Sell lots Buy false r = refl
 more_on Sell lots Sell false r = refl
 
--- and with fewer
+-- and with fewer lots
 less_on : (side : Side) (lots : ℕ) (t : Side) (p : Bool) (r : Row) → lots ≤ lots_of side r
     → (if p then lots_of t (less_in side lots r) else 0) + (if same_side side t && p then lots else 0) ≡ (if p then lots_of t r else 0) + 0
 less_on Buy lots Buy true r h = omega arith
@@ -222,7 +222,7 @@ module _ (rows : List Row) (side : Side) (account : AccountId) (symbol : Symbol)
   of_symbol : (r : Row) → find (is_of account symbol) rows ≡ Some r → symbol ≡ r.symbol
   of_symbol r at = (same_place-true account symbol r.account r.symbol (find-passes (is_of account symbol) rows r at)).1
 
-  -- lots come on their side of the instrument alone
+  -- lots are added only on their side of the instrument
   pub lots_on-with_more : (t : Side) (s : Symbol) → lots_on (with_more rows side account symbol lots) t s ≡ lots_on rows t s + lots_at_side side symbol lots t s
   lots_on-with_more t s =
       let one : lots_on (with_more rows side account symbol lots) t s + 0 ≡ lots_on rows t s + lots_at_side side symbol lots t s =
@@ -232,7 +232,7 @@ module _ (rows : List Row) (side : Side) (account : AccountId) (symbol : Symbol)
       ∙ (λ i. (if same_symbol r.symbol s then lots_of t r else 0) + lots_at_side side (sym (of_symbol r at) i) lots t s)) in
       omega (arith, one)
 
-  -- and leave their side of the instrument alone
+  -- lots are taken only on their side of the instrument
   pub lots_on-with_less : lots ≤ lots_in rows side account symbol → (t : Side) (s : Symbol)
       → lots_on (with_less rows side account symbol lots) t s + lots_at_side side symbol lots t s ≡ lots_on rows t s
   lots_on-with_less enough t s =
@@ -248,7 +248,7 @@ chosen false a b n m old new = refl
 
 module _ (account : AccountId) (symbol : Symbol) (g : Row → Row) (keeps : (r : Row) → ((g r).account ≡ r.account) × ((g r).symbol ≡ r.symbol))
     (rows : List Row) (once : IsDistinct same_row rows) (there : has_row rows account symbol ≡ true) where
-  -- the open interest changes by what is held in excess
+  -- the open interest changes by the change of the excess
   pub open_interest-changed : (before after : ℕ)
       → ((r : Row) → find (is_of account symbol) rows ≡ Some r → (r.long - r.short ≡ before) × ((g r).long - (g r).short ≡ after))
       → (s : Symbol) → open_interest_in (changed account symbol g keeps rows) s + (if same_symbol symbol s then before else 0) ≡ open_interest_in rows s + (if same_symbol symbol s then after else 0)
@@ -261,7 +261,7 @@ module _ (account : AccountId) (symbol : Symbol) (g : Row → Row) (keeps : (r :
       ∙ chosen (same_symbol r.symbol s) ((g r).long - (g r).short) (r.long - r.short) before after (own r at).1 (own r at).0
       ∙ (λ i. (if same_symbol r.symbol s then r.long - r.short else 0) + (if same_symbol (sym one i) s then after else 0)))
 
--- what an account holds is no more than all hold
+-- an account's lots are at most the total
 pub lots_in-within : (rows : List Row) (t : Side) (a : AccountId) (s : Symbol) → lots_in rows t a s ≤ lots_on rows t s
 lots_in-within rows t a s = by (find (is_of a s) rows) refl
   where
@@ -277,7 +277,7 @@ excess_within : (p : Bool) (long short : ℕ) → (if p then long - short else 0
 excess_within true long short = omega arith
 excess_within false long short = omega arith
 
--- the open interest is no more than the long lots
+-- the open interest is at most the long lots
 pub open_interest-within : (rows : List Row) (s : Symbol) → open_interest_in rows s ≤ lots_on rows Buy s
 open_interest-within [] s = omega arith
 open_interest-within (r ∷ rows) s =
@@ -293,7 +293,7 @@ more_of_less : (side : Side) (lots : ℕ) (r : Row) → lots ≤ lots_of side r 
 more_of_less Buy lots r h = let e : r.long - lots + lots ≡ r.long = omega arith in λ i. record { account = r.account; symbol = r.symbol; long = e i; short = r.short }
 more_of_less Sell lots r h = let e : r.short - lots + lots ≡ r.short = omega arith in λ i. record { account = r.account; symbol = r.symbol; long = r.long; short = e i }
 
--- lots that leave an account and come to it again leave the rows as they were
+-- lots taken from an account and added again leave the rows unchanged
 pub with_more-with_less : (side : Side) (account : AccountId) (symbol : Symbol) (lots : ℕ) (rows : List Row) → IsDistinct same_row rows → lots ≤ lots_in rows side account symbol
     → with_more (with_less rows side account symbol lots) side account symbol lots ≡ rows
 unfolding IsDistinct

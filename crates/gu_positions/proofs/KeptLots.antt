@@ -1,4 +1,4 @@
--- The rows as they are kept: looked up by account and instrument, written, and beside them the open interests.
+-- The rows as stored: look-ups by account and instrument, writes, and the open interests beside them.
 use Rattle.std.proofs.Common.{◌≡◌, ◌∙◌, sym, refl, ap, subst, ℕ, ◌+◌, ◌-◌, ◌<◌, ◌≤◌, ◌^◌, Bool, true, false, cond, ◌||◌, List, [], ◌∷◌, map, Option, None, Some, is_some, unwrap_or, arith, if◌then◌else◌}
 use Rattle.std.specs.List.{IsDistinct, find}
 use Rattle.std.specs.Map.{lookup, set_value}
@@ -36,7 +36,7 @@ lots_in-lookup t a s (e ∷ entries) = by (same_key (place_of a s) e.0) (lots_in
     by true rest = lots_of-row_of t e.0 e.1
     by false rest = rest
 
--- both sides
+-- both sides are found
 pub both_sides-lookup : (kept : Inside) (rows : List Row) → rows_of kept ≡ rows → (a : AccountId) (s : Symbol) (o : Option Holding) → o ≡ get same_key kept.rows (place_of a s)
     → ◌≡◌ {A = ℕ × ℕ} (option_map_or (held Buy) o 0, option_map_or (held Sell) o 0) (lots_in rows Buy a s, lots_in rows Sell a s)
 both_sides-lookup kept rows view a s o at = λ i. (one Buy i, one Sell i)
@@ -44,7 +44,7 @@ both_sides-lookup kept rows view a s o at = λ i. (one Buy i, one Sell i)
     one : (t : Side) → option_map_or (held t) o 0 ≡ lots_in rows t a s
     one t = ap (λ it. option_map_or (held t) it 0) at ∙ sym (lots_in-lookup t a s kept.rows.entries) ∙ ap (λ it. lots_in it t a s) view
 
--- and whether there is one
+-- whether a row exists
 pub has_row-lookup : (a : AccountId) (s : Symbol) (entries : List (Place × Holding))
     → has_row (map row_of entries) a s ≡ is_some (lookup (same_key (place_of a s)) entries)
 has_row-lookup a s [] = refl
@@ -56,7 +56,7 @@ has_row-lookup a s (e ∷ entries) = by (same_key (place_of a s) e.0) (has_row-l
     by false rest = rest
 
 module _ (account : AccountId) (symbol : Symbol) (g : Row → Row) (keeps : (r : Row) → ((g r).account ≡ r.account) × ((g r).symbol ≡ r.symbol)) where
-  -- what is written for one account and instrument changes that row
+  -- a write for one account and instrument changes that row
   pub rows-set_value : (h w : Holding) → ((k : Place) → row_of (k, w) ≡ g (row_of (k, h))) → (entries : List (Place × Holding)) → IsDistinct same_row (map row_of entries)
       → lookup (same_key (place_of account symbol)) entries ≡ Some h
       → map row_of (set_value (same_key (place_of account symbol)) entries w) ≡ changed account symbol g keeps (map row_of entries)
@@ -75,7 +75,7 @@ module _ (account : AccountId) (symbol : Symbol) (g : Row → Row) (keeps : (r :
           λ i. first i ∷ sym (rest_unchanged account symbol g keeps (row_of e) (map row_of entries) own once.0) i
       by false own there rest = ap (λ l. row_of e ∷ l) (rest there)
 
--- what a look-up finds is the row that is found
+-- the row found by a look-up
 found-excess : (entries : List (Place × Holding)) (a : AccountId) (s : Symbol) (h : Holding) (r : Row) → lookup (same_key (place_of a s)) entries ≡ Some h
     → find (is_of a s) (map row_of entries) ≡ Some r → (r.long ≡ h.long) × (r.short ≡ h.short)
 found-excess entries a s h r at found = (by Buy, by Sell)
@@ -83,7 +83,7 @@ found-excess entries a s h r at found = (by Buy, by Sell)
     by : (t : Side) → lots_of t r ≡ held t h
     by t = ap (λ o. option_map_or (lots_of t) o 0) (sym found) ∙ lots_in-lookup t a s entries ∙ ap (λ o. option_map_or (held t) o 0) at
 
--- after one row is written, or comes last, that has the place of its instrument's open interest, each has it
+-- after one row with the index of its instrument's open interest is written or added last, each row has it
 pub places-updated : (old : Inside) → IsKept old → (new : Inside) (account : AccountId) (symbol : Symbol) (w : Holding) → Updates same_key old.rows new.rows (place_of account symbol) (Some w)
     → KeepsPlaces old.interests.entries new.interests.entries → StandsAt new.interests.entries symbol w.interest
     → (a : AccountId) (s : Symbol) (h : Holding) → get same_key new.rows (place_of a s) ≡ Some h → StandsAt new.interests.entries s h.interest
@@ -96,11 +96,11 @@ places-updated old kept new account symbol w updated stay stands a s h there = b
     by false e is = stay s h.interest (kept.places a s h is)
 
 module _ (kept : Inside) (is_kept : IsKept kept) (account : AccountId) (symbol : Symbol) (h : Holding) (at : get same_key kept.rows (place_of account symbol) ≡ Some h) where
-  -- the row is there
+  -- the row exists
   pub there : has_row (rows_of kept) account symbol ≡ true
   there = has_row-lookup account symbol kept.rows.entries ∙ ap is_some at
 
-  -- what one account holds in excess is no more than the open interest
+  -- an account's excess is at most the open interest
   pub excess-within_interest : h.long - h.short ≤ open_interest_in (rows_of kept) symbol
   excess-within_interest =
       let found = found-among (is_of account symbol) (rows_of kept) there in
@@ -117,7 +117,7 @@ module _ (kept : Inside) (is_kept : IsKept kept) (account : AccountId) (symbol :
         let as_kept : r ≡ row_of (k, h) = λ i. record { account = r.account; symbol = r.symbol; long = same.0 i; short = same.1 i } in
         ((λ i. same.0 i - same.1 i), ap (λ (x : Row). (g x).long - (g x).short) as_kept ∙ ap (λ (x : Row). x.long - x.short) (sym (fits.1 k)))
 
-    -- the open interest of each instrument, after the row is changed
+    -- the open interest of each instrument after the row is changed
     pub interest-changed : (s : Symbol)
         → open_interest_in (changed account symbol g keeps (rows_of kept)) s + (if same_symbol symbol s then h.long - h.short else 0)
         ≡ open_interest_in (rows_of kept) s + (if same_symbol symbol s then w.long - w.short else 0)
@@ -125,7 +125,7 @@ module _ (kept : Inside) (is_kept : IsKept kept) (account : AccountId) (symbol :
         open_interest-changed account symbol g keeps (rows_of kept) is_kept.once there (h.long - h.short) (w.long - w.short)
         (λ r found. excess-changed r (found-excess kept.rows.entries account symbol h r at found)) s
 
-    -- that of its instrument is what it was, less the excess that was, and with the excess that is
+    -- that of its own instrument loses the old excess and gains the new one
     pub interest-own : open_interest_in (rows_of kept) symbol - (h.long - h.short) + (w.long - w.short) ≡ open_interest_in (changed account symbol g keeps (rows_of kept)) symbol
     interest-own =
         let all : open_interest_in (changed account symbol g keeps (rows_of kept)) symbol + (h.long - h.short) ≡ open_interest_in (rows_of kept) symbol + (w.long - w.short) =
@@ -133,7 +133,7 @@ module _ (kept : Inside) (is_kept : IsKept kept) (account : AccountId) (symbol :
         ∙ interest-changed symbol ∙ (λ i. open_interest_in (rows_of kept) symbol + (if same_symbol-own symbol i then w.long - w.short else 0)) in
         omega (arith, all, excess-within_interest)
 
-    -- after the row is written and the open interest of its instrument follows
+    -- after the row is written and its instrument's open interest is updated
     pub kept-changed : (new : Inside)
         → ((side : Side) (s : Symbol) → lots_on (changed account symbol g keeps (rows_of kept)) side s < 2 ^ 64)
         → new.rows.entries ≡ set_value (same_key (place_of account symbol)) kept.rows.entries w
@@ -161,7 +161,7 @@ module _ (kept : Inside) (is_kept : IsKept kept) (account : AccountId) (symbol :
             ∙ (λ i. open_interest_in (changed account symbol g keeps (rows_of kept)) (same_symbol-true symbol s e i))
         interest s false e sums = is_kept.interests s ∙ omega (arith, sums)
 
--- nothing is kept in empty tables
+-- empty tables hold nothing
 pub kept-empty : (kept : Inside) → kept.rows.entries ≡ [] → kept.interests.entries ≡ [] → IsKept kept
 unfolding IsDistinct
 kept-empty kept none nothing = record {

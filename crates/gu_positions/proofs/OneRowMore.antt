@@ -1,4 +1,4 @@
--- An empty row that is new goes last, and changes no answer.
+-- A new empty row goes last, and changes no answer.
 use Rattle.std.proofs.Common.{◌≡◌, ◌∙◌, sym, refl, ap, subst, ℕ, ◌-◌, ◌<◌, ◌^◌, Bool, true, false, cond, ◌||◌, List, [], ◌∷◌, ◌++◌, map, Option, Some, None, is_some, unwrap_or, arith, if◌then◌else◌}
 use Rattle.std.specs.List.{AllByRecursion, IsDistinct, find, sum_by}
 use Rattle.std.specs.Option.{option_map_or}
@@ -39,13 +39,13 @@ module _ (account : AccountId) (symbol : Symbol) where
   no_lots Buy = refl
   no_lots Sell = refl
 
-  -- the row is there
+  -- the row exists
   pub has_row-one_more : (rows : List Row) (a : AccountId) (s : Symbol)
       → has_row (rows ++ empty_row account symbol ∷ []) a s ≡ (has_row rows a s || same_place a s account symbol)
   has_row-one_more rows a s =
       list_any-append (is_of a s) rows (empty_row account symbol ∷ []) ∙ ap (λ b. has_row rows a s || b) (or_neither (same_place a s account symbol))
 
-  -- the lots of each account are what they were
+  -- the lots of each account are unchanged
   pub lots_in-one_more : (rows : List Row) (t : Side) (a : AccountId) (s : Symbol) → lots_in (rows ++ empty_row account symbol ∷ []) t a s ≡ lots_in rows t a s
   lots_in-one_more [] t a s = by (same_place a s account symbol)
     where
@@ -79,7 +79,7 @@ module _ (account : AccountId) (symbol : Symbol) where
   apart-one_more x [] new apart = (same_place-sym x.account x.symbol account symbol ∙ new, tt)
   apart-one_more x (r ∷ rows) new apart = (apart.0, apart-one_more x rows new apart.1)
 
-  -- no row is there twice
+  -- no row occurs twice
   pub distinct-one_more : (rows : List Row) → has_row rows account symbol ≡ false → IsDistinct same_row rows → IsDistinct same_row (rows ++ empty_row account symbol ∷ [])
   unfolding IsDistinct
   distinct-one_more [] new once = (tt, tt)
@@ -92,14 +92,14 @@ implied true q h = refl
 implied false true h = h refl
 implied false false h = refl
 
--- a row that is there is no further one
+-- a row that exists is not added again
 pub has_row-present : (rows : List Row) (account : AccountId) (symbol : Symbol) → has_row rows account symbol ≡ true
     → (a : AccountId) (s : Symbol) → has_row rows a s ≡ (has_row rows a s || same_place a s account symbol)
 has_row-present rows account symbol there a s =
     implied (has_row rows a s) (same_place a s account symbol)
     (λ same. let one = same_place-true a s account symbol same in (λ i. has_row rows (one.0 i) (one.1 i)) ∙ there)
 
--- after an empty row is put last, for which its instrument has an open interest
+-- after an empty row is added last, with an open interest for its instrument
 pub kept-one_more : (old new : Inside) (account : AccountId) (symbol : Symbol) → IsKept old → (rows : List Row) → rows_of old ≡ rows → false ≡ has_row rows account symbol
     → (at : ℕ) × StandsAt new.interests.entries symbol at × (new.rows.entries ≡ insert_entry same_key old.rows.entries (place_of account symbol) (nothing_at at))
     × Updates same_key old.rows new.rows (place_of account symbol) (Some (nothing_at at))

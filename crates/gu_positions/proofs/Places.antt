@@ -1,4 +1,4 @@
--- Two places are one where their names are the same.
+-- Two places are equal if their names are the same.
 use Rattle.std.proofs.Common.{◌≡◌, ◌&&◌, ap, refl, true}
 use Rattle.std.specs.Cmp.{IsEquivalence}
 use Rattle.std.proofs.lemmas.Cmp.{nat_list_eq_equiv}
@@ -11,7 +11,7 @@ use Rattle.gu_positions.specs.Changes.{same_place}
 use Rattle.gu_positions.specs.Kept.{same_key}
 use Rattle.gu_positions.specs.declared.positions.Place.{Place}
 
--- places of the same names are one
+-- places with the same names are equal
 pub same_place-true : (a : AccountId) (s : Symbol) (b : AccountId) (t : Symbol) → same_place a s b t ≡ true → (a ≡ b) × (s ≡ t)
 same_place-true a s b t h =
     let p = both (same_account a b) (same_symbol s t) h in
@@ -20,11 +20,11 @@ same_place-true a s b t h =
 pub same_place-own : (a : AccountId) (s : Symbol) → same_place a s a s ≡ true
 same_place-own a s = rw (same_account-own a, same_symbol-own s) refl
 
--- two places are one whichever is named first
+-- the order of two places doesn't matter
 pub same_place-sym : (a : AccountId) (s : Symbol) (b : AccountId) (t : Symbol) → same_place a s b t ≡ same_place b t a s
 same_place-sym a s b t = λ i. nat_list_eq_equiv.symm a.name b.name i && nat_list_eq_equiv.symm s.name t.name i
 
--- ---- the `==` of places, by which the map finds rows
+-- ---- the `==` of places, with which the map finds rows
 
 pub same_key-true : (a b : Place) → same_key a b ≡ true → a ≡ b
 same_key-true a b h =

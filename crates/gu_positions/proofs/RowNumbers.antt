@@ -1,4 +1,4 @@
--- The numbers of rows: what is kept at one, and that rows keep theirs. So do the entries of a table keep their places.
+-- Row numbers: what is stored at one, and that rows keep theirs. The entries of a table keep their indexes too.
 use Rattle.std.proofs.Common.{◌≡◌, ◌∙◌, sym, refl, ap, get_or, ℕ, zero, suc, Bool, true, false, ◌||◌, List, [], ◌∷◌, ◌++◌, map, length, Option, Some, None, slice_get}
 use Rattle.std.specs.Option.{option_map, option_map_or}
 use Rattle.std.proofs.lemmas.Option.{slice_get-get_or, slice_get-map, slice_get_within}
@@ -16,19 +16,19 @@ use Rattle.gu_positions.proofs.Changed.{changed, is_of-changed}
 use Rattle.gu_positions.proofs.Places.{same_key-true, same_place-own, same_place-true}
 
 module _ {X : Type 0} where
-  -- items keep their places when others come after them
+  -- items keep their indexes when others are added after them
   pub slice_get-append : (xs ys : List X) (place : ℕ) (x : X) → slice_get xs place ≡ Some x → slice_get (xs ++ ys) place ≡ Some x
   slice_get-append [] ys place x here = cc
   slice_get-append (y ∷ xs) ys zero x here = here
   slice_get-append (y ∷ xs) ys (suc place) x here = slice_get-append xs ys place x here
 
-  -- the place of the last is how many are before it
+  -- the index of the last item is the number of those before it
   pub slice_get-last : (xs : List X) (x : X) → slice_get (xs ++ x ∷ []) (length xs) ≡ Some x
   slice_get-last [] x = refl
   slice_get-last (y ∷ xs) x = slice_get-last xs x
 
 module _ (account : AccountId) (symbol : Symbol) where
-  -- a row that was made is kept at its number
+  -- a row that was made is stored at its number
   pub stands : (entries : List (Place × Holding)) (number : ℕ) → is_numbered (map row_of entries) account symbol number ≡ true → StandsAt entries (place_of account symbol) number
   stands entries number made = by (slice_get entries number) refl (ap (λ o. option_map_or (is_of account symbol) o false) (sym (slice_get-map row_of entries number)) ∙ made)
     where
@@ -36,13 +36,13 @@ module _ (account : AccountId) (symbol : Symbol) where
       by None e h = cc
       by (Some kept) e h = let one = same_key-true (place_of account symbol) kept.0 h in record { value = kept.1; here = e ∙ (λ i. Some (sym one i, kept.1)) }
 
-  -- what is kept at a number is a row that was made
+  -- what is stored at a number is a row that was made
   pub numbered-kept : (entries : List (Place × Holding)) (number : ℕ) (held : Holding) → slice_get entries number ≡ Some (place_of account symbol, held)
       → is_numbered (map row_of entries) account symbol number ≡ true
   numbered-kept entries number held here =
       ap (λ o. option_map_or (is_of account symbol) o false) (slice_get-map row_of entries number ∙ ap (option_map row_of) here) ∙ same_place-own account symbol
 
-  -- a row that has a number is there
+  -- a numbered row exists
   pub has_row-numbered : (rows : List Row) (number : ℕ) → is_numbered rows account symbol number ≡ true → has_row rows account symbol ≡ true
   has_row-numbered [] number made = cc
   has_row-numbered (r ∷ rows) zero made = rw made refl
@@ -52,17 +52,17 @@ module _ (account : AccountId) (symbol : Symbol) where
       or_right true q h = refl
       or_right false q h = h
 
-  -- rows keep their numbers when others come after them
+  -- rows keep their numbers when others are added after them
   pub numbered-append : (rows more : List Row) (number : ℕ) → is_numbered rows account symbol number ≡ true → is_numbered (rows ++ more) account symbol number ≡ true
   numbered-append [] more number made = cc
   numbered-append (r ∷ rows) more zero made = made
   numbered-append (r ∷ rows) more (suc number) made = numbered-append rows more number made
 
-  -- the number of the last row is how many are before it
+  -- the number of the last row is the number of those before it
   pub numbered-last : (rows : List Row) (last : Row) → is_of account symbol last ≡ true → is_numbered (rows ++ last ∷ []) account symbol (length rows) ≡ true
   numbered-last rows last own = ap (λ o. option_map_or (is_of account symbol) o false) (slice_get-last rows last) ∙ own
 
-  -- a row that has the number is whose it is
+  -- the row with a number is for its account and instrument
   pub row_of-numbered : (rows : List Row) (row : RowNo) → is_numbered rows account symbol row.number ≡ true → IsRowOf rows account symbol row
   row_of-numbered rows row made = by (slice_get rows row.number) refl
     where
@@ -87,11 +87,11 @@ numbered-made rows row made = by (slice_get rows row.number) refl
     by (Some r) e = rw e (same_place-own r.account r.symbol)
 
 module _ (account : AccountId) (symbol : Symbol) where
-  -- so has the row of an account and an instrument
+  -- so has the row for an account and instrument
   pub numbered-row_of : (rows : List Row) (row : RowNo) → IsRowOf rows account symbol row → is_numbered rows account symbol row.number ≡ true
   numbered-row_of rows row it = (λ i. is_numbered rows (sym it.account_is i) (sym it.symbol_is i) row.number) ∙ numbered-made rows row it.made
 
--- and when one of them is changed
+-- also when one of them is changed
 pub numbered-changed : (account : AccountId) (symbol : Symbol) (g : Row → Row) (keeps : (r : Row) → ((g r).account ≡ r.account) × ((g r).symbol ≡ r.symbol))
     (rows : List Row) (a : AccountId) (s : Symbol) (number : ℕ) → is_numbered (changed account symbol g keeps rows) a s number ≡ is_numbered rows a s number
 numbered-changed account symbol g keeps [] a s number = refl
@@ -99,7 +99,7 @@ numbered-changed account symbol g keeps (r ∷ rows) a s zero = is_of-changed ac
 numbered-changed account symbol g keeps (r ∷ rows) a s (suc number) = numbered-changed account symbol g keeps rows a s number
 
 module _ {K V : Type 0} where
-  -- keys stand where they stood when a value is written
+  -- keys keep their indexes when a value is written
   pub stands-set_value_at : (entries : List (K × V)) (place : ℕ) (w : V) (key : K) (at : ℕ) → StandsAt entries key at → StandsAt (set_value_at entries place w) key at
   stands-set_value_at [] place w key at stands = stands
   stands-set_value_at (e ∷ entries) zero w key zero stands = let it : e ≡ (key, stands.value) = let here = stands.here in cc in record { value = w; here = λ i. Some ((it i).0, w) }

@@ -1,4 +1,4 @@
--- Machinery: how positions are kept: the lots of each row under its account and instrument, and each instrument's open interest.
+-- Machinery: how positions are stored: each row's lots under its account and instrument, and each instrument's open interest.
 use Rattle.std.specs.Prelude.{◌≡◌, ℕ, ◌<◌, ◌^◌, Bool, ◌&&◌, List, map, Some, unwrap_or}
 use Rattle.std.specs.List.{IsDistinct}
 use Rattle.indexmap.specs.IndexMap.{get}
@@ -12,15 +12,15 @@ use Rattle.gu_positions.specs.declared.positions.Place.{Place}
 use Rattle.gu_positions.specs.declared.positions.Positions.TheInside.{Inside}
 use Rattle.gu_positions.specs.Rows.{Row, lots_on, open_interest_in, same_row}
 
--- a row, from its account and instrument and from its lots
+-- a row, made from its account and instrument and its lots
 abbrev pub row_of : Place × Holding → Row
 row_of e = record { account = e.0.account; symbol = e.0.symbol; long = e.1.long; short = e.1.short }
 
--- an account and an instrument, as a row is kept under them
+-- an account and an instrument, under which a row is stored
 abbrev pub place_of : AccountId → Symbol → Place
 place_of account symbol = record { account = account; symbol = symbol }
 
--- one place
+-- the same account and instrument
 abbrev pub same_key : Place → Place → Bool
 same_key a b = same_account a.account b.account && same_symbol a.symbol b.symbol
 
@@ -28,11 +28,11 @@ same_key a b = same_account a.account b.account && same_symbol a.symbol b.symbol
 abbrev pub rows_of : Inside → List Row
 rows_of kept = map row_of kept.rows.entries
 
--- instruments have the places that they had among the open interests
+-- instruments keep their indexes among the open interests
 abbrev pub KeepsPlaces : List (Symbol × ℕ) → List (Symbol × ℕ) → Type 0
 KeepsPlaces old new = (symbol : Symbol) (place : ℕ) → StandsAt old symbol place → StandsAt new symbol place
 
--- each row once, few enough lots, and for each instrument that has rows its open interest, at the place that each of its rows has
+-- each row occurs once, total lots are below 2^64, and an instrument with rows has its open interest at the index kept in each of them
 pub record IsKept (kept : Inside) : Type 0 where
   pub once : IsDistinct same_row (rows_of kept)
   pub few : (side : Side) (symbol : Symbol) → lots_on (rows_of kept) side symbol < 2 ^ 64

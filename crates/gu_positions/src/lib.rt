@@ -1,4 +1,4 @@
-//! Positions: the lots that accounts hold of instruments, by side, and the open interest.
+//! Positions: the lots that accounts hold in instruments, by side, and the open interest.
 #![tactic(auto)]
 
 mod holding;

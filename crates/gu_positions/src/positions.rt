@@ -23,17 +23,17 @@ use indexmap::IndexMap;
 use std::alloc::{AllocError, Global};
 use std::marker::Model;
 
-/// Where lots are held: by an account, of an instrument. No two rows have the same.
+/// An account and an instrument, for which lots are held. No two rows have the same.
 #[derive(Clone, Copy, PartialEq, Eq, Hash)]
 struct Place {
     account: AccountId,
     symbol: Symbol,
 }
 
-/// The lots that accounts hold of instruments, by side. To a contract it is the list of the rows, in the order in which they were made.
+/// The lots that accounts hold in instruments, by side. To a contract it is the list of rows, in the order in which they were made.
 pub struct Positions {
     rows: IndexMap<Place, Holding>,
-    /// The open interest of each instrument that has rows. None is removed, so that a row can keep the place of its instrument's.
+    /// The open interest of each instrument that has rows. None is removed, so a row can keep the index of its instrument's.
     interests: IndexMap<Symbol, u64>,
 }
 
@@ -58,7 +58,7 @@ impl Model for Positions {
     ghost invariant = { IsKept };
 }
 
-/// How many rows were made before that of a place, where it was made.
+/// Returns the number of rows made before the one for a place, if it was made.
 fn number_of(rows: &IndexMap<Place, Holding>, place: &Place) -> Option<usize>
     ensures there { is_some result ≡ is_some (get ⟦<Place as PartialEq>⟧.eq rows.now place.now) }
     ensures at { IfSome result (StandsAt rows.now.entries place.now) }
@@ -67,17 +67,17 @@ fn number_of(rows: &IndexMap<Place, Holding>, place: &Place) -> Option<usize>
     Some(number)
 }
 
-/// What is held at a row.
+/// Returns the lots held in a row.
 fn held_at(rows: &IndexMap<Place, Holding>, row: &RowNo) -> Holding
     requires { (place : PlaceOf) × StandsAt rows.now.entries place row.now.number }
     ensures { (place : PlaceOf) → StandsAt rows.now.entries place row.now.number → get ⟦<Place as PartialEq>⟧.eq rows.now place ≡ Some result }
 {
-    // Shows the prover: the places of the map are apart.
+    // Shows the prover: the places in the map are distinct.
     let _ = rows.len();
     rows[row.number]
 }
 
-/// Writes what is held at a row.
+/// Writes the lots held in a row.
 fn write(rows: &mut IndexMap<Place, Holding>, row: &RowNo, holding: Holding)
     requires { (place : PlaceOf) × StandsAt rows.old.entries place row.now.number }
     ensures entries { (place : PlaceOf) → StandsAt rows.old.entries place row.now.number
@@ -85,12 +85,12 @@ fn write(rows: &mut IndexMap<Place, Holding>, row: &RowNo, holding: Holding)
     ensures updates { (place : PlaceOf) → StandsAt rows.old.entries place row.now.number
         → Updates ⟦<Place as PartialEq>⟧.eq rows.old rows.new place (Some holding) }
 {
-    // Shows the prover: the places of the map are apart.
+    // Shows the prover: the places in the map are distinct.
     let _ = rows.len();
     rows[row.number] = holding;
 }
 
-/// Brings the open interest at a place up to date. Of its instrument one account held so much in excess before, and so much after.
+/// Updates the open interest at an index after one account's excess in the instrument changed from `before` to `after`.
 fn settle(interests: &mut IndexMap<Symbol, u64>, place: usize, before: u64, after: u64)
     requires { (symbol : Instrument) × StandsAt interests.old.entries symbol place
         × (before ≤ unwrap_or (get ⟦<Symbol as PartialEq>⟧.eq interests.old symbol) 0)
@@ -99,13 +99,13 @@ fn settle(interests: &mut IndexMap<Symbol, u64>, place: usize, before: u64, afte
         (Some (unwrap_or (get ⟦<Symbol as PartialEq>⟧.eq interests.old symbol) 0 - before + after)) }
     ensures stay { KeepsPlaces interests.old.entries interests.new.entries }
 {
-    // Shows the prover: the instruments of the map are apart.
+    // Shows the prover: the instruments in the map are distinct.
     let _ = interests.len();
     let interest = &mut interests[place];
     *interest = *interest - before + after;
 }
 
-/// The place of an instrument's open interest, which begins at 0 where the instrument is new.
+/// Returns the index of an instrument's open interest, adding it as 0 if the instrument is new.
 fn know(interests: &mut IndexMap<Symbol, u64>, symbol: &Symbol) -> Result<usize, AllocError>
     ensures at { IfOk result (StandsAt interests.new.entries symbol.now) }
     ensures stay { KeepsPlaces interests.old.entries interests.new.entries }
@@ -121,8 +121,8 @@ fn know(interests: &mut IndexMap<Symbol, u64>, symbol: &Symbol) -> Result<usize,
     Ok(place)
 }
 
-/// Puts an empty row last. The allocations come first, so that one that fails leaves both tables as they were. A row is made once and
-/// found often, so this isn't compiled into what finds it.
+/// Adds an empty row last. All allocations come first, so a failed one leaves both tables unchanged. A row is made once and found often, so
+/// this isn't inlined into the look-up.
 #[inline(never)]
 fn make(
     rows: &mut IndexMap<Place, Holding>,
@@ -149,7 +149,7 @@ fn make(
 }
 
 impl Positions {
-    /// No rows.
+    /// Returns an empty table.
     pub fn new(alloc: Global) -> Self
         ensures { result ≡ [] }
     {
@@ -159,23 +159,23 @@ impl Positions {
         }
     }
 
-    /// The rules of all rows: no account has two of one instrument, and the lots on a side of an instrument are fewer than 2^64 in all.
+    /// Shows the prover: an account has at most one row for an instrument, and a side of an instrument has fewer than 2^64 lots in all.
     pub fn rules(&self)
         ensures once { IsDistinct same_row self.now }
         ensures few { (side : SideOf) (symbol : Instrument) → lots_on self.now side symbol < 2 ^ 64 }
     {
-        // A field that is read shows what the type keeps.
+        // Reading a field shows the prover the invariant of its type.
         let _ = &self.rows;
     }
 
-    /// Whether an account has a row of an instrument.
+    /// Returns whether an account has a row for an instrument.
     pub fn has_row(&self, account: AccountId, symbol: Symbol) -> bool
         ensures { result ≡ has_row self.now account symbol }
     {
         self.rows.contains_key(&Place { account, symbol })
     }
 
-    /// The lots that an account holds of an instrument, long and short.
+    /// Returns the lots that an account holds in an instrument, long and short.
     pub fn of(&self, account: AccountId, symbol: Symbol) -> (u64, u64)
         ensures { result ≡ (lots_in self.now Buy account symbol, lots_in self.now Sell account symbol) }
     {
@@ -185,14 +185,14 @@ impl Positions {
         }
     }
 
-    /// The open interest of an instrument: over the accounts, what the long lots are above the short ones.
+    /// Returns the open interest of an instrument: the sum, over all accounts, of the excess of long lots over short ones.
     pub fn open_interest(&self, symbol: Symbol) -> u64
         ensures { result ≡ open_interest_in self.now symbol }
     {
         self.interests.get(&symbol).copied().unwrap_or(0)
     }
 
-    /// Makes an empty row for an account and an instrument, where there is none. It changes no answer.
+    /// Makes an empty row for an account and an instrument, if there is none. It changes no answer.
     pub fn row(&mut self, account: AccountId, symbol: Symbol) -> Result<(), AllocError>
         ensures made { OnOk result (self.new ≡ with_row self.old account symbol) }
         ensures there { OnOk result ((other : Account) (another : Instrument)
@@ -204,7 +204,7 @@ impl Positions {
         Ok(())
     }
 
-    /// The same, and which row it is.
+    /// Makes such a row if there is none, and returns which row it is.
     pub fn make_row(&mut self, account: &AccountId, symbol: &Symbol) -> Result<RowNo, AllocError>
         ensures made { OnOk result (self.new ≡ with_row self.old account.now symbol.now) }
         ensures there { OnOk result ((other : Account) (another : Instrument)
@@ -226,7 +226,7 @@ impl Positions {
         Ok(RowNo { number })
     }
 
-    /// The row of an account and an instrument, where one was made.
+    /// Returns the row for an account and an instrument, if it was made.
     #[inline(always)]
     fn find(&self, account: &AccountId, symbol: &Symbol) -> Option<RowNo>
         ensures there { is_some result ≡ has_row self.now account.now symbol.now }
@@ -240,7 +240,7 @@ impl Positions {
         Some(RowNo { number })
     }
 
-    /// Adds lots to an account's, on a side of an instrument.
+    /// Adds lots to an account, on one side of an instrument.
     pub fn add(&mut self, account: AccountId, symbol: Symbol, side: Side, lots: u64)
         requires made { has_row self.old account symbol ≡ true }
         requires fits { lots_on self.old side symbol + lots < 2 ^ 64 }
@@ -255,7 +255,7 @@ impl Positions {
         }
     }
 
-    /// Adds lots to those of a row, on a side.
+    /// Adds lots to a row, on one side.
     pub fn add_to(&mut self, row: &RowNo, side: Side, lots: u64)
         requires made { IsMade self.old row.now }
         requires fits { lots_on self.old side (symbol_at self.old row.now) + lots < 2 ^ 64 }
@@ -279,7 +279,7 @@ impl Positions {
         );
     }
 
-    /// Takes lots from those of a row, on a side.
+    /// Takes lots from a row, on one side.
     fn take_from(&mut self, row: &RowNo, side: Side, lots: u64)
         requires made { IsMade self.old row.now }
         requires there { lots ≤ lots_in self.old side (account_at self.old row.now) (symbol_at self.old row.now) }
@@ -303,7 +303,7 @@ impl Positions {
         );
     }
 
-    /// Moves lots from one account to another, on a side of an instrument.
+    /// Moves lots from one account to another, on one side of an instrument.
     pub fn shift(&mut self, from: AccountId, to: AccountId, symbol: Symbol, side: Side, lots: u64)
         requires from_made { has_row self.old from symbol ≡ true }
         requires to_made { has_row self.old to symbol ≡ true }
@@ -320,7 +320,7 @@ impl Positions {
         }
     }
 
-    /// Moves lots from one row to another of the same instrument, on a side.
+    /// Moves lots from one row to another of the same instrument, on one side.
     pub fn shift_between(&mut self, from: &RowNo, to: &RowNo, side: Side, lots: u64)
         requires from_made { IsMade self.old from.now }
         requires to_made { IsMade self.old to.now }
@@ -336,7 +336,7 @@ impl Positions {
         ensures stay { KeepsNumbers self.old self.new }
         ensures still { account_at self.old from.now ≡ account_at self.old to.now → self.new ≡ self.old }
     {
-        // Shows the prover: what the type of the positions keeps.
+        // Shows the prover: the rules of the positions.
         self.rules();
         self.take_from(from, side, lots);
         self.add_to(to, side, lots);

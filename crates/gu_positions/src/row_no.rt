@@ -1,6 +1,6 @@
-//! The numbers of rows.
+//! Row numbers.
 
-/// A row that was made, by how many were made before it. No row is removed, so it stays right.
+/// The number of a row: how many were made before it. No row is removed, so it stays valid.
 #[derive(Clone, Copy)]
 pub struct RowNo {
     pub(crate) number: usize,

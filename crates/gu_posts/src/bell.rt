@@ -1,6 +1,6 @@
-//! What wakes a thread that waits.
+//! A bell that wakes a waiting thread.
 
-/// What wakes a thread that waits. One that doesn't wait yet is woken as soon as it does.
+/// A bell that wakes a waiting thread. If the thread doesn't wait yet, its next wait ends at once.
 pub trait Bell {
     /// Wakes it.
     fn ring(&self);

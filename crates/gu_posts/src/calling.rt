@@ -1,4 +1,4 @@
-//! How connections come to a worker.
+//! The channel by which connections come to a worker.
 
 use crate::bell::Bell;
 use crate::posts::Posts;
@@ -20,7 +20,7 @@ pub struct Call<C> {
     pub door: Option<FirmId>,
 }
 
-/// Where the connections of a worker are sent. Once it is dropped no more come, and the worker is woken to see it.
+/// The sender of connections to a worker. Dropping it wakes the worker, which then knows that no more come.
 pub struct CallSender<'a, C: Drop, B: Bell> {
     to: Sender<Call<C>>,
     posts: &'a Posts<B>,
@@ -37,7 +37,7 @@ impl<C: Drop, B: Bell> Drop for CallSender<'_, C, B> {
     }
 }
 
-/// Creates the two ends of the way by which connections come to a worker with this many places.
+/// Creates the two ends of the channel of connections to a worker with this many places.
 pub fn calls<'a, C: Drop, B: Bell>(
     alloc: Global,
     posts: &'a Posts<B>,
@@ -49,7 +49,7 @@ pub fn calls<'a, C: Drop, B: Bell>(
 }
 
 impl<C: Drop, B: Bell> CallSender<'_, C, B> {
-    /// Sends the worker a connection, and wakes it. Where the worker is gone, the connection is dropped.
+    /// Sends the worker a connection, and wakes it. If the worker is gone, the connection is dropped.
     pub fn send<R: Wait>(&self, rt: &R, call: Call<C>) {
         let Some(post) = self.posts.post(self.worker) else {
             return;

@@ -1,8 +1,8 @@
-//! What is shown of a connection.
+//! The status of a connection.
 
 use std::sync::atomic::{AtomicBool, AtomicU64, Ordering};
 
-/// What is shown of a connection. Its numbers are read one after another, while its worker may write them.
+/// The status of a connection. Its numbers are read one after another, while its worker may write them.
 #[derive(Clone, Copy, Debug, PartialEq, Eq)]
 pub struct ConnectionStatus {
     /// The number of the connection.
@@ -27,7 +27,7 @@ pub struct ConnectionStatus {
     pub held: u64,
 }
 
-/// What is shown of the connection at a place, written by its worker alone.
+/// The status of the connection at a place, which only its worker writes.
 #[derive(Drop)]
 pub struct ConnectionRow {
     number: AtomicU64,
@@ -82,7 +82,7 @@ impl ConnectionRow {
         self.is_cut.store(false, Ordering::SeqCst);
     }
 
-    /// Returns what is shown, unless the place is free.
+    /// Returns the status, unless the place is free.
     pub fn read(&self) -> Option<ConnectionStatus> {
         let number = self.number.load(Ordering::SeqCst);
         if number == 0 {

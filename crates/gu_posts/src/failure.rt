@@ -41,7 +41,7 @@ impl Failures {
         flag.store(true, Ordering::SeqCst);
     }
 
-    /// Returns one that has come, if any has: of several the clock's, else the poller's.
+    /// Returns a failure, if there is any; if there are several, the clock's comes first, then the poller's.
     pub fn any(&self) -> Option<Failure> {
         if self.clock.load(Ordering::SeqCst) {
             Some(Failure::Clock)

@@ -9,9 +9,9 @@ use std::sync::atomic::{AtomicBool, AtomicU64, Ordering};
 #[derive(Drop)]
 pub struct Post<B> {
     bell: B,
-    /// The places of firms to which there is something to tell, a bit each.
+    /// The places of firms that have news, one bit each.
     told: AtomicU64,
-    /// Whether any of its connections was cut.
+    /// Whether any of its connections has been cut.
     has_cuts: AtomicBool,
     /// Whether it holds answers back until more entries are kept.
     holds_back: AtomicBool,
@@ -48,7 +48,7 @@ impl<B> Post<B> {
         &self.bell
     }
 
-    /// Returns what is shown of its connections, by place.
+    /// Returns the status of its connections, by place.
     pub fn rows(&self) -> &[ConnectionRow] {
         &self.rows
     }
@@ -63,7 +63,7 @@ impl<B> Post<B> {
         let _ = self.connections.fetch_add(1, Ordering::SeqCst);
     }
 
-    /// Counts out a connection that has ended.
+    /// Counts one connection less.
     pub fn remove_connection(&self) {
         let _ = self.connections.fetch_sub(1, Ordering::SeqCst);
     }
@@ -83,17 +83,17 @@ impl<B> Post<B> {
         self.is_asleep.store(false, Ordering::SeqCst);
     }
 
-    /// Returns whether there is anything for the worker to do that no poller knows of.
+    /// Returns whether the worker has anything to do that its poller doesn't know of.
     pub fn has_news(&self) -> bool {
         self.told.load(Ordering::SeqCst) != 0 || self.has_cuts.load(Ordering::SeqCst)
     }
 
-    /// Takes the places of firms to which there is something to tell.
+    /// Returns the places of firms that have news, and clears them.
     pub fn take_told(&self) -> u64 {
         self.told.swap(0, Ordering::SeqCst)
     }
 
-    /// Takes whether any connection was cut.
+    /// Returns whether any connection has been cut, and clears that.
     pub fn take_cuts(&self) -> bool {
         self.has_cuts.swap(false, Ordering::SeqCst)
     }
@@ -119,7 +119,7 @@ impl<B: Bell> Post<B> {
         }
     }
 
-    /// Says that there is something to tell at these places of firms.
+    /// Marks these places of firms as having news.
     pub fn tell(&self, firms: u64) {
         let _ = self.told.fetch_or(firms, Ordering::SeqCst);
         self.ring_if_asleep();

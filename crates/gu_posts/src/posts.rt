@@ -11,7 +11,7 @@ use std::sync::atomic::{AtomicBool, AtomicU64, Ordering};
 /// How many places there are for firms.
 const FIRM_PLACES: usize = 64;
 
-/// What is known of the firms of a place.
+/// The state of the firms of a place.
 #[derive(Drop)]
 struct FirmRow {
     /// The number of the last entry that informs one of them: it only grows.
@@ -35,7 +35,7 @@ pub struct Posts<B> {
     failures: Failures,
 }
 
-/// Returns the bit of a worker or of a place of firms. Past the 64th there is none.
+/// Returns the bit of a worker or of a place of firms; the 65th and later ones have none.
 pub fn bit_of(number: usize) -> u64 {
     match u32::try_from(number) {
         Ok(number) if number < 64 => 1 << number,
@@ -43,7 +43,7 @@ pub fn bit_of(number: usize) -> u64 {
     }
 }
 
-/// Returns the rows of places at which no firm was informed.
+/// Returns rows of places at which no firm has been informed yet.
 fn firm_rows(alloc: Global) -> Result<Vec<FirmRow>, AllocError> {
     let mut rows = Vec::with_capacity(alloc, FIRM_PLACES)?;
     for _place in 0..FIRM_PLACES {
@@ -109,7 +109,7 @@ impl<B> Posts<B> {
         sum
     }
 
-    /// Returns the one of the first workers, this many, that has the fewest connections: the first of several.
+    /// Returns which of this many first workers has the fewest connections; the first one if there are several.
     pub fn least_busy(&self, among: usize) -> usize {
         let mut least = 0;
         let mut fewest = u64::MAX;
@@ -123,7 +123,7 @@ impl<B> Posts<B> {
         least
     }
 
-    /// Returns what is shown of each connection.
+    /// Returns the status of each connection.
     pub fn status(&self, alloc: Global) -> Result<Vec<ConnectionStatus>, AllocError> {
         let mut connections = Vec::new(alloc);
         for post in &self.posts {
@@ -199,8 +199,8 @@ impl<B> Posts<B> {
 }
 
 impl<B: Bell> Posts<B> {
-    /// Says that the entry of this number informs these firms: the workers that have a connection of one of them are told, and woken if
-    /// they wait. It is for whoever made the entry, once it may be shown, and outside the desk's lock.
+    /// Announces that the entry with this number informs these firms: marks it at the workers that have a connection of one of them, and
+    /// wakes them if they wait. Call it after making the entry, once it may be shown, and outside the desk's lock.
     pub fn inform(&self, number: u64, firms: FirmFilter) {
         let firms = firms.bits();
         let workers = self.raise(number, firms);
@@ -211,7 +211,7 @@ impl<B: Bell> Posts<B> {
         }
     }
 
-    /// Says that this many entries are kept for good: the workers that hold answers back are woken if they wait.
+    /// Announces that this many entries are kept for good, and wakes the workers that wait while they hold answers back.
     pub fn keep(&self, number: u64) {
         let _ = self.kept.fetch_max(number, Ordering::SeqCst);
         for post in &self.posts {
@@ -219,7 +219,7 @@ impl<B: Bell> Posts<B> {
         }
     }
 
-    /// Says that no more entries will be kept: what may go still goes, each connection is dropped, and no call is taken any more.
+    /// Announces that no more entries will be kept: what may be sent still is, each connection is dropped, and no call is taken any more.
     pub fn stop(&self) {
         self.is_stopped.store(true, Ordering::SeqCst);
         self.ring_all();
@@ -244,7 +244,7 @@ impl<B: Bell> Posts<B> {
         self.posts.iter().any(|post| post.cut(number))
     }
 
-    /// Counts out a connection of a worker, and says so to the thread that accepts connections.
+    /// Counts one connection of a worker less, and wakes the thread that accepts connections.
     pub fn end_connection(&self, worker: usize) {
         if let Some(post) = self.posts.get(worker) {
             post.remove_connection();
@@ -252,7 +252,7 @@ impl<B: Bell> Posts<B> {
         self.accepting.ring();
     }
 
-    /// Says that a worker couldn't go on, and why.
+    /// Notes why a worker couldn't go on.
     pub fn fail(&self, failure: Failure) {
         self.failures.note(failure);
         self.accepting.ring();

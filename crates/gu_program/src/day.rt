@@ -5,23 +5,31 @@ ghost use Rattle.std.proofs.Props.{props};
 ghost use Rattle.gu_keeping.specs.Chains.{IsChainOf};
 ghost use Rattle.gu_words.specs.Statuses.{status_of_audit};
 
+use crate::error::JournalFault;
 use crate::fault::{Fault, Faults};
 use crate::files::{digested_reference_at, secrets_at, world_after};
 use crate::heading::Heading;
 use crate::journal_ending::end_journal;
-use crate::journal_file::{FileLog, empty_journal_at, has_day_at, journal_at};
+use crate::journal_file::{FileLog, empty_journal_at, fault_at, has_day_at, journal_at};
+use crate::journal_log::{Led, LogPlace, begin_in_log, found_log, gateway_to, is_opened, take_log};
 use crate::journal_name::JournalName;
-use crate::journal_opening::{BegunFile, BegunJournal, Resumed, begin_journal, resume_journal};
+use crate::journal_opening::{
+    BegunFile, BegunJournal, FoundDay, Resumed, ResumedDay, begin_journal, resume_journal,
+    resume_text_of,
+};
+use crate::journal_place::JournalSink;
 use crate::locking::Locks;
 use crate::seeding::seed_from;
 use crate::serving::{Begun, begin_log, listen, serve};
 use gu_book::Book;
+use gu_etcd::{Exchange, Gateway, Name};
 use gu_journal::Sink;
+use gu_lead::lead_while;
 use gu_log::{Event, EventLog, LogOutput, Logged, Unwaiting, run_logged};
 use gu_ref::Reference;
 use gu_script::RefusedLines;
 use gu_secrets::Secrets;
-use gu_server::{DayEnd, Front, Served};
+use gu_server::{DayEnd, DayJournal, Front, Served};
 use gu_sockets::Doorway;
 use gu_streams::{StreamError, send};
 use gu_terms::{FirmId, History, Seed};
@@ -29,9 +37,8 @@ use gu_words::{Journal, Serving, Status};
 use gu_world::World;
 use jiff::Timestamp;
 use std::alloc::Global;
-use std::fs::OpenFile;
 use std::io;
-use std::io::{ErrorKind, Read, Seek, Write};
+use std::io::{ErrorKind, Write};
 use std::net::{Net, TcpListener, TcpStream};
 use std::os::fd::AsRawFd;
 use std::random::RandomSource;
@@ -117,24 +124,37 @@ where
     Ok(Some(begun))
 }
 
-/// Returns a day that begins after a script, and begins its journal, if it has one. Refused lines of the script are printed on standard
-/// error.
-fn begun_day<'a, R: Eprint + Files + Alloc<A = Global>>(
+/// Returns the world after a script. Refused lines of the script are printed on standard error.
+fn begun_world<'a, R: Eprint + Files + Alloc<A = Global>>(
     rt: &R,
     serving: &Serving<'a>,
     reference: Reference,
-    heading: &Heading,
     seed: Seed,
-) -> Result<ReadyFile<'a, R::File>, Fault<'a>>
-where
-    R::File: Locks,
-{
+) -> Result<World, Fault<'a>> {
     let (world, refused) = world_after(rt, reference, serving.script, seed)?;
     if let Some(refused) = &refused {
         say_refused(rt, refused);
     }
     drop(refused);
-    let begun = begun_journal(rt, serving, heading, world.book().history())?;
+    Ok(world)
+}
+
+/// Returns a day that begins after a script, and begins its journal, if it has one.
+fn begun_day<'a, R: Eprint + Files + Alloc<A = Global>>(
+    rt: &R,
+    serving: &Serving<'a>,
+    begins: Begins,
+) -> Result<ReadyFile<'a, R::File>, Fault<'a>>
+where
+    R::File: Locks,
+{
+    let Begins {
+        seed,
+        reference,
+        heading,
+    } = begins;
+    let world = begun_world(rt, serving, reference, seed)?;
+    let begun = begun_journal(rt, serving, &heading, world.book().history())?;
     Ok(Ready { world, begun })
 }
 
@@ -154,13 +174,12 @@ fn journal_to_resume<'a, R: Files>(
     }
 }
 
-/// Makes a day ready: it goes on if its journal is to be resumed and has lines, and otherwise begins after the script.
+/// Makes a day ready whose journal, if it has one, is in a file: it goes on if its journal is to be resumed and has lines, and otherwise
+/// begins after the script.
 fn made_ready<'a, R: Eprint + Files + Alloc<A = Global>>(
     rt: &R,
     serving: &Serving<'a>,
-    reference: Reference,
-    heading: &Heading,
-    seed: Seed,
+    begins: Begins,
 ) -> Result<ReadyFile<'a, R::File>, Fault<'a>>
 where
     R::File: Locks,
@@ -168,14 +187,89 @@ where
     match journal_to_resume(rt, serving)? {
         Some(path) => {
             let found = journal_at(rt, path)?;
-            let Resumed { world, begun } = resume_journal(rt, found, reference, heading, seed)?;
+            let Begins {
+                seed,
+                reference,
+                heading,
+            } = begins;
+            let Resumed { world, begun } = resume_journal(rt, found, reference, &heading, seed)?;
             Ok(Ready {
                 world,
                 begun: Some(begun),
             })
         }
-        None => begun_day(rt, serving, reference, heading, seed),
+        None => begun_day(rt, serving, begins),
     }
+}
+
+/// Returns a day whose journal has a name and goes on from here.
+fn named<'a, F, K: Sink>(path: &'a str, world: World, journal: DayJournal<K>) -> Ready<'a, F, K>
+    requires { IsChainOf journal.chain world.state.book.history }
+{
+    let name = JournalName { path, new: None };
+    Ready {
+        world,
+        begun: Some(BegunJournal { name, journal }),
+    }
+}
+
+/// Goes on with a day that was found in a log.
+fn resumed_in_log<'a, F, K: JournalSink>(
+    alloc: Global,
+    path: &'a str,
+    found: FoundDay<K>,
+    begins: Begins,
+) -> Result<Ready<'a, F, K>, Fault<'a>> {
+    let Begins {
+        seed,
+        reference,
+        heading,
+    } = begins;
+    let resumed = resume_text_of(alloc, path, found, reference, &heading, seed)?;
+    let ResumedDay { world, journal } = resumed;
+    Ok(named(path, world, journal))
+}
+
+/// Begins a day after the script, in an empty log.
+fn begun_in_log<'a, F, R: Eprint + Files + Alloc<A = Global>, K: JournalSink>(
+    rt: &R,
+    serving: &Serving<'a>,
+    path: &'a str,
+    sink: K,
+    begins: Begins,
+) -> Result<Ready<'a, F, K>, Fault<'a>> {
+    let Begins {
+        seed,
+        reference,
+        heading,
+    } = begins;
+    let world = begun_world(rt, serving, reference, seed)?;
+    let journal = begin_in_log(rt.alloc(), path, sink, &heading, world.book().history())?;
+    Ok(named(path, world, journal))
+}
+
+/// Makes a day ready whose journal is in a log that this desk leads: it goes on if the log has a day and it is to be resumed, and begins
+/// after the script if the log is empty.
+fn made_ready_in_log<'a, F, R: Eprint + Files + Alloc<A = Global>, K: JournalSink>(
+    rt: &R,
+    serving: &Serving<'a>,
+    journal: Journal<'a>,
+    found: FoundDay<K>,
+    begins: Begins,
+) -> Result<Ready<'a, F, K>, Fault<'a>> {
+    let path = journal.path;
+    if found.text.is_empty() {
+        let FoundDay { sink, text } = found;
+        drop(text);
+        return begun_in_log(rt, serving, path, sink, begins);
+    }
+    if !journal.resumes {
+        return Err(fault_at(path, JournalFault::NotEmpty));
+    }
+    if !is_opened(&found.text) {
+        return Err(fault_at(path, JournalFault::Unopened));
+    }
+    resumed_in_log(rt.alloc(), path, found, begins)
 }
 
 /// Returns the secrets of firms, if there are any.
@@ -190,14 +284,19 @@ fn secrets_of<'a, R: Files + Alloc<A = Global>>(
     }
 }
 
-/// Reads the reference, then the secrets of its firms, and makes the day ready.
-fn ready_day<'a, R: Eprint + Files + Clock + RandomSource + Alloc<A = Global>>(
+/// What a day begins with.
+#[derive(Drop)]
+struct Begins {
+    seed: Seed,
+    reference: Reference,
+    heading: Heading,
+}
+
+/// Reads the reference, then the secrets of its firms.
+fn read_files<'a, R: Files + Clock + RandomSource + Alloc<A = Global>>(
     rt: &R,
     serving: &Serving<'a>,
-) -> Result<(ReadyFile<'a, R::File>, Option<Secrets>), Fault<'a>>
-where
-    R::File: Locks,
-{
+) -> Result<(Begins, Option<Secrets>), Fault<'a>> {
     let seed = seed_from(rt)?;
     let (reference, digest) = digested_reference_at(rt, serving.reference)?;
     let secrets = secrets_of(rt, serving, reference.firms())?;
@@ -205,8 +304,12 @@ where
         reference: digest,
         opened: time(rt).ok_or(StreamError::Read)?,
     };
-    let ready = made_ready(rt, serving, reference, &heading, seed)?;
-    Ok((ready, secrets))
+    let begins = Begins {
+        seed,
+        reference,
+        heading,
+    };
+    Ok((begins, secrets))
 }
 
 /// Returns the status for the end of a day, which its audit decides.
@@ -246,13 +349,9 @@ fn fault_after<'a>(done: Result<(), StreamError>) -> Option<Fault<'a>> {
 
 /// Ends a day: ends its journal and prints its last lines, even if some connections couldn't be accepted, but not if the journal lacks
 /// entries. Operators that closed the day get the lines once the journal is whole. All faults are returned.
-pub fn end_day<
-    'a,
-    R: Print + Wait + Clock + Alloc<A = Global>,
-    F: Read + Write + Seek + OpenFile + Drop,
->(
+pub fn end_day<'a, R: Print + Wait + Clock + Alloc<A = Global>, K: JournalSink>(
     rt: &R,
-    served: Served<FileLog<F>>,
+    served: Served<K>,
     path: Option<&'a str>,
     log: &EventLog,
 ) -> Result<Status, Faults<'a>> {
@@ -352,13 +451,9 @@ fn begun_log<'a, R: Clock + Alloc<A = Global>, W: Drop>(
 }
 
 /// Ends a day if it was served.
-fn end_served<
-    'a,
-    R: Print + Wait + Clock + Alloc<A = Global>,
-    F: Read + Write + Seek + OpenFile + Drop,
->(
+fn end_served<'a, R: Print + Wait + Clock + Alloc<A = Global>, K: JournalSink>(
     rt: &R,
-    served: Result<Served<FileLog<F>>, StreamError>,
+    served: Result<Served<K>, StreamError>,
     path: Option<&'a str>,
     log: &EventLog,
 ) -> Result<Status, Faults<'a>> {
@@ -379,14 +474,13 @@ pub struct Screen<T, E> {
     pub stderr: E,
 }
 
-/// Serves firms on this machine, over the reference in a file, after a script, if one is named.
-pub fn run_serve<
+/// Serves firms on this machine, from a day that is ready to its last line.
+fn serve_ready<
     'a,
     R: Print
         + Eprint
         + Files
         + Clock
-        + RandomSource
         + Net<Listener = TcpListener, Stream = TcpStream>
         + Threads
         + Wait
@@ -394,17 +488,19 @@ pub fn run_serve<
         + Alloc<A = Global>,
     T: Write + Send + Drop,
     E: Write + AsRawFd + Send + Drop,
->(rt: &R, serving: &Serving<'a>, screen: Screen<T, E>) -> Result<Status, Faults<'a>>
+    K: JournalSink + Send,
+>(
+    rt: &R,
+    serving: &Serving<'a>,
+    terminal: Option<T>,
+    writer: Option<Unwaiting<E>>,
+    ready: Ready<'a, R::File, K>,
+    secrets: Option<Secrets>,
+) -> Result<Status, Faults<'a>>
 where
     R::File: Locks + Send,
+    K::Place: Send,
 {
-    let Screen {
-        terminal,
-        is_typed: _,
-        stderr,
-    } = screen;
-    let writer = log_writer(rt, serving, stderr)?;
-    let (ready, secrets) = ready_day(rt, serving)?;
     let (name, begun) = ready.into_parts(secrets);
     let firms = begun.world.book().reference().firms();
     let front = match opened(rt, serving, firms, name.as_ref()) {
@@ -440,4 +536,145 @@ where
         drop(output.write(rt, rt.alloc(), &log));
     }
     ended
+}
+
+/// Serves firms on this machine, over the reference in a file, after a script, if one is named.
+pub fn run_serve<
+    'a,
+    R: Print
+        + Eprint
+        + Files
+        + Clock
+        + RandomSource
+        + Net<Listener = TcpListener, Stream = TcpStream>
+        + Threads
+        + Wait
+        + Sync
+        + Alloc<A = Global>,
+    T: Write + Send + Drop,
+    E: Write + AsRawFd + Send + Drop,
+>(rt: &R, serving: &Serving<'a>, screen: Screen<T, E>) -> Result<Status, Faults<'a>>
+where
+    R::File: Locks + Send,
+{
+    let Screen {
+        terminal,
+        is_typed: _,
+        stderr,
+    } = screen;
+    let writer = log_writer(rt, serving, stderr)?;
+    let (begins, secrets) = read_files(rt, serving)?;
+    let ready = made_ready(rt, serving, begins)?;
+    serve_ready(rt, serving, terminal, writer, ready, secrets)
+}
+
+/// Returns the journal that a server names, or one without a name.
+fn journal_named<'a>(serving: &Serving<'a>) -> Journal<'a> {
+    serving.journal.unwrap_or(Journal {
+        path: "",
+        resumes: false,
+    })
+}
+
+/// Serves firms from the day that was found in a log, or that begins there, to its last line.
+fn serve_found<
+    'a,
+    R: Print
+        + Eprint
+        + Files
+        + Clock
+        + Net<Listener = TcpListener, Stream = TcpStream>
+        + Threads
+        + Wait
+        + Sync
+        + Alloc<A = Global>,
+    T: Write + Send + Drop,
+    E: Write + AsRawFd + Send + Drop,
+    K: JournalSink + Send,
+>(
+    rt: &R,
+    serving: &Serving<'a>,
+    journal: Journal<'a>,
+    found: FoundDay<K>,
+    files: (Begins, Option<Secrets>),
+    output: (Option<T>, Option<Unwaiting<E>>),
+) -> Result<Status, Faults<'a>>
+where
+    R::File: Locks + Send,
+    K::Place: Send,
+{
+    let (begins, secrets) = files;
+    let (terminal, writer) = output;
+    let ready = made_ready_in_log(rt, serving, journal, found, begins)?;
+    serve_ready(rt, serving, terminal, writer, ready, secrets)
+}
+
+/// Serves firms from the day that the log of a gateway has, or that begins there, to its last line. The desk of this name leads the log.
+fn serve_log<
+    'a,
+    R: Print
+        + Eprint
+        + Files
+        + Clock
+        + Net<Listener = TcpListener, Stream = TcpStream>
+        + Threads
+        + Wait
+        + Sync
+        + Alloc<A = Global>,
+    T: Write + Send + Drop,
+    E: Write + AsRawFd + Send + Drop,
+    X: Exchange + Send,
+>(
+    rt: &R,
+    serving: &Serving<'a>,
+    gateway: Gateway<X>,
+    desk: Name,
+    files: (Begins, Option<Secrets>),
+    output: (Option<T>, Option<Unwaiting<E>>),
+) -> Result<Status, Faults<'a>>
+where
+    R::File: Locks + Send,
+{
+    let journal = journal_named(serving);
+    let found = found_log(rt.alloc(), journal.path, gateway, desk)?;
+    serve_found(rt, serving, journal, found, files, output)
+}
+
+/// Serves firms as `run_serve` does, with the journal of the day in a log of etcd, which this desk leads from before it reads it until the
+/// end of the day.
+pub fn run_serve_in_log<
+    'a,
+    R: Print
+        + Eprint
+        + Files
+        + Clock
+        + RandomSource
+        + Net<Listener = TcpListener, Stream = TcpStream>
+        + Threads
+        + Wait
+        + Sync
+        + Alloc<A = Global>,
+    T: Write + Send + Drop,
+    E: Write + AsRawFd + Send + Drop,
+>(
+    rt: &'a R,
+    serving: &'a Serving<'a>,
+    log: LogPlace<'a>,
+    screen: Screen<T, E>,
+) -> Result<Status, Faults<'a>>
+where
+    R::File: Locks + Send,
+{
+    let Screen {
+        terminal,
+        is_typed: _,
+        stderr,
+    } = screen;
+    let writer = log_writer(rt, serving, stderr)?;
+    let files = read_files(rt, serving)?;
+    let Led { lead, desk } = take_log(rt, log)?;
+    let gateway = gateway_to(rt, log, &desk)?;
+    lead_while(rt, rt.alloc(), lead, || {
+        serve_log(rt, serving, gateway, desk, files, (terminal, writer))
+    })
 }

@@ -6,7 +6,7 @@ use gu_secrets::SecretsFault;
 use gu_streams::StreamError;
 use thiserror::Error;
 
-/// Why a day's journal can't be begun or resumed.
+/// Why a day's journal can't be begun or resumed, or doesn't go on.
 #[derive(Debug, Drop, Clone, Copy, PartialEq, Eq, Error)]
 pub enum JournalFault {
     /// The file isn't empty.
@@ -30,6 +30,15 @@ pub enum JournalFault {
     /// The line with this number isn't a valid line of a journal.
     #[error("bad line {0}")]
     BadLine(u64),
+    /// Another desk leads the log.
+    #[error("Fenced")]
+    Fenced,
+    /// No etcd answers at the address.
+    #[error("Unreachable")]
+    Unreachable,
+    /// The log has a day whose opening isn't whole.
+    #[error("Unopened")]
+    Unopened,
 }
 
 /// Why the secrets of firms aren't accepted.

@@ -66,7 +66,7 @@ fn say_doors<W: fmt::Write>(fault: DoorsFault, f: &mut fmt::Formatter<W>) -> fmt
     }
 }
 
-/// Returns the words for a journal that can't be begun or resumed.
+/// Returns the words for a journal that can't be begun or resumed, or doesn't go on.
 fn journal_words(fault: JournalFault) -> &'static str {
     match fault {
         JournalFault::NotEmpty => "it isn't empty, and a day doesn't write over what it finds",
@@ -77,6 +77,10 @@ fn journal_words(fault: JournalFault) -> &'static str {
         JournalFault::Damaged =>
             "more is after its text than a torn batch, and it is left as it is",
         JournalFault::BadLine(_) => "the line isn't one that may be there",
+        JournalFault::Fenced => "another desk leads it",
+        JournalFault::Unreachable => "no etcd answers there",
+        JournalFault::Unopened =>
+            "the opening of its day isn't whole: begin the day under another name",
     }
 }
 

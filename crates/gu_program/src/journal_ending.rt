@@ -2,32 +2,18 @@
 
 use crate::error::RunError;
 use crate::fault::Fault;
-use crate::journal_file::FileLog;
-use gu_journal::{FileDevice, SinkError, Stopped};
+use crate::journal_place::{JournalSink, error_of};
 use gu_server::{JournalEnd, LostBy, LostJournal};
 use gu_streams::StreamError;
-use std::fs::OpenFile;
-use std::io::{Read, Seek, Write};
-
-/// Returns the error of a run whose journal stopped for this reason.
-fn error_of(error: SinkError) -> RunError {
-    match error {
-        SinkError::Memory => RunError::from(StreamError::Memory),
-        SinkError::Failed | SinkError::Full => RunError::from(StreamError::Write),
-    }
-}
 
 /// Returns the fault of a journal that couldn't go on, with the number of its entries.
-fn lost<'a, F: Read + Write + Seek + OpenFile + Drop>(
-    path: &'a str,
-    journal: LostJournal<FileDevice<F>>,
-) -> Fault<'a> {
+fn lost<'a, K: JournalSink>(path: &'a str, journal: LostJournal<K::Place>) -> Fault<'a> {
     let LostJournal { kept, by } = journal;
     match by {
         LostBy::Memory => Fault::lost(path, None, RunError::from(StreamError::Memory), kept),
         LostBy::Length => Fault::lost(path, None, RunError::from(StreamError::Write), kept),
         LostBy::Place(stopped) => {
-            let cause = stopped.place().fault().copied();
+            let cause = K::cause(stopped.place());
             let fault = Fault::lost(path, cause, error_of(stopped.error()), kept);
             drop(stopped);
             fault
@@ -35,25 +21,20 @@ fn lost<'a, F: Read + Write + Seek + OpenFile + Drop>(
     }
 }
 
-/// Ends the journal of a day: its file then has its text and nothing else. If the journal isn't whole, the fault says why.
-pub fn end_journal<'a, F: Read + Write + Seek + OpenFile + Drop>(
+/// Ends the journal of a day. If the journal isn't whole, the fault says why.
+pub fn end_journal<'a, K: JournalSink>(
     path: &'a str,
-    end: JournalEnd<FileLog<F>>,
+    end: JournalEnd<K>,
     entries: usize,
 ) -> Result<(), Fault<'a>> {
     match end {
-        JournalEnd::Whole(log) => match log.finish() {
-            Ok(device) => {
-                drop(device);
-                Ok(())
-            }
-            Err(stopped) => {
-                let cause = stopped.place().fault().copied();
-                drop(stopped);
-                let error = RunError::from(StreamError::Write);
-                Err(Fault::lost(path, cause, error, entries as u64))
+        JournalEnd::Whole(sink) => match sink.end() {
+            Ok(()) => Ok(()),
+            Err(unended) => {
+                let error = error_of(unended.error);
+                Err(Fault::lost(path, unended.cause, error, entries as u64))
             }
         },
-        JournalEnd::Lost(journal) => Err(lost(path, journal)),
+        JournalEnd::Lost(journal) => Err(lost::<K>(path, journal)),
     }
 }

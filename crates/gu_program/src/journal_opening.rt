@@ -8,12 +8,11 @@ use crate::fault::{Fault, Place};
 use crate::heading::Heading;
 use crate::journal_file::{FileLog, FoundFile, fault_at, opened_at, refused};
 use crate::journal_name::{JournalName, NewFile};
+use crate::journal_place::{JournalSink, unkept_fault, with_comments};
 use crate::locking::Locks;
 use gu_days::play_day;
-use gu_journal::{
-    DeviceError, FileDevice, Log, OpenError, Opened, STEP, Sink, SinkError, Stopped, is_batch,
-};
-use gu_keeping::{Chain, DigestFault, Unkept, check_digests, keep_opening, resume_text};
+use gu_journal::{DeviceError, FileDevice, Log, OpenError, Opened, STEP, Sink};
+use gu_keeping::{Chain, DigestFault, check_digests, keep_opening, resume_text};
 use gu_ref::Reference;
 use gu_script::ScriptError;
 use gu_server::DayJournal;
@@ -44,28 +43,6 @@ fn file_fault<'a, F: Read + Write + Seek + OpenFile + Drop>(
     match device.fault() {
         Some(cause) => refused(path, *cause),
         None => Fault::from(StreamError::Memory),
-    }
-}
-
-/// Returns the fault of an opening that couldn't be kept.
-fn unkept_fault<'a, F: Read + Write + Seek + OpenFile + Drop>(
-    path: &'a str,
-    unkept: Unkept<FileLog<F>, FileDevice<F>>,
-) -> Fault<'a> {
-    match unkept {
-        Unkept::Memory(log) => {
-            drop(log);
-            Fault::from(StreamError::Memory)
-        }
-        Unkept::Missing(log) | Unkept::TooLong(log) => {
-            drop(log);
-            Fault::at(Place::File(path), RunError::from(StreamError::Write))
-        }
-        Unkept::Failed(stopped) => {
-            let fault = file_fault(path, stopped.place());
-            drop(stopped);
-            fault
-        }
     }
 }
 
@@ -170,42 +147,40 @@ fn checked_chain<'a>(
     }
 }
 
-/// Appends comments to a log.
-fn with_comments<'a, F: Read + Write + Seek + OpenFile + Drop>(
-    path: &'a str,
-    log: FileLog<F>,
-    comments: &[u8],
-) -> Result<FileLog<F>, Fault<'a>> {
-    if !is_batch(comments) {
-        drop(log);
-        return Err(Fault::at(Place::File(path), RunError::from(StreamError::Write)));
-    }
-    match log.append(comments) {
-        Ok(log) => Ok(log),
-        Err(stopped) => Err(file_fault(path, stopped.place())),
-    }
+/// The text of a day that was found where its journal is kept, and the sink that goes on with it.
+#[derive(Drop)]
+pub struct FoundDay<K: Sink> {
+    pub sink: K,
+    pub text: Vec<u8>,
 }
 
-/// A resumed day: the world that its journal led to, and the journal.
+/// A day that goes on: the world that its journal led to, and the journal.
+#[derive(Drop)]
+pub struct ResumedDay<K: Sink> {
+    pub world: World,
+    pub journal: DayJournal<K>,
+}
+
+/// A day that goes on, whose journal has a name.
 #[derive(Drop)]
 pub struct Resumed<'a, F, K: Sink> {
     pub world: World,
     pub begun: BegunJournal<'a, F, K>,
 }
 
-/// Resumes the day in a file: plays its lines, compares its digests, and appends comments with the time and the digest.
-pub fn resume_journal<'a, R: Eprint + Files + Alloc<A = Global>>(
-    rt: &R,
-    found: FoundFile<'a, R::File>,
+/// Goes on with a day whose journal has this text: plays its lines, compares its digests, and appends comments with the time and the
+/// digest.
+pub fn resume_text_of<'a, K: JournalSink>(
+    alloc: Global,
+    path: &'a str,
+    found: FoundDay<K>,
     reference: Reference,
     heading: &Heading,
     seed: Seed,
-) -> Result<Resumed<'a, R::File, FileLog<R::File>>, Fault<'a>>
-    ensures { IfOk result (λ resumed. IsChainOf resumed.begun.journal.chain resumed.world.state.book.history) }
+) -> Result<ResumedDay<K>, Fault<'a>>
+    ensures { IfOk result (λ resumed. IsChainOf resumed.journal.chain resumed.world.state.book.history) }
 {
-    let alloc = rt.alloc();
-    let path = found.path;
-    let Opened { log, text, torn: _ } = opened_log(rt, found)?;
+    let FoundDay { sink, text } = found;
     let is_of_it = heading.is_of(alloc, &text).map_err(StreamError::from)?;
     if !is_of_it {
         drop(reference);
@@ -216,12 +191,33 @@ pub fn resume_journal<'a, R: Eprint + Files + Alloc<A = Global>>(
     drop(text);
     let comments = heading.resumed_text(alloc).map_err(StreamError::from)?;
     let comments = resume_text(alloc, comments.as_bytes(), &chain).map_err(StreamError::from)?;
-    let log = with_comments(path, log, &comments)?;
+    let sink = with_comments(path, sink, &comments)?;
+    Ok(ResumedDay {
+        world,
+        journal: DayJournal { sink, chain },
+    })
+}
+
+/// Resumes the day in a file.
+pub fn resume_journal<'a, R: Eprint + Files + Alloc<A = Global>>(
+    rt: &R,
+    found: FoundFile<'a, R::File>,
+    reference: Reference,
+    heading: &Heading,
+    seed: Seed,
+) -> Result<Resumed<'a, R::File, FileLog<R::File>>, Fault<'a>>
+    ensures { IfOk result (λ resumed. IsChainOf resumed.begun.journal.chain resumed.world.state.book.history) }
+{
+    let path = found.path;
+    let Opened { log, text, torn: _ } = opened_log(rt, found)?;
+    let found = FoundDay { sink: log, text };
+    let resumed = resume_text_of(rt.alloc(), path, found, reference, heading, seed)?;
+    let ResumedDay { world, journal } = resumed;
     Ok(Resumed {
         world,
         begun: BegunJournal {
             name: JournalName { path, new: None },
-            journal: DayJournal { sink: log, chain },
+            journal,
         },
     })
 }

@@ -1,12 +1,13 @@
 //! Runs of the program: what joins its words, files and streams with its engines.
 
 use crate::checking::check;
-use crate::day::{Screen, run_serve};
+use crate::day::{Screen, run_serve, run_serve_in_log};
 use crate::error::{ConsoleFault, RunError};
 use crate::fault::{Fault, Faults, Place};
 use crate::files::{reference_at, world_after};
 use crate::fixing::fix;
 use crate::issuing::run_secret;
+use crate::journal_log::{LogPlace, log_named};
 use crate::locking::Locks;
 use crate::progress::Told;
 use crate::replaying::replay;
@@ -20,7 +21,7 @@ use gu_houses::OverBook;
 use gu_script::ScriptError;
 use gu_streams::{CountedReads, StreamError};
 use gu_terms::FirmId;
-use gu_words::{FirmCommand, Status, Task, answer, firm_named, given, line_refusal, read};
+use gu_words::{FirmCommand, Serving, Status, Task, answer, firm_named, given, line_refusal, read};
 use std::alloc::Global;
 use std::io;
 use std::io::Write;
@@ -172,6 +173,44 @@ fn answered<'a, R: Print + Eprint>(rt: &R, error: &Error) -> Result<Status, Faul
     }
 }
 
+/// Serves firms, with the journal of the day in a file or in a log, if it has one.
+fn run_day<
+    'a,
+    R: Print
+        + Eprint
+        + Files
+        + Clock
+        + RandomSource
+        + Net<Listener = TcpListener, Stream = TcpStream>
+        + Threads
+        + Wait
+        + Sync
+        + Alloc<A = Global>,
+    T: Write + Send + Drop,
+    E: Write + AsRawFd + Send + Drop,
+>(rt: &R, serving: &Serving<'a>, screen: Screen<T, E>) -> Result<Status, Faults<'a>>
+where
+    R::File: Locks + Send,
+{
+    match log_named(rt.alloc(), serving) {
+        Ok(None) => run_serve(rt, serving, screen),
+        Ok(Some((journal, address))) => {
+            let is_at_terminal = screen.terminal.is_some();
+            let log = LogPlace {
+                journal,
+                address: &address,
+            };
+            // The faults name places in words that the address outlives, so they are printed here.
+            let ended = run_serve_in_log(rt, serving, log, screen);
+            Ok(status_after(rt, ended, is_at_terminal))
+        }
+        Err(error) => {
+            drop(screen);
+            answered(rt, &error)
+        }
+    }
+}
+
 /// Does what these words ask for. If its input is typed, trade capture prints what it waits for.
 fn perform<
     'a,
@@ -201,7 +240,7 @@ where
         }
         Ok(Task::Check) => Ok(run_check(rt)?),
         Ok(Task::Replay { reference }) => Ok(run_replay(rt, reference, screen.terminal)?),
-        Ok(Task::Serve(serving)) => run_serve(rt, &serving, screen),
+        Ok(Task::Serve(serving)) => run_day(rt, &serving, screen),
         Ok(
             Task::Fix {
                 firm,

@@ -1,4 +1,4 @@
--- Guaranteed firms are firms, each once: there are no more guarantors than firms.
+-- Guaranteed firms are declared firms, each once: so there are no more guarantors than firms.
 use Rattle.std.proofs.Common.{◌≡◌, ◌∙◌, refl, Bool, true, false, ◌&&◌, ◌||◌, suc, ◌≤◌, List, [], ◌∷◌, map, length, arith}
 use Rattle.std.specs.List.{AllByRecursion, AllPass, IsDistinct, list_any}
 use Rattle.std.proofs.lemmas.List.{length-map}
@@ -12,7 +12,7 @@ use Rattle.gu_ref.specs.Tables.{Tables}
 use Rattle.gu_terms.specs.Same.{same_firm}
 use Rattle.gu_terms.proofs.Found.{by_name}
 
--- rows of distinct names have distinct names
+-- rows with distinct names give a list of distinct names
 distinct-map : {X K : Type 0} (same : K → K → Bool) (name : X → K) (rows : List X) → IsDistinct (λ a b. same (name a) (name b)) rows → IsDistinct same (map name rows)
 unfolding IsDistinct
 distinct-map same name [] d = tt
@@ -26,13 +26,13 @@ right : (a b : Bool) → (a && b) ≡ true → b ≡ true
 right true b h = h
 right false b h = cc
 
--- a firm that is the same as one that is there is there
+-- a firm equal to one in the list is in the list
 there : (firms : List FirmId) (firm q : FirmId) → has_firm firms firm ≡ true → same_firm q firm ≡ true → list_any (same_firm q) firms ≡ true
 there firms firm q has same =
     let laws = by_name (λ (f : FirmId). f.name) in
     (λ i. list_any (λ f. laws.congr q firm f same i) firms) ∙ (λ i. list_any (λ f. laws.symm firm f i) firms) ∙ has
 
--- each guaranteed firm is there
+-- each guaranteed firm is in the list
 members : (t : Tables) (rows : List Guarantor) → AllPass (λ g. is_known t (row.Guarantor g)) rows
     → (q : FirmId) → list_any (same_firm q) (map (λ g. g.firm) rows) ≡ true → list_any (same_firm q) t.firms ≡ true
 members t [] all q h = cc

@@ -1,4 +1,4 @@
--- A file one record longer: its faults, and the reference that it makes.
+-- A file with one more record: its faults, and the reference that it makes.
 use Rattle.std.proofs.Common.{◌≡◌, ◌∙◌, refl, ap, ◌⊎◌, inl, inr, ℕ, zero, suc, ◌<◌, ◌≤◌, ◌+◌, List, [], ◌∷◌, ◌++◌, length, slice_get, Option, None, Some, arith, length-append}
 use Rattle.std.specs.List.{filter_map, cons_option}
 use Rattle.std.proofs.lemmas.List.{take-append-le, append-nil}
@@ -35,7 +35,7 @@ fault_at-more records next place lt =
     let le : place ≤ length records = omega arith in
     rw (get-left records (next ∷ []) place lt, take-append-le place records (next ∷ []) le) refl
 
--- accepted records and one more without a fault are accepted records
+-- accepted records followed by one without a fault are accepted
 pub accepted-more : (records : List (List (List ℕ))) (next : List (List ℕ)) → AreAccepted records
     → record_fault (reference_of records) (length records + 1) next ≡ None → AreAccepted (records ++ next ∷ [])
 accepted-more records next all here place = by (cases_order place (length records))
@@ -47,7 +47,7 @@ accepted-more records next all here place = by (cases_order place (length record
         let past : length (records ++ next ∷ []) ≤ place = omega (arith, length-append records (next ∷ [])) in
         rw (slice_get_past (records ++ next ∷ []) place past) refl
 
--- no records are accepted
+-- no records at all are accepted
 pub accepted-none : AreAccepted []
 accepted-none place = refl
 
@@ -63,6 +63,6 @@ tables-said : (rows : List Row) (said : Option Row) → tables_of (rows ++ cons_
 tables-said rows None = ap tables_of (append-nil rows)
 tables-said rows (Some next) = tables-row rows next
 
--- the reference of one more record
+-- the reference with one more record
 pub reference_of-more : (records : List (List (List ℕ))) (next : List (List ℕ)) → reference_of (records ++ next ∷ []) ≡ with_record (reference_of records) next
 reference_of-more records next = ap tables_of (filter_map-append row_of records (next ∷ [])) ∙ tables-said (filter_map row_of records) (row_of next)

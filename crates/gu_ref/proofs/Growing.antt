@@ -31,17 +31,17 @@ tests true false true s a b c d h = cc
 tests true false false true a b c d h = cc
 tests true false false false a b c d h = (refl, refl, refl, refl)
 
--- a row without a fault passes each test
+-- a row without a fault passes every test
 pub passes-no_fault : (t : Tables) (line : ℕ) (row : Row) → row_fault t line row ≡ None → Passes t row
 passes-no_fault t line row h =
     let p = tests (is_known t row) (is_own t row) (is_twice t row) (is_full t row) _ _ _ _ h in
     record { known = p.0; foreign = p.1; new = p.2; room = p.3 }
 
--- what is among some is among more
+-- an element of a list is one of a longer list
 any-more : {X : Type 0} (test : X → Bool) (xs ys : List X) → list_any test xs ≡ true → list_any test (xs ++ ys) ≡ true
 any-more test xs ys h = rw (list_any-append test xs ys, h) refl
 
--- what is found first among some is found first among more
+-- the first element found in a list is the first found in a longer list
 find-more : {X : Type 0} (test : X → Bool) (xs ys : List X) → is_some (find test xs) ≡ true → find test (xs ++ ys) ≡ find test xs
 find-more test [] ys h = cc
 find-more test (x ∷ xs) ys h = by (test x) h (find-more test xs ys)
@@ -61,7 +61,7 @@ neither true q h = cc
 neither false true h = cc
 neither false false h = (refl, refl)
 
--- what a row names is there after one more row, too
+-- what a row names is still declared after one more row
 pub known-more : (t : Tables) (more row : Row) → is_known t row ≡ true → is_known (with_row t more) row ≡ true
 known-more t more (row.Firm f) h = refl
 known-more t more (row.Group g) h = refl
@@ -81,7 +81,7 @@ known-more t (row.Firm f) (row.Guarantor g) h =
     rw (any-more (λ x. same_firm x g.guarantor) t.firms (f ∷ []) p.0, any-more (λ x. same_firm x g.firm) t.firms (f ∷ []) p.1) refl
 known-more t _ (row.Guarantor g) h = h
 
--- an account that is there stays the account that it is
+-- an account keeps its firm after one more row
 pub foreign-more : (t : Tables) (more row : Row) → is_known t row ≡ true → not (is_own t row) ≡ true → not (is_own (with_row t more) row) ≡ true
 foreign-more t (row.Account b) (row.Agreement a) k h =
     let p = both (is_firm t a.executing) (is_some (account_row t a.account)) k in
@@ -93,12 +93,12 @@ foreign-more t _ (row.Account f) k h = h
 foreign-more t _ (row.Agreement a) k h = h
 foreign-more t _ (row.Guarantor g) k h = h
 
--- one element
+-- a list of one element
 all-one : {X : Type 0} (P : X → Type 0) (x : X) → P x → All P (x ∷ [])
 all-one P x p zero d h = p
 all-one P x p (suc k) d h = absurd (omega arith)
 
--- what a search does not find is not among them
+-- what a search doesn't find isn't in the list
 none-found : {X : Type 0} (test : X → Bool) (xs : List X) → is_some (find test xs) ≡ false → list_any test xs ≡ false
 none-found test xs h = sym (is_some-find test xs) ∙ h
 
@@ -106,11 +106,11 @@ is_some-map : {X Y : Type 0} (f : X → Y) (o : Option X) → is_some (option_ma
 is_some-map f None = refl
 is_some-map f (Some x) = refl
 
--- one more keeps a limit that was not reached
+-- one more element keeps within a limit that wasn't reached
 pub room-push : {X : Type 0} (most : ℕ) (xs : List X) (x : X) → nat_le most (length xs) ≡ false → length (xs ++ x ∷ []) ≤ most
 room-push most xs x h = grind (arith, rules, length-append xs (x ∷ []))
 
--- each name stands once after a new row, too
+-- each name still occurs once after a new row
 once-more : (t : Tables) (new : Row) → IsOnce t → is_twice t new ≡ false → IsOnce (with_row t new)
 once-more t (row.Firm f) o h = record { firms = distinct-push same_firm t.firms f h o.firms; groups = o.groups; symbols = o.symbols; accounts = o.accounts; agreements = o.agreements; pairs = o.pairs; guaranteed = o.guaranteed }
 once-more t (row.Group g) o h = record { firms = o.firms; groups = distinct-push same_group t.groups g h o.groups; symbols = o.symbols; accounts = o.accounts; agreements = o.agreements; pairs = o.pairs; guaranteed = o.guaranteed }
@@ -125,7 +125,7 @@ once-more t (row.Guarantor g) o h =
     let none = none-found (λ x. same_firm x.firm g.firm) t.guarantors (sym (is_some-map (λ x. x.guarantor) (guarantor_for t.guarantors g.firm)) ∙ h) in
     record { firms = o.firms; groups = o.groups; symbols = o.symbols; accounts = o.accounts; agreements = o.agreements; pairs = o.pairs; guaranteed = distinct-push _ t.guarantors g none o.guaranteed }
 
--- a row for which there is room keeps the limits; of guarantors there are no more than of firms
+-- a row for which there is room keeps the limits; there are no more guarantors than firms
 within-more : (t : Tables) (new : Row) → IsWithinLimits t → is_full t new ≡ false → length (with_row t new).guarantors ≤ 1000 → IsWithinLimits (with_row t new)
 within-more t (row.Firm f) w h few = record { firms = room-push 1000 t.firms f h; groups = w.groups; instruments = w.instruments; accounts = w.accounts; agreements = w.agreements; guarantors = few }
 within-more t (row.Group g) w h few = record { firms = w.firms; groups = room-push 100 t.groups g h; instruments = w.instruments; accounts = w.accounts; agreements = w.agreements; guarantors = few }
@@ -138,14 +138,14 @@ not-false : (b : Bool) → b ≡ false → not b ≡ true
 not-false true h = cc
 not-false false h = refl
 
--- what passes one test passes another
+-- elements that pass one test pass another
 all-more : {X : Type 0} (p q : X → Bool) (xs : List X) → ((x : X) → p x ≡ true → q x ≡ true) → AllPass p xs → AllPass q xs
 all-more p q xs f a = λ k d h. f (slice_index_or xs k d) (a k d h)
 
 all-push : {X : Type 0} (p : X → Bool) (xs : List X) (x : X) → AllPass p xs → p x ≡ true → AllPass p (xs ++ x ∷ [])
 all-push p xs x a one = All-append (λ y. p y ≡ true) xs (x ∷ []) a (all-one (λ y. p y ≡ true) x one)
 
--- the rules hold after a row that passes each test
+-- the rules still hold after a row that passes every test
 pub sound-more : (t : Tables) (new : Row) → IsSound t → Passes t new → IsSound (with_row t new)
 sound-more t (row.Firm f) s p = record {
   groups = s.groups;
@@ -211,7 +211,7 @@ sound-more t (row.Guarantor g) s p =
       within = within-more t (row.Guarantor g) s.within p.room (few_guarantors (with_row t (row.Guarantor g)) once.guaranteed known s.within.firms);
     }
 
--- no rows break no rule
+-- the rules hold for no rows
 pub sound-empty : IsSound (record { firms = []; groups = []; instruments = []; accounts = []; agreements = []; guarantors = [] })
 unfolding IsDistinct
 sound-empty = record {
@@ -225,7 +225,7 @@ sound-empty = record {
   within = record { firms = omega arith; groups = omega arith; instruments = omega arith; accounts = omega arith; agreements = omega arith; guarantors = omega arith };
 }
 
--- after a push that went well the rules hold, and after one that was refused they hold as before
+-- the rules hold after a push that succeeded, and as before after one that was refused
 pub firm-pushed : (t : Tables) (f : FirmId) (ok : Bool) (new : List FirmId) → IsSound t → Passes t (row.Firm f) → new ≡ (if ok then t.firms ++ f ∷ [] else t.firms)
     → IsSound (record { firms = new; groups = t.groups; instruments = t.instruments; accounts = t.accounts; agreements = t.agreements; guarantors = t.guarantors })
 firm-pushed t f true new s p e = subst (λ (rows : List FirmId). IsSound (record { firms = rows; groups = t.groups; instruments = t.instruments; accounts = t.accounts; agreements = t.agreements; guarantors = t.guarantors })) (sym e) (sound-more t (row.Firm f) s p)
@@ -264,7 +264,7 @@ no_guarantor t firm h = none-of (guarantor_for t.guarantors firm) h
     none-of None e = refl
     none-of (Some x) e = cc
 
--- an instrument that is not among them is not found
+-- an instrument that isn't in the list isn't found
 pub no_instrument : {X : Type 0} (test : X → Bool) (xs : List X) → list_any test xs ≡ false → find test xs ≡ None
 no_instrument {X} test xs h = none-of (find test xs) (is_some-find test xs ∙ h)
   where

@@ -12,7 +12,7 @@ use Rattle.gu_terms.specs.Same.{same_agreement, same_firm, same_account}
 use Rattle.gu_terms.proofs.Found.{by_name, by_names}
 use Rattle.gu_ref.proofs.Lookups.{pushed}
 
--- one pair
+-- the same pair
 abbrev pub same_pair : Pair → Pair → Bool
 same_pair a b = same_firm a.executing b.executing && same_account a.account b.account
 

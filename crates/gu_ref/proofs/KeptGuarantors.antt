@@ -23,11 +23,11 @@ or-true : (b : Bool) → (b || true) ≡ true
 or-true true = refl
 or-true false = refl
 
--- what is among a list with one more
+-- membership in a list with one more element
 any-last : {X : Type 0} (test : X → Bool) (xs : List X) (x : X) → list_any test (xs ++ x ∷ []) ≡ (list_any test xs || test x)
 any-last test xs x = list_any-append test xs (x ∷ []) ∙ ap (λ b. list_any test xs || b) (or-false (test x))
 
--- what is among a set with one more
+-- membership in a set with one more element
 inserted_has : (kept : List FirmId) (new firm : FirmId) → has_firm (insert_key same_firm kept new) firm ≡ (has_firm kept firm || same_firm new firm)
 inserted_has kept new firm = by (list_any (same_firm new) kept) refl
   where

@@ -1,4 +1,4 @@
--- A look-up by hash answers as a search of the list, and a new row goes last.
+-- A look-up by hash gives the same answer as a search of the list, and a new row goes last.
 use Rattle.std.proofs.Common.{◌≡◌, ◌∙◌, sym, refl, ap, Bool, false, if◌then◌else◌, List, [], ◌∷◌, ◌++◌, map, None}
 use Rattle.std.proofs.lemmas.List.{map-append}
 use Rattle.std.specs.List.{find, list_any}
@@ -9,7 +9,7 @@ use Rattle.indexmap.specs.IndexSet.{insert_key}
 use Rattle.indexmap.proofs.CallerLemmas.{insert_entry-new}
 
 module _ {K X : Type 0} (eq : K → K → Bool) (laws : IsEquivalence eq) (key : X → K) where
-  -- where each row stands under its own key, the row under a key is the first one of that key
+  -- if each row is under its own key, the row under a key is the first with that key
   pub lookup-by_key : (k : K) (entries : List (K × X)) → keys_of entries ≡ map key (values_of entries)
       → lookup (eq k) entries ≡ find (λ x. eq (key x) k) (values_of entries)
   lookup-by_key k [] keyed = refl
@@ -19,7 +19,7 @@ module _ {K X : Type 0} (eq : K → K → Bool) (laws : IsEquivalence eq) (key :
       let one : eq k e.0 ≡ eq (key e.1) k = ap (eq k) own ∙ laws.symm k (key e.1) in
       rw (one, lookup-by_key k entries rest) refl
 
-  -- a row of a new key goes last, under its own key
+  -- a row with a new key goes last, under its own key
   pub pushed : {S : Type 0} (kept : IndexMap K X S) (rows : List X) (x : X) (new : List (K × X))
       → values kept ≡ rows → keys kept ≡ map key (values kept) → find (λ y. eq (key y) (key x)) rows ≡ None
       → new ≡ insert_entry eq kept.entries (key x) x

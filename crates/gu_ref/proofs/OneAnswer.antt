@@ -1,4 +1,4 @@
--- A text has one list of records, so it is accepted or refused in one way.
+-- A text has only one list of records, so it is accepted or refused in only one way.
 use Rattle.std.proofs.Common.{◌≡◌, ◌∙◌, sym, refl, ap, ◌⊎◌, inl, inr, ℕ, zero, suc, ◌<◌, ◌≤◌, List, [], ◌∷◌, ◌++◌, length, take, slice_get, None, Some, arith, length-append}
 use Rattle.std.proofs.lemmas.Bool.{cases_order}
 use Rattle.csv.specs.Machine.{next_record}
@@ -42,7 +42,7 @@ take_all : {X : Type 0} (xs : List X) → take (length xs) xs ≡ xs
 take_all [] = refl
 take_all (x ∷ xs) = ap (λ l. x ∷ l) (take_all xs)
 
--- the records of a text are determined
+-- a text determines its records
 one_list : (text : List ℕ) (a b : List (List (List ℕ))) → AreRecords default_config st.StartRecord text a → AreRecords default_config st.StartRecord text b → a ≡ b
 one_list text a b p q =
     let la = longest default_config st.StartRecord text b a _ _ _ _ q.2 q.3 p.2 in
@@ -51,7 +51,7 @@ one_list text a b p q =
     let upto = alike default_config st.StartRecord text a b _ _ _ _ (length a) p.2 q.2 (omega arith) (omega arith) in
     sym (take_all a) ∙ upto ∙ ap (λ n. take n b) same ∙ take_all b
 
--- one reference
+-- a text determines its reference
 pub one_reference : (text : List ℕ) (a b : Tables) → IsReadFrom (Some text) a → IsReadFrom (Some text) b → a ≡ b
 one_reference text a b p q =
     p.made ∙ ap reference_of (one_list (strip_bom text) p.records q.records (p.whole text refl) (q.whole text refl)) ∙ sym q.made
@@ -66,7 +66,7 @@ take-before xs zero = refl
 take-before [] (suc place) = refl
 take-before (x ∷ xs) (suc place) = ap (λ l. x ∷ l) (take-before xs place)
 
--- the fault at a place is that of the records up to it
+-- the fault at an index depends only on the records up to it
 fault-upto : (records : List (List (List ℕ))) (place : ℕ) → fault_at (take (suc place) records) place ≡ fault_at records place
 fault-upto records place = rw (get-take records place, take-before records place) refl
 
@@ -78,7 +78,7 @@ same-fault text a b s1 s2 y1 y2 place p q l m =
     let upto = alike default_config st.StartRecord text a b s1 s2 y1 y2 (suc place) p q (omega arith) (omega arith) in
     sym (fault-upto a place) ∙ ap (λ r. fault_at r place) upto ∙ fault-upto b place
 
--- a text that is accepted has no fault
+-- an accepted text has no fault
 pub accepted_or_refused : (text : List ℕ) (reference : Tables) (fault : RefFault) → IsReadFrom (Some text) reference → IsFirstFault (Some text) fault → ⊥
 accepted_or_refused text reference fault p q =
     let all = p.whole text refl in
@@ -90,7 +90,7 @@ accepted_or_refused text reference fault p q =
     let none : Some fault ≡ None = sym (same ∙ fault_at-last q.before q.next ∙ q.stands) ∙ p.accepted place in
     cc
 
--- a first fault stands before no other
+-- a first fault comes before no other
 earlier : (text : List ℕ) (f g : RefFault) (p : IsFirstFault (Some text) f) (q : IsFirstFault (Some text) g) → length p.before < length q.before → ⊥
 earlier text f g p q lt =
     let one = p.begins text refl in
@@ -102,7 +102,7 @@ earlier text f g p q lt =
     let none : Some f ≡ None = sym p.stands ∙ sym (fault_at-last p.before p.next) ∙ same ∙ fault_at-more q.before q.next place lt ∙ q.accepted place in
     cc
 
--- one first fault
+-- a text has only one first fault
 pub one_fault : (text : List ℕ) (f g : RefFault) → IsFirstFault (Some text) f → IsFirstFault (Some text) g → f ≡ g
 one_fault text f g p q = by (cases_order (length p.before) (length q.before))
   where

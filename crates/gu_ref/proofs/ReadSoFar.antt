@@ -1,4 +1,4 @@
--- What a reader of records has given so far, and the reference that it makes.
+-- The records given so far by a reader, and the reference that they make.
 use Rattle.std.proofs.Common.{◌≡◌, ◌∙◌, sym, refl, ap, cond, true, false, ◌⊎◌, inl, inr, ℕ, ◌<◌, ◌+◌, List, [], ◌∷◌, ◌++◌, length, Option, None, Some, Result, Ok, Err, length-append}
 use Rattle.std.specs.Result.{IsErrAnd, IfErr}
 use Rattle.csv.specs.Reading.{ExplainsRead, Reached, ReadRecord, Ready, default_config, is_flexible, is_io, reader_config, reader_state, reader_trim, source_of, stops_reader, strip_bom}
@@ -18,7 +18,7 @@ use Rattle.gu_ref.specs.Made.{reference_of}
 use Rattle.gu_ref.specs.Tables.{Tables}
 use Rattle.gu_ref.proofs.FileLemmas.{accepted-more, reference_of-more}
 
--- the records that were read of these bytes are accepted, and make this reference
+-- the records read from these bytes are accepted, and make this reference
 pub record IsReadSoFar {R : Type 0} (rem : R → Option (List ℕ)) (reader : Reader R) (bytes : Option (List ℕ)) (reference : Tables) : Type 0 where
   pub records : List (List (List ℕ))
   pub accepted : AreAccepted records
@@ -36,7 +36,7 @@ pub record IsSetUp {R : Type 0} (reader : Reader R) (turns : ℕ) : Type 0 where
   pub flexible : is_flexible reader ≡ true
 
 module _ {R : Type 0} (rem : R → Option (List ℕ)) (old new : Reader R) (bytes : Option (List ℕ)) (reference : Tables) where
-  -- one more record that is accepted
+  -- one more accepted record
   pub more : (fields : List (List ℕ)) (after : Tables) → reader_config old ≡ default_config → IsReadSoFar rem old bytes reference → ReadRecord rem old new true fields
       → record_fault reference (row_count reference + 1) fields ≡ None → after ≡ with_record reference fields → row_count after ≡ row_count reference + 1
       → IsReadSoFar rem new bytes after
@@ -52,7 +52,7 @@ module _ {R : Type 0} (rem : R → Option (List ℕ)) (old new : Reader R) (byte
             rows-more rem old new fields default_config st.StartRecord (strip_bom text) before.0 so_far.records config before.1 before.2 read;
       }
 
-  -- one more record that has a fault
+  -- one more record with a fault
   pub faulty : (fields : List (List ℕ)) (fault : RefFault) → reader_config old ≡ default_config → IsReadSoFar rem old bytes reference → ReadRecord rem old new true fields
       → record_fault reference (row_count reference + 1) fields ≡ Some fault → IsFirstFault bytes fault
   faulty fields fault config so_far read stands =
@@ -68,7 +68,7 @@ module _ {R : Type 0} (rem : R → Option (List ℕ)) (old new : Reader R) (byte
         stands = rw (← so_far.made, ← line) stands;
       }
 
-  -- no record is left
+  -- no records are left
   pub whole : reader_config old ≡ default_config → IsReadSoFar rem old bytes reference → ReadRecord rem old new false [] → IsReadFrom bytes reference
   whole config so_far read = record {
     records = so_far.records;
@@ -79,7 +79,7 @@ module _ {R : Type 0} (rem : R → Option (List ℕ)) (old new : Reader R) (byte
     made = so_far.made;
   }
 
--- a want of memory refuses, and a first fault does
+-- out of memory is a refusal, and so is a first fault
 pub refuses : (bytes : Option (List ℕ)) (fault : RefFault) → (fault ≡ Memory) ⊎ IsFirstFault bytes fault → Refuses bytes fault
 refuses bytes Memory h = tt
 refuses bytes (BadRow line) (inl e) = cc
@@ -92,11 +92,11 @@ refuses bytes TooMany (inl e) = cc
 refuses bytes TooMany (inr h) = h
 refuses bytes ReadFault h = tt
 
--- a failure to read records refuses
+-- a failure to read records is a refusal
 pub refuses-failure : (bytes : Option (List ℕ)) (why : ErrorKind) → Refuses bytes (failure_of why)
 refuses-failure bytes why = elim (is_io why) as (λ is. Refuses bytes (cond is ReadFault Memory)) [ true ↦ tt | false ↦ tt ]
 
--- what keeps a flexible reader of bytes from a record also stops it
+-- whatever stops a flexible reader of bytes before a record is a failure
 pub stops-flexible : {R : Type 0} (rem : R → Option (List ℕ)) (old new : Reader R) (why : ErrorKind) → is_flexible old ≡ true → ExplainsRead rem old new false why → stops_reader why ≡ true
 stops-flexible rem old new (kind.Io e) flexible why = refl
 stops-flexible rem old new kind.OutOfMemory flexible why = refl
@@ -105,7 +105,7 @@ stops-flexible rem old new (kind.Utf8 pos err) flexible why = let no = why.0 in 
 stops-flexible rem old new (kind.Serialize text) flexible why = absurd why
 stops-flexible rem old new (kind.Deserialize pos err) flexible why = absurd why
 
--- a record that is refused, for want of memory or by its fault
+-- a record refused for lack of memory or for its fault
 pub refused_row : {R : Type 0} (rem : R → Option (List ℕ)) (old new : Reader R) (bytes : Option (List ℕ)) (reference : Tables) (fields : List (List ℕ)) (fault : RefFault)
     → reader_config old ≡ default_config → IsReadSoFar rem old bytes reference → ReadRecord rem old new true fields
     → (fault ≡ Memory) ⊎ (record_fault reference (row_count reference + 1) fields ≡ Some fault) → Refuses bytes fault
@@ -113,7 +113,7 @@ refused_row rem old new bytes reference fields fault config so_far read (inl e) 
 refused_row rem old new bytes reference fields fault config so_far read (inr e) =
     refuses bytes fault (inr (faulty rem old new bytes reference fields fault config so_far read e))
 
--- a fault that is passed on refuses as it did
+-- a fault that is passed on is still a refusal
 pub passed_on : {T : Type 0} (bytes : Option (List ℕ)) (result : Result T RefFault) (fault : RefFault) → IsErrAnd result (λ e. e ≡ fault) → Refuses bytes fault
     → IfErr result (λ e. Refuses bytes e)
 passed_on bytes (Ok x) fault h r = tt

@@ -1,4 +1,4 @@
--- A record is read field by field: its kind, and then one name after another.
+-- A record is read field by field: its kind, then one name after another.
 use Rattle.std.proofs.Common.{◌≡◌, ◌≢◌, refl, Bool, true, false, ℕ, List, [], ◌∷◌, length, Option, None, Some, if◌then◌else◌, arith}
 use Rattle.std.specs.List.{list_all}
 use Rattle.csv.specs.Records.{field_at}
@@ -39,7 +39,7 @@ one (x ∷ a ∷ []) kind first k f n =
     rw (p.0) (rw (e, p.1) refl)
 one (x ∷ a ∷ b ∷ rest) kind first k f n = absurd (omega arith)
 
--- a second field that is no name, or none
+-- a second field that is missing or isn't a name
 pub no_second : (fields : List (List ℕ)) (first : List ℕ) → name_in (field_at fields 1) ≡ Some first → length fields ≢ 2
     → name_in (field_at fields 2) ≡ None → row_of fields ≡ None
 unfolding field_at
@@ -64,7 +64,7 @@ two (x ∷ a ∷ b ∷ []) kind first second k f s n =
     rw (p.0, q.0) (rw (e, p.1, q.1) refl)
 two (x ∷ a ∷ b ∷ c ∷ rest) kind first second k f s n = absurd (omega arith)
 
--- a third field that is no name, or none
+-- a third field that is missing or isn't a name
 pub no_third : (fields : List (List ℕ)) (first second : List ℕ) → name_in (field_at fields 1) ≡ Some first → name_in (field_at fields 2) ≡ Some second
     → length fields ≢ 3 → name_in (field_at fields 3) ≡ None → row_of fields ≡ None
 unfolding field_at

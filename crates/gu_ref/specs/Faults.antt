@@ -1,11 +1,11 @@
--- Why a reference file is not accepted: each fault's number and its name.
+-- Why a reference file is refused: the number and name of each fault.
 use Rattle.std.specs.Prelude.{ℕ, List, codes, if◌then◌else◌}
 use Rattle.csv.specs.Reading.{is_io}
 use Rattle.csv.specs.declared.error.ErrorKind.{ErrorKind}
 use Rattle.gu_ref.specs.declared.error.RefFault.{RefFault}
 use Rattle.gu_ref.specs.declared.error.RefFault.TheVariants.{Memory, BadRow, Unknown, Twice, TooMany, ReadFault}
 
--- its number; a want of memory, which is no fault of the file, has 0
+-- its number; 0 for out of memory, which is not a fault of the file
 abbrev pub number_of : RefFault → ℕ
 number_of Memory = 0
 number_of (BadRow line) = 1
@@ -23,6 +23,6 @@ name_of (Twice line) = codes "Twice"
 name_of TooMany = codes "TooMany"
 name_of ReadFault = codes "ReadFault"
 
--- what a failure to read records is: the reader's, or a want of memory
+-- the fault for an error in reading records: the reader's failure, or out of memory
 abbrev pub failure_of : ErrorKind → RefFault
 failure_of kind = if is_io kind then ReadFault else Memory

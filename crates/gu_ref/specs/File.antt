@@ -1,4 +1,4 @@
--- Which files are accepted, and by what fault a file is refused.
+-- Which files are accepted, and the fault for which a file is refused.
 use Rattle.std.specs.Prelude.{ℕ, ◌≡◌, ◌+◌, ⊤, List, [], ◌∷◌, ◌++◌, length, take, slice_get, Option, Some, None}
 use Rattle.std.specs.Option.{option_and_then}
 use Rattle.csv.specs.Reading.{AreRecords, Reached, default_config, strip_bom}
@@ -10,7 +10,7 @@ use Rattle.gu_ref.specs.Accepted.{record_fault}
 use Rattle.gu_ref.specs.Made.{reference_of}
 use Rattle.gu_ref.specs.Tables.{Tables}
 
--- the fault of the record at a place, after the reference that the records before it make; the first record is line 1
+-- the fault of the record at an index, given the reference that the records before it make; the first record is line 1
 abbrev pub fault_at : List (List (List ℕ)) → ℕ → Option RefFault
 fault_at records place = option_and_then (record_fault (reference_of (take place records)) (place + 1)) (slice_get records place)
 
@@ -18,23 +18,23 @@ fault_at records place = option_and_then (record_fault (reference_of (take place
 abbrev pub AreAccepted : List (List (List ℕ)) → Type 0
 AreAccepted records = (place : ℕ) → fault_at records place ≡ None
 
--- these are the records of a text: fields parted by commas, quoted or not;
--- empty lines are none, and a byte order mark at the start is dropped
+-- these are the records of a text: fields separated by commas, quoted or not; empty lines are skipped, and a byte order mark at the start
+-- is dropped
 abbrev pub AreRecordsOf : List ℕ → List (List (List ℕ)) → Type 0
 AreRecordsOf text records = AreRecords default_config st.StartRecord (strip_bom text) records
 
--- the records of a text begin with these
+-- the text's records begin with these
 abbrev pub BeginsWith : List ℕ → List (List (List ℕ)) → Type 0
 BeginsWith text records = (state : State) × (rest : List ℕ) × Reached default_config st.StartRecord (strip_bom text) records state rest
 
--- the reference is read from these bytes, as far as they are known: no record has a fault, and the records make it
+-- the reference is the one in these bytes, as far as they are known: no record has a fault, and together the records make it
 pub record IsReadFrom (bytes : Option (List ℕ)) (reference : Tables) : Type 0 where
   pub records : List (List (List ℕ))
   pub whole : (text : List ℕ) → bytes ≡ Some text → AreRecordsOf text records
   pub accepted : AreAccepted records
   pub made : reference ≡ reference_of records
 
--- this is the first fault of these bytes, as far as they are known: the records before have none, and the next has it
+-- this is the first fault in these bytes, as far as they are known: the next record has it, and no record before has a fault
 pub record IsFirstFault (bytes : Option (List ℕ)) (fault : RefFault) : Type 0 where
   pub before : List (List (List ℕ))
   pub next : List (List ℕ)
@@ -42,7 +42,7 @@ pub record IsFirstFault (bytes : Option (List ℕ)) (fault : RefFault) : Type 0 
   pub accepted : AreAccepted before
   pub stands : record_fault (reference_of before) (length before + 1) next ≡ Some fault
 
--- why a file is refused: for want of memory or of the reader, or by its first fault
+-- the file may be refused for this: out of memory or a read fault at any time, any other fault if it is the first
 abbrev pub Refuses : Option (List ℕ) → RefFault → Type 0
 Refuses bytes Memory = ⊤
 Refuses bytes (BadRow line) = IsFirstFault bytes (BadRow line)

@@ -1,4 +1,4 @@
--- Machinery: a row that has no fault, and the tables after it.
+-- Machinery: a row without faults, and the tables after it.
 use Rattle.std.specs.Prelude.{ℕ, ◌≡◌, true, false, ◌+◌, List, [], ◌∷◌, ◌++◌, length, Option, Some, None, Result, Ok, Err}
 use Rattle.gu_ref.specs.declared.row.Row.{Row}
 use Rattle.gu_ref.specs.declared.row.Row.TheVariants as row
@@ -6,7 +6,7 @@ use Rattle.gu_ref.specs.Accepted.{is_known, is_own, is_twice, is_full}
 use Rattle.gu_ref.specs.Rows.{row_of}
 use Rattle.gu_ref.specs.Tables.{Tables}
 
--- the tables with one more row, which goes last in its kind
+-- the tables with one more row, added last in its kind
 abbrev pub with_row : Tables → Row → Tables
 with_row t (row.Firm firm) = record t { firms = t.firms ++ firm ∷ [] }
 with_row t (row.Group group) = record t { groups = t.groups ++ group ∷ [] }
@@ -15,16 +15,16 @@ with_row t (row.Account a) = record t { accounts = t.accounts ++ a ∷ [] }
 with_row t (row.Agreement a) = record t { agreements = t.agreements ++ a ∷ [] }
 with_row t (row.Guarantor g) = record t { guarantors = t.guarantors ++ g ∷ [] }
 
--- the tables with the row that a record says, if it says one
+-- the tables with this row, if there is one
 abbrev pub with_said : Tables → Option Row → Tables
 with_said t None = t
 with_said t (Some row) = with_row t row
 
--- the tables with one more record
+-- the tables with the row in one more record, if it has one
 abbrev pub with_record : Tables → List (List ℕ) → Tables
 with_record t fields = with_said t (row_of fields)
 
--- how many rows the tables have
+-- the number of rows in the tables
 abbrev pub row_count : Tables → ℕ
 row_count t =
     length t.firms + length t.groups + length t.instruments + length t.accounts + length t.agreements + length t.guarantors
@@ -34,7 +34,7 @@ abbrev pub outcome_of : {T E : Type 0} → Result T E → Option E
 outcome_of (Ok x) = None
 outcome_of (Err e) = Some e
 
--- a row passes each test
+-- a row passes every test
 pub record Passes (t : Tables) (row : Row) : Type 0 where
   pub known : is_known t row ≡ true
   pub foreign : is_own t row ≡ false

@@ -1,4 +1,4 @@
--- What a list of rows has under a name.
+-- Look-ups by name in lists of rows.
 use Rattle.std.specs.Prelude.{Bool, ◌&&◌, List, Option}
 use Rattle.std.specs.List.{find, list_any}
 use Rattle.gu_terms.specs.declared.firm.FirmId.{FirmId}
@@ -12,31 +12,31 @@ use Rattle.gu_ref.specs.declared.agreements.Agreement.{Agreement}
 use Rattle.gu_ref.specs.declared.guarantors.Guarantor.{Guarantor}
 use Rattle.gu_terms.specs.Same.{same_firm, same_group, same_symbol, same_account, same_agreement}
 
--- the firm is among these
+-- the firm is in this list
 abbrev pub has_firm : List FirmId → FirmId → Bool
 has_firm firms firm = list_any (λ f. same_firm f firm) firms
 
--- the group is among these
+-- the group is in this list
 abbrev pub has_group : List Group → Group → Bool
 has_group groups group = list_any (λ g. same_group g group) groups
 
--- the instrument of this symbol
+-- the instrument with this symbol
 abbrev pub instrument_in : List Instrument → Symbol → Option Instrument
 instrument_in instruments symbol = find (λ i. same_symbol i.symbol symbol) instruments
 
--- the account of this name
+-- the account with this name
 abbrev pub account_in : List Account → AccountId → Option Account
 account_in accounts account = find (λ a. same_account a.account account) accounts
 
--- the agreement of this name
+-- the agreement with this name
 abbrev pub agreement_in : List Agreement → AgreementId → Option Agreement
 agreement_in agreements id = find (λ a. same_agreement a.id id) agreements
 
--- the agreement is of this executing firm and this account
+-- the agreement is between this executing firm and this account
 abbrev pub is_between : FirmId → AccountId → Agreement → Bool
 is_between executing account a = same_firm a.executing executing && same_account a.account account
 
--- the agreement of this executing firm and this account
+-- the agreement between this executing firm and this account
 abbrev pub agreement_for : List Agreement → FirmId → AccountId → Option Agreement
 agreement_for agreements executing account = find (is_between executing account) agreements
 

@@ -66,7 +66,7 @@ guarantor_of_row (row.Account _) = None
 guarantor_of_row (row.Agreement _) = None
 guarantor_of_row (row.Guarantor guarantor) = Some guarantor
 
--- what the rows declare, kind by kind
+-- the tables that the rows make, kind by kind
 abbrev pub tables_of : List Row → Tables
 tables_of rows = record {
   firms = filter_map firm_of rows;
@@ -77,6 +77,6 @@ tables_of rows = record {
   guarantors = filter_map guarantor_of_row rows;
 }
 
--- the reference of a file's records
+-- the reference that a file's records make
 abbrev pub reference_of : List (List (List ℕ)) → Tables
 reference_of records = tables_of (filter_map row_of records)

@@ -1,4 +1,4 @@
--- What a reference says of a name.
+-- Look-ups in a reference.
 use Rattle.std.specs.Prelude.{Bool, Option}
 use Rattle.std.specs.List.{list_any}
 use Rattle.std.specs.Option.{option_and_then, option_map}
@@ -27,15 +27,15 @@ is_group reference group = has_group reference.groups group
 abbrev pub is_instrument : Tables → Symbol → Bool
 is_instrument reference symbol = list_any (λ i. same_symbol i.symbol symbol) reference.instruments
 
--- the instrument of this symbol, with its group
+-- the instrument with this symbol and its group
 abbrev pub instrument_row : Tables → Symbol → Option Instrument
 instrument_row reference symbol = instrument_in reference.instruments symbol
 
--- the account of this name, with the firm that carries it
+-- the account with this name and the firm that carries it
 abbrev pub account_row : Tables → AccountId → Option Account
 account_row reference account = account_in reference.accounts account
 
--- the agreement of this name
+-- the agreement with this name
 abbrev pub agreement_row : Tables → AgreementId → Option Agreement
 agreement_row reference id = agreement_in reference.agreements id
 
@@ -43,17 +43,17 @@ agreement_row reference id = agreement_in reference.agreements id
 abbrev pub agreement_between : Tables → FirmId → AccountId → Option AgreementId
 agreement_between reference executing account = option_map (λ a. a.id) (agreement_for reference.agreements executing account)
 
--- this agreement, with the firm that carries the account
+-- this agreement and the firm that carries the account
 abbrev pub partner_between : Tables → FirmId → AccountId → Option Partner
 partner_between reference executing account =
     option_and_then
     (λ agreement. option_map (λ row. record { agreement = agreement; carrying = row.firm }) (account_row reference account))
     (agreement_between reference executing account)
 
--- the guarantor of this firm, where it has one
+-- the guarantor of this firm, if it has one
 abbrev pub guarantor_of : Tables → FirmId → Option FirmId
 guarantor_of reference firm = option_map (λ g. g.guarantor) (guarantor_for reference.guarantors firm)
 
--- this firm is a guarantor of another
+-- this firm is the guarantor in one of the rows
 abbrev pub is_guarantor : Tables → FirmId → Bool
 is_guarantor reference firm = is_guarantor_in reference.guarantors firm

@@ -1,4 +1,4 @@
--- What the fields of a record say: a row of which kind, or none.
+-- The row in a record's fields: its kind and its names.
 use Rattle.std.specs.Prelude.{ℕ, List, [], ◌∷◌, codes, Option, Some, None, if◌then◌else◌}
 use Rattle.std.specs.List.{list_all}
 use Rattle.std.specs.Str.{bytes_eq}
@@ -6,7 +6,7 @@ use Rattle.gu_terms.specs.Names.{is_name}
 use Rattle.gu_ref.specs.declared.row.Row.{Row}
 use Rattle.gu_ref.specs.declared.row.Row.TheVariants as row
 
--- the name in a field, where there is the field and it is a name
+-- the name in a field, if the field is present and is a name
 abbrev pub name_in : Option (List ℕ) → Option (List ℕ)
 name_in None = None
 name_in (Some bytes) = if is_name bytes then Some bytes else None
@@ -40,14 +40,14 @@ row_of_three kind first second third =
     }))
     else None
 
--- the row of this kind with these names
+-- the row of this kind with these names, if there is one
 abbrev pub row_of_names : List ℕ → List (List ℕ) → Option Row
 row_of_names kind (first ∷ []) = row_of_one kind first
 row_of_names kind (first ∷ second ∷ []) = row_of_two kind first second
 row_of_names kind (first ∷ second ∷ third ∷ []) = row_of_three kind first second third
 row_of_names kind _ = None
 
--- the row that a record says: its first field is the kind, and each other field is a name
+-- the row in a record, if it is a valid one: its first field is the kind, and each other field is a name
 abbrev pub row_of : List (List ℕ) → Option Row
 row_of [] = None
 row_of (kind ∷ names) = if list_all is_name names then row_of_names kind names else None

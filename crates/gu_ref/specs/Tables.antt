@@ -1,4 +1,4 @@
--- Reference data, each kind in the order in which it was declared.
+-- Reference data, each kind in the order of declaration.
 use Rattle.std.specs.Prelude.{List}
 use Rattle.gu_terms.specs.declared.firm.FirmId.{FirmId}
 use Rattle.gu_terms.specs.declared.group.Group.{Group}

@@ -1,4 +1,4 @@
-//! Which row may follow the rows so far, and the reference with it.
+//! Acceptance of a row after the rows so far, and of the reference with it.
 
 ghost use Rattle.std.specs.Prelude.{◌≡◌, ◌+◌, ◌⊎◌, None, Some, OnOk, IfErr};
 ghost use Rattle.csv.specs.Records.{fields_of};
@@ -10,15 +10,15 @@ use crate::reference::Reference;
 use crate::row::{Row, row_of};
 use csv::ByteRecord;
 
-/// How many firms there may be.
+/// The most firms in a reference.
 const FIRMS: usize = 1_000;
-/// How many product groups.
+/// The most product groups.
 const GROUPS: usize = 100;
-/// How many instruments, accounts and agreements each.
+/// The most instruments, the most accounts and the most agreements.
 const ROWS: usize = 10_000;
 
 impl Reference {
-    /// Whether all that the row names is there.
+    /// Returns whether everything that the row names has been declared.
     fn is_known(&self, row: &Row) -> bool
         ensures { result ≡ is_known self.now row.now }
     {
@@ -33,7 +33,7 @@ impl Reference {
         }
     }
 
-    /// Whether the row is an agreement with an account of the executing firm's own, or makes a firm its own guarantor.
+    /// Returns whether the row is an agreement for the executing firm's own account, or makes a firm its own guarantor.
     fn is_own(&self, row: &Row) -> bool
         ensures { result ≡ is_own self.now row.now }
     {
@@ -46,7 +46,7 @@ impl Reference {
         }
     }
 
-    /// Whether the row declares what is there already.
+    /// Returns whether the row repeats an earlier declaration.
     fn is_twice(&self, row: &Row) -> bool
         ensures { result ≡ is_twice self.now row.now }
     {
@@ -65,8 +65,7 @@ impl Reference {
         }
     }
 
-    /// Whether there are as many of the row's kind as there may be. A firm has one guarantor at most, so that these need
-    /// no limit.
+    /// Returns whether the table for this kind of row is full. A firm has at most one guarantor, so guarantors need no limit.
     fn is_full(&self, row: &Row) -> bool
         ensures { result ≡ is_full self.now row.now }
     {
@@ -80,7 +79,7 @@ impl Reference {
         }
     }
 
-    /// Refuses a row by its first fault.
+    /// Returns the row's first fault as an error, if it has one.
     fn check(&self, line: u64, row: &Row) -> Result<(), RefFault>
         ensures { outcome_of result ≡ row_fault self.now line row.now }
     {
@@ -99,7 +98,7 @@ impl Reference {
         Ok(())
     }
 
-    /// Accepts one more record: its row is entered, or it is refused by its first fault.
+    /// Adds the row of one more record, or refuses it for its first fault.
     pub(crate) fn accept(&mut self, fields: &ByteRecord) -> Result<(), RefFault>
         ensures ok { OnOk result ((record_fault self.old (row_count self.old + 1) (fields_of fields.now) ≡ None)
             × (self.new ≡ with_record self.old (fields_of fields.now))

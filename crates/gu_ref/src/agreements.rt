@@ -9,7 +9,7 @@ use indexmap::IndexMap;
 use std::alloc::{AllocError, Global};
 use std::marker::Model;
 
-/// An agreement: the executing firm may give trades up to the account.
+/// An agreement under which the executing firm may give trades up to the account.
 #[derive(Clone, Copy, Debug, PartialEq, Eq)]
 pub struct Agreement {
     pub id: AgreementId,
@@ -17,14 +17,14 @@ pub struct Agreement {
     pub account: AccountId,
 }
 
-/// What an agreement is between. No two agreements are between the same.
+/// The parties to an agreement. No two agreements have the same.
 #[derive(Clone, Copy, Debug, PartialEq, Eq, Hash)]
 struct Pair {
     executing: FirmId,
     account: AccountId,
 }
 
-/// Agreements, each name and each pair once. To a contract it is the list of them.
+/// A table of agreements, with each name and each pair once. To a contract it is their list.
 pub(crate) struct Agreements {
     rows: IndexMap<AgreementId, Agreement>,
     pairs: IndexMap<Pair, Agreement>,
@@ -52,7 +52,7 @@ impl Model for Agreements {
     ghost invariant = { IsKept };
 }
 
-/// Puts an agreement under its pair.
+/// Indexes an agreement by its pair.
 fn pair_up(pairs: &mut IndexMap<Pair, Agreement>, agreement: &Agreement) -> Result<(), AllocError>
     ensures paired { OnOk result (pairs.new.entries ≡ insert_entry ⟦<Pair as PartialEq>⟧.eq pairs.old.entries
         (record { executing = agreement.now.executing; account = agreement.now.account }) agreement.now) }
@@ -66,7 +66,7 @@ fn pair_up(pairs: &mut IndexMap<Pair, Agreement>, agreement: &Agreement) -> Resu
     Ok(())
 }
 
-/// Puts an agreement under its name and under its pair. The allocations come first, so that one that fails leaves both as they were.
+/// Adds an agreement under its name and its pair. All allocations come first, so a failed one leaves both tables unchanged.
 fn add(
     rows: &mut IndexMap<AgreementId, Agreement>,
     pairs: &mut IndexMap<Pair, Agreement>,
@@ -87,7 +87,7 @@ fn add(
 impl Agreements {
     ghost use Rattle.gu_ref.specs.Listed.{agreement_in, agreement_for};
 
-    /// No agreements.
+    /// Returns an empty table.
     pub(crate) fn new(alloc: Global) -> Self
         ensures { result ≡ [] }
     {
@@ -97,28 +97,28 @@ impl Agreements {
         }
     }
 
-    /// All of them, in order.
+    /// Returns all agreements, in order.
     pub(crate) fn as_slice(&self) -> &[Agreement]
         ensures { result.now ≡ self.now }
     {
         self.rows.values().as_slice()
     }
 
-    /// The agreement of this name.
+    /// Returns the agreement with this name.
     pub(crate) fn get(&self, id: AgreementId) -> Option<Agreement>
         ensures { result ≡ agreement_in self.now id }
     {
         self.rows.get(&id).copied()
     }
 
-    /// Whether there is an agreement of this name.
+    /// Returns whether there is an agreement with this name.
     pub(crate) fn contains(&self, id: AgreementId) -> bool
         ensures { result ≡ is_some (agreement_in self.now id) }
     {
         self.rows.contains_key(&id)
     }
 
-    /// The agreement of this executing firm and this account.
+    /// Returns the agreement between this executing firm and this account.
     pub(crate) fn between(&self, executing: FirmId, account: AccountId) -> Option<Agreement>
         ensures { result ≡ agreement_for self.now executing account }
     {

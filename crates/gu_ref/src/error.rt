@@ -1,4 +1,4 @@
-//! Why a reference file was not accepted.
+//! Why a reference file is refused.
 
 ghost use Rattle.std.specs.Prelude.{◌≡◌};
 ghost use Rattle.gu_ref.specs.Faults.{number_of, name_of};
@@ -6,25 +6,25 @@ ghost use Rattle.gu_ref.specs.Faults.{number_of, name_of};
 use std::alloc::AllocError;
 use thiserror::Error;
 
-/// Why a reference file was not accepted. A line is the number of a record in the file, from 1.
+/// The reason that a reference file is refused. A line is the number of a record in the file, from 1.
 #[derive(Debug, Drop, Clone, Copy, PartialEq, Eq, Error)]
 pub enum RefFault {
     /// An allocation failed.
     #[error("Memory")]
     Memory,
-    /// The record says no row, or an agreement with an account of the executing firm's own.
+    /// The record isn't a valid row, or is an agreement for the executing firm's own account, or makes a firm its own guarantor.
     #[error("BadRow {0}")]
     BadRow(u64),
-    /// The row names what no earlier row declared.
+    /// The row names something that no earlier row declared.
     #[error("Unknown {0}")]
     Unknown(u64),
-    /// The row declares again what an earlier row declared.
+    /// The row repeats an earlier declaration.
     #[error("Twice {0}")]
     Twice(u64),
-    /// The row is one more than there may be of its kind.
+    /// The row exceeds the limit for its kind.
     #[error("TooMany")]
     TooMany,
-    /// The reader failed, or asked for too many reads.
+    /// The reader failed, or needed too many reads.
     #[error("ReadFault")]
     ReadFault,
 }
@@ -40,7 +40,7 @@ impl From<AllocError> for RefFault {
 }
 
 impl RefFault {
-    /// Its number; `Memory`, which is no fault of the file, has 0.
+    /// Returns its number; 0 for `Memory`, which is not a fault of the file.
     pub fn number(self) -> u64
         ensures { result ≡ number_of self }
     {
@@ -54,7 +54,7 @@ impl RefFault {
         }
     }
 
-    /// Its name, without the line.
+    /// Returns its name, without the line.
     pub fn name(self) -> &'static str
         ensures { result.now ≡ name_of self }
     {

@@ -10,18 +10,18 @@ use indexmap::{IndexMap, IndexSet};
 use std::alloc::{AllocError, Global};
 use std::marker::Model;
 
-/// A guarantor, and the firm that it guarantees.
+/// A guarantor and the firm that it guarantees.
 #[derive(Clone, Copy, Debug, PartialEq, Eq)]
 pub struct Guarantor {
     pub guarantor: FirmId,
     pub firm: FirmId,
 }
 
-/// Guarantors, at most one for each firm. To a contract it is the list of their rows.
+/// A table of guarantors, at most one for each firm. To a contract it is the list of their rows.
 pub(crate) struct Guarantors {
-    /// The rows by the firms that they guarantee.
+    /// The rows by guaranteed firm.
     rows: IndexMap<FirmId, Guarantor>,
-    /// The firms that guarantee one or more.
+    /// The firms that guarantee at least one other.
     guarantors: IndexSet<FirmId>,
 }
 
@@ -47,8 +47,8 @@ impl Model for Guarantors {
     ghost invariant = { IsGuaranteed };
 }
 
-/// Puts a row under the firm that it guarantees, and its guarantor among the guarantors. The allocations come first, so that
-/// a refusal leaves both as they were.
+/// Adds a row under the firm that it guarantees, and its guarantor to the guarantors. All allocations come first, so a failure leaves both
+/// unchanged.
 fn add(
     rows: &mut IndexMap<FirmId, Guarantor>,
     guarantors: &mut IndexSet<FirmId>,
@@ -69,7 +69,7 @@ fn add(
 impl Guarantors {
     ghost use Rattle.gu_ref.specs.Listed.{guarantor_for, is_guarantor_in};
 
-    /// No guarantors.
+    /// Returns an empty table.
     pub(crate) fn new(alloc: Global) -> Self
         ensures { result ≡ [] }
     {
@@ -79,21 +79,21 @@ impl Guarantors {
         }
     }
 
-    /// All rows, in order.
+    /// Returns all rows, in order.
     pub(crate) fn as_slice(&self) -> &[Guarantor]
         ensures { result.now ≡ self.now }
     {
         self.rows.values().as_slice()
     }
 
-    /// The row that gives a firm its guarantor.
+    /// Returns the row that gives a firm its guarantor.
     pub(crate) fn get(&self, firm: FirmId) -> Option<Guarantor>
         ensures { result ≡ guarantor_for self.now firm }
     {
         self.rows.get(&firm).copied()
     }
 
-    /// Whether the firm is the guarantor in one of the rows.
+    /// Returns whether the firm is the guarantor in one of the rows.
     pub(crate) fn guards(&self, firm: FirmId) -> bool
         ensures { result ≡ is_guarantor_in self.now firm }
     {

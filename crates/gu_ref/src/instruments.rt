@@ -3,7 +3,7 @@
 use crate::table::Named;
 use gu_terms::{Group, Symbol};
 
-/// An instrument, and the product group that it belongs to.
+/// An instrument and its product group.
 #[derive(Clone, Copy, Debug, PartialEq, Eq)]
 pub struct Instrument {
     pub symbol: Symbol,

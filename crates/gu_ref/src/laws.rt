@@ -1,11 +1,11 @@
-//! What follows from the definitions alone.
+//! Consequences of the definitions alone.
 
 ghost use Rattle.std.specs.Prelude.{◌≡◌, Some, ℕ, List};
 ghost use Rattle.gu_ref.specs.File.{IsReadFrom, IsFirstFault};
 ghost use Rattle.gu_ref.specs.Tables.{Tables};
 ghost use Rattle.gu_ref.specs.declared.error.RefFault.{RefFault};
 
-/// A text is accepted or refused by a fault, never both, and in one way.
+/// A text is either accepted or refused for a fault, never both, and in only one way.
 pub fn one_answer()
     ensures never_both { (text : List ℕ) (reference : Tables) (fault : RefFault)
         → IsReadFrom (Some text) reference → ¬ IsFirstFault (Some text) fault }

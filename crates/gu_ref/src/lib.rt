@@ -1,4 +1,4 @@
-//! Reference data of the house: firms, product groups, instruments, accounts, agreements and guarantors.
+//! The house's reference data: firms, product groups, instruments, accounts, agreements and guarantors.
 #![tactic(auto)]
 
 mod accepting;

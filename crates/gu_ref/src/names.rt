@@ -9,7 +9,7 @@ use std::alloc::{AllocError, Global};
 use std::hash::Hash;
 use std::marker::Model;
 
-/// Names of one kind, each once. To a contract it is the list of them.
+/// A table of names of one kind, each once. To a contract it is their list.
 pub(crate) struct Names<N: Copy + Eq + Hash> {
     rows: IndexSet<N>,
 }
@@ -30,7 +30,7 @@ impl<N: Copy + Eq + Hash> Model for Names<N> {
 }
 
 impl<N: Copy + Eq + Hash> Names<N> {
-    /// No names.
+    /// Returns an empty table.
     pub(crate) fn new(alloc: Global) -> Self
         ensures { result ≡ [] }
     {
@@ -39,21 +39,21 @@ impl<N: Copy + Eq + Hash> Names<N> {
         }
     }
 
-    /// All of them, in order.
+    /// Returns all names, in order.
     pub(crate) fn as_slice(&self) -> &[N]
         ensures { result.now ≡ self.now }
     {
         self.rows.as_slice()
     }
 
-    /// Whether the name is among them.
+    /// Returns whether the name is in the table.
     pub(crate) fn contains(&self, name: N) -> bool
         ensures { result ≡ list_any (λ n. N.eq n name) self.now }
     {
         self.rows.contains(&name)
     }
 
-    /// Adds a name that is not among them.
+    /// Adds a name that isn't in the table.
     pub(crate) fn push(&mut self, name: N) -> Result<(), AllocError>
         requires { list_any (λ n. N.eq n name) self.old ≡ false }
         ensures { self.new ≡ (if is_ok result then self.old ++ name ∷ [] else self.old) }

@@ -1,4 +1,4 @@
-//! A reference read from a file of rows.
+//! Reading a reference from a file of rows.
 
 ghost use Rattle.std.specs.Prelude.{◌≡◌, true, IfOk, IfErr, IsErrOf};
 ghost use Rattle.csv.specs.Reading.{error_kind, stops_reader};
@@ -13,7 +13,7 @@ use gu_streams::CountedReads;
 use std::alloc::Global;
 use std::io::Read;
 
-/// What a failure of `csv` is to a caller: a want of memory, or the reader's.
+/// Returns the fault for a `csv` error: out of memory, or a failure of the reader.
 fn fault_of(error: &csv::Error) -> RefFault
     requires { stops_reader (error_kind error.now) ≡ true }
     ensures { result ≡ failure_of (error_kind error.now) }
@@ -25,7 +25,7 @@ fn fault_of(error: &csv::Error) -> RefFault
     }
 }
 
-/// Reads the rows of a file.
+/// Returns the reference made by the rows of a file.
 fn read_rows<R: Read + Drop>(alloc: Global, reader: R) -> Result<Reference, RefFault>
     ensures accepted { IfOk result (λ reference. IsReadFrom (R.remaining reader) reference) }
     ensures refused { IfErr result (λ fault. Refuses (R.remaining reader) fault) }
@@ -45,12 +45,12 @@ fn read_rows<R: Read + Drop>(alloc: Global, reader: R) -> Result<Reference, RefF
 }
 
 impl Reference {
-    /// Reads the rows of a file, which ends with the reader. A file with no rows is accepted.
+    /// Returns the reference made by the rows of a file, read to its end. A file with no rows is accepted.
     pub fn read<R: Read>(alloc: Global, reads: &mut CountedReads<R>) -> Result<Reference, RefFault>
         ensures accepted { IfOk result (λ reference. IsReadFrom (bytes_left R.remaining reads.old) reference) }
         ensures refused { IfErr result (λ fault. Refuses (bytes_left R.remaining reads.old) fault) }
 
-        // A read fault is of a reader that failed, or of which no read is left; and a reader that failed is one.
+        // A read fault means that the reader failed or no reads are left; if the reader failed, there is a read fault.
         ensures read_fault { IsErrOf result RefFault.ReadFault → HasStopped reads.new }
         ensures failed { has_failed reads.new ≡ true → IsErrOf result RefFault.ReadFault }
     {

@@ -1,4 +1,4 @@
-//! The reference data of a run, its look-ups, and its walks in the order of the file.
+//! The reference data of a run: look-ups, and lists in the order of the file.
 
 ghost use Rattle.std.specs.Prelude.{◌≡◌, ◌≤◌, [], Some, Contains, is_some, if◌then◌else◌};
 ghost use Rattle.std.specs.Result.{is_ok};
@@ -15,8 +15,7 @@ use gu_terms::{AccountId, AgreementId, FirmId, Group, Symbol};
 use std::alloc::{AllocError, Global};
 use std::marker::Model;
 
-/// The reference data of one run, each kind in the order in which it was declared.
-/// To a contract it is these six lists.
+/// The reference data of one run, each kind in the order of declaration. To a contract it is these six lists.
 pub struct Reference {
     firms: Names<FirmId>,
     groups: Names<Group>,
@@ -80,8 +79,8 @@ impl Reference {
     ghost use Rattle.gu_ref.specs.Reference.{is_firm, is_group, is_instrument, instrument_row, account_row, agreement_row, agreement_between};
     ghost use Rattle.gu_ref.specs.Reference.{guarantor_of, is_guarantor, partner_between};
 
-    /// The rules of every reference. One firm carries an account, one agreement is between a firm and an account, and a
-    /// firm has one guarantor at most.
+    /// Shows the prover the rules of every reference: one firm carries an account, one agreement is between a firm and an account, and a
+    /// firm has at most one guarantor.
     pub fn rules(&self)
         ensures sound { IsSound self.now }
         ensures carrier { (row : Account) → Contains self.now.accounts row → account_row self.now row.account ≡ Some row }
@@ -90,109 +89,109 @@ impl Reference {
         ensures guarantor { (row : Guarantor) → Contains self.now.guarantors row
             → guarantor_of self.now row.firm ≡ Some row.guarantor }
     {
-        // A field that is read shows what the type keeps.
+        // Reading a field shows the prover the invariant of its type.
         let _ = &self.firms;
     }
 
-    /// The firms, in order.
+    /// Returns the firms, in order.
     pub fn firms(&self) -> &[FirmId]
         ensures { result.now ≡ self.now.firms }
     {
         self.firms.as_slice()
     }
 
-    /// The product groups, in order.
+    /// Returns the product groups, in order.
     pub fn groups(&self) -> &[Group]
         ensures { result.now ≡ self.now.groups }
     {
         self.groups.as_slice()
     }
 
-    /// The instruments, in order.
+    /// Returns the instruments, in order.
     pub fn instruments(&self) -> &[Instrument]
         ensures { result.now ≡ self.now.instruments }
     {
         self.instruments.as_slice()
     }
 
-    /// The accounts, in order.
+    /// Returns the accounts, in order.
     pub fn accounts(&self) -> &[Account]
         ensures { result.now ≡ self.now.accounts }
     {
         self.accounts.as_slice()
     }
 
-    /// The agreements, in order.
+    /// Returns the agreements, in order.
     pub fn agreements(&self) -> &[Agreement]
         ensures { result.now ≡ self.now.agreements }
     {
         self.agreements.as_slice()
     }
 
-    /// The guarantors, each with the firm that it guarantees, in order.
+    /// Returns the guarantors, each with the firm that it guarantees, in order.
     pub fn guarantors(&self) -> &[Guarantor]
         ensures { result.now ≡ self.now.guarantors }
     {
         self.guarantors.as_slice()
     }
 
-    /// Whether there is such a firm.
+    /// Returns whether there is such a firm.
     pub fn firm(&self, firm: FirmId) -> bool
         ensures { result ≡ is_firm self.now firm }
     {
         self.firms.contains(firm)
     }
 
-    /// Whether there is such a product group.
+    /// Returns whether there is such a product group.
     pub fn group(&self, group: Group) -> bool
         ensures { result ≡ is_group self.now group }
     {
         self.groups.contains(group)
     }
 
-    /// Whether there is such an instrument.
+    /// Returns whether there is such an instrument.
     pub fn is_instrument(&self, symbol: Symbol) -> bool
         ensures { result ≡ is_instrument self.now symbol }
     {
         self.instruments.contains(symbol)
     }
 
-    /// The instrument of this symbol, with its group.
+    /// Returns the instrument with this symbol and its group.
     pub fn instrument(&self, symbol: Symbol) -> Option<Instrument>
         ensures { result ≡ instrument_row self.now symbol }
     {
         self.instruments.get(symbol)
     }
 
-    /// The account of this name, with the firm that carries it.
+    /// Returns the account with this name and the firm that carries it.
     pub fn account(&self, account: AccountId) -> Option<Account>
         ensures { result ≡ account_row self.now account }
     {
         self.accounts.get(account)
     }
 
-    /// Whether there is such an account.
+    /// Returns whether there is such an account.
     pub fn is_account(&self, account: AccountId) -> bool
         ensures { result ≡ is_some (account_row self.now account) }
     {
         self.accounts.contains(account)
     }
 
-    /// Whether there is such an agreement.
+    /// Returns whether there is such an agreement.
     pub fn is_agreement(&self, id: AgreementId) -> bool
         ensures { result ≡ is_some (agreement_row self.now id) }
     {
         self.agreements.contains(id)
     }
 
-    /// The agreement of this name.
+    /// Returns the agreement with this name.
     pub fn agreement(&self, id: AgreementId) -> Option<Agreement>
         ensures { result ≡ agreement_row self.now id }
     {
         self.agreements.get(id)
     }
 
-    /// The agreement by which the executing firm gives trades up to the account.
+    /// Returns the agreement by which the executing firm gives trades up to the account.
     pub fn between(&self, executing: FirmId, account: AccountId) -> Option<AgreementId>
         ensures { result ≡ agreement_between self.now executing account }
     {
@@ -201,7 +200,7 @@ impl Reference {
             .map(|row| row.id)
     }
 
-    /// The agreement by which the firm gives trades up to the account, with the firm that carries the account.
+    /// Returns the agreement by which the firm gives trades up to the account, and the firm that carries the account.
     pub fn partner(&self, firm: FirmId, account: AccountId) -> Option<Partner>
         ensures { result ≡ partner_between self.now firm account }
     {
@@ -213,21 +212,21 @@ impl Reference {
         })
     }
 
-    /// The guarantor of a firm, where it has one.
+    /// Returns the guarantor of a firm, if it has one.
     pub fn guarantor(&self, firm: FirmId) -> Option<FirmId>
         ensures { result ≡ guarantor_of self.now firm }
     {
         self.guarantors.get(firm).map(|row| row.guarantor)
     }
 
-    /// Whether the firm is a guarantor of another.
+    /// Returns whether the firm guarantees another.
     pub fn guards(&self, firm: FirmId) -> bool
         ensures { result ≡ is_guarantor self.now firm }
     {
         self.guarantors.guards(firm)
     }
 
-    /// No rows.
+    /// Returns a reference with no rows.
     pub(crate) fn empty(alloc: Global) -> Self
         ensures { result ≡ record { firms = []; groups = []; instruments = []; accounts = []; agreements = []; guarantors = [] } }
     {
@@ -241,7 +240,7 @@ impl Reference {
         }
     }
 
-    /// How many rows there are.
+    /// Returns the number of rows.
     pub(crate) fn row_count(&self) -> u64
         ensures count { result ≡ row_count self.now }
         ensures few { result ≤ 32100 }
@@ -255,7 +254,7 @@ impl Reference {
         (firms + groups + instruments + accounts + agreements + guarantors) as u64
     }
 
-    /// Adds a row that has no fault after these.
+    /// Adds a row that has no fault.
     pub(crate) fn enter(&mut self, row: Row) -> Result<(), AllocError>
         requires { Passes self.old row }
         ensures { self.new ≡ (if is_ok result then with_row self.old row else self.old) }

@@ -23,7 +23,7 @@ const AGREEMENT: &[u8] = b"AGREEMENT";
 
 const GUARANTOR: &[u8] = b"GUARANTOR";
 
-/// A row of the file: what it declares.
+/// A row of the file.
 #[derive(Clone, Copy)]
 pub(crate) enum Row {
     Firm(FirmId),
@@ -36,7 +36,7 @@ pub(crate) enum Row {
 
 ghost use Rattle.gu_ref.specs.Rows.{name_in, row_of_one, row_of_two, row_of_three, row_of as row_said};
 
-/// The name in a field, if there is the field and it is a name.
+/// Returns the name in a field, if the field is present and is a name.
 fn name_in(field: Option<&[u8]>) -> Option<Name>
     ensures { result ≡ name_in (option_map (λ f. f.now) field.entry) }
 {
@@ -46,7 +46,7 @@ fn name_in(field: Option<&[u8]>) -> Option<Name>
     Name::new(bytes)
 }
 
-/// The row of a kind with one name.
+/// Returns the row of this kind with one name.
 fn one_name(kind: &[u8], name: Name) -> Option<Row>
     ensures { result ≡ row_of_one kind.now name }
 {
@@ -59,7 +59,7 @@ fn one_name(kind: &[u8], name: Name) -> Option<Row>
     None
 }
 
-/// The row of a kind with two names.
+/// Returns the row of this kind with two names.
 fn two_names(kind: &[u8], first: Name, second: Name) -> Option<Row>
     ensures { result ≡ row_of_two kind.now first second }
 {
@@ -84,7 +84,7 @@ fn two_names(kind: &[u8], first: Name, second: Name) -> Option<Row>
     None
 }
 
-/// The row of a kind with three names.
+/// Returns the row of this kind with three names.
 fn three_names(kind: &[u8], first: Name, second: Name, third: Name) -> Option<Row>
     ensures { result ≡ row_of_three kind.now first second third }
 {
@@ -98,7 +98,7 @@ fn three_names(kind: &[u8], first: Name, second: Name, third: Name) -> Option<Ro
     None
 }
 
-/// The row that a record says, if it says one.
+/// Returns the row in a record, if it is a valid one.
 pub(crate) fn row_of(fields: &ByteRecord) -> Option<Row>
     ensures { result ≡ row_said (fields_of fields.now) }
 {

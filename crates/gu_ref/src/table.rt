@@ -1,4 +1,4 @@
-//! Rows that are found by their names, in the order of the file.
+//! Tables of rows by name, in the order of the file.
 
 ghost use Rattle.std.specs.Prelude.{◌≡◌, ◌++◌, ◌∷◌, [], None, if◌then◌else◌, is_some};
 ghost use Rattle.std.specs.List.{find};
@@ -9,7 +9,7 @@ use std::alloc::{AllocError, Global};
 use std::hash::Hash;
 use std::marker::Model;
 
-/// What has a name, which no other row of its kind has.
+/// A row with a name that no other row of its kind has.
 pub(crate) trait Named: Copy {
     type Name: Copy + Eq + Hash;
 
@@ -19,7 +19,7 @@ pub(crate) trait Named: Copy {
         ensures { result ≡ name self.now };
 }
 
-/// Rows, each name once. To a contract it is the list of them.
+/// A table of rows, with each name once. To a contract it is their list.
 pub(crate) struct Table<R: Named> {
     rows: IndexMap<R::Name, R>,
 }
@@ -43,7 +43,7 @@ impl<R: Named> Model for Table<R> {
 }
 
 impl<R: Named> Table<R> {
-    /// No rows.
+    /// Returns an empty table.
     pub(crate) fn new(alloc: Global) -> Self
         ensures { result ≡ [] }
     {
@@ -52,21 +52,21 @@ impl<R: Named> Table<R> {
         }
     }
 
-    /// All of them, in order.
+    /// Returns all rows, in order.
     pub(crate) fn as_slice(&self) -> &[R]
         ensures { result.now ≡ self.now }
     {
         self.rows.values().as_slice()
     }
 
-    /// The row of this name.
+    /// Returns the row with this name.
     pub(crate) fn get(&self, name: R::Name) -> Option<R>
         ensures { result ≡ find (λ row. R.Name.eq (R.name row) name) self.now }
     {
         self.rows.get(&name).copied()
     }
 
-    /// Whether there is a row of this name.
+    /// Returns whether there is a row with this name.
     pub(crate) fn contains(&self, name: R::Name) -> bool
         ensures { result ≡ is_some (find (λ row. R.Name.eq (R.name row) name) self.now) }
     {

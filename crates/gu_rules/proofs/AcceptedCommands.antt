@@ -1,4 +1,4 @@
--- Accepted commands: their entries, and what is known of them by the tests that they passed.
+-- Accepted commands: their entries, and what follows from the tests that they passed.
 use Rattle.std.proofs.Common.{◌≡◌, Bool, true, false, List, [], ◌∷◌, refl, ◌<◌, length, sym, ◌∙◌, ℕ, Option, Some, None, ap, not, suc, slice_get}
 use Rattle.std.specs.Option.{option_and_then, option_map, option_map_or}
 use Rattle.gu_terms.proofs.SameNames.{same_firm-true, same_id-true}
@@ -30,13 +30,13 @@ use Rattle.gu_rules.specs.Legal.{IsAccepted, accepts}
 use Rattle.gu_rules.specs.Reports.{Fits, open_day, reports_of}
 use Rattle.gu_rules.proofs.Passing.{none_stands}
 
--- an accepted command did what it does where no test stands
+-- an accepted command has the effect that it has if no test holds
 pub accepted-done : (tests : List (Bool × Refusal)) (done given : Done) → first_standing tests done ≡ Accepted given → first_standing tests done ≡ Accepted done
 accepted-done [] done given e = refl
 accepted-done ((true, why) ∷ tests) done given e = cc
 accepted-done ((false, why) ∷ tests) done given e = accepted-done tests done given e
 
--- a reply that accepts did something, and any other refused
+-- a reply that accepts has an effect, and any other is a refusal
 did : (reply : Reply) → accepts reply ≡ true → (done : Done) × (reply ≡ Accepted done)
 did (Accepted done) e = (done, refl)
 did (Denied why) e = cc
@@ -83,7 +83,7 @@ pub not_not : (b : Bool) → not b ≡ false → b ≡ true
 not_not true e = refl
 not_not false e = cc
 
--- a report that is accepted fits those before it
+-- an accepted report fits those before it
 pub fits-in : (reference : Tables) (it : ReportSideOf) (day : Day) (history : List Entry) → open_day history ≡ Some day → IsAccepted reference history (ReportSide it)
     → Fits (reports_of history) (made_on day it)
 fits-in reference it day history opened is =

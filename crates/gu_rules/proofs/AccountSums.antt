@@ -1,4 +1,4 @@
--- What rows of positions have in all is what the accounts have.
+-- The total over the rows of positions is the total over the accounts.
 use Rattle.std.proofs.Common.{◌≡◌, ℕ, ◌&&◌, Bool, true, false, List, [], ◌∷◌, find, sum_by, is_some, refl, sym, ap, ◌∙◌, arith, if◌then◌else◌, inl, inr}
 use Rattle.std.proofs.lemmas.Bool.{cases_Bool}
 use Rattle.std.proofs.lemmas.List.Sums.{sum_by-cons}
@@ -15,17 +15,17 @@ use Rattle.gu_ref.specs.Listed.{account_in}
 use Rattle.gu_ref.specs.declared.accounts.Account.{Account}
 use Rattle.gu_positions.specs.Rows.{Row, is_of, same_row}
 
--- for whatever is counted of a row
+-- for any count over rows
 module _ (counted : Row → ℕ) where
-  -- what is counted of the row of an account and an instrument
+  -- the count for the row of an account and an instrument
   abbrev counted_in : List Row → AccountId → Symbol → ℕ
   counted_in rows account symbol = option_map_or counted (find (is_of account symbol) rows) 0
 
-  -- the same, of a row if it is that one
+  -- the count of a row if it is that one
   abbrev counted_at : AccountId → Symbol → Row → ℕ
   counted_at account symbol r = if is_of account symbol r then counted r else 0
 
-  -- after its row an account has no other
+  -- an account has no other row after its own
   nothing-more : (account : AccountId) (symbol : Symbol) (r : Row) (rows : List Row) → is_of account symbol r ≡ true → AllByRecursion (λ other. same_row r other ≡ false) rows
       → sum_by (counted_at account symbol) rows ≡ 0
   nothing-more account symbol r [] own apart = refl
@@ -38,7 +38,7 @@ module _ (counted : Row → ℕ) where
       let none : counted_at account symbol other ≡ 0 = rw (turned ∙ apart.0) refl in
       omega (arith, sum_by-cons (counted_at account symbol) other rows, none, nothing-more account symbol r rows own apart.1)
 
-  -- what is counted of all rows of an account and an instrument is what is counted of its row
+  -- the count over all rows of an account and an instrument is that of its row
   one-row : (rows : List Row) (account : AccountId) (symbol : Symbol) → IsDistinct same_row rows → sum_by (counted_at account symbol) rows ≡ counted_in rows account symbol
   one-row [] account symbol once = refl
   one-row (r ∷ rows) account symbol once =
@@ -53,7 +53,7 @@ module _ (counted : Row → ℕ) where
             omega (arith, sum_by-cons (counted_at account symbol) r rows, own, found, one-row rows account symbol (IsDistinct-tail same_row r rows once))
       ]
 
-  -- a row counts for its account alone
+  -- a row counts only for its account
   abbrev counts : Row → Symbol → ℕ
   counts r symbol = if same_symbol symbol r.symbol then counted r else 0
 
@@ -81,11 +81,11 @@ module _ (counted : Row → ℕ) where
             omega (arith, sum_by-cons (λ (o : Account). counted_at o.account symbol r) a accounts, own, one-account r symbol accounts (IsDistinct-tail (λ a b. same_account a.account b.account) a accounts once) later)
       ]
 
-  -- what is counted of an instrument's rows
+  -- the count over an instrument's rows
   abbrev counted_on : List Row → Symbol → ℕ
   counted_on rows symbol = sum_by (λ r. if same_symbol r.symbol symbol then counted r else 0) rows
 
-  -- what is counted of nothing is nothing
+  -- a row with count 0 counts 0 anywhere
   of-nothing : (b : Bool) (r : Row) → counted r ≡ 0 → (if b then counted r else 0) ≡ 0
   of-nothing true r none = none
   of-nothing false r none = refl
@@ -95,7 +95,7 @@ module _ (counted : Row → ℕ) where
   of-nobody r symbol (a ∷ accounts) none =
       omega (arith, sum_by-cons (λ (o : Account). counted_at o.account symbol r) a accounts, of-nothing (is_of a.account symbol r) r none, of-nobody r symbol accounts none)
 
-  -- a row counts for its account alone, and where its account is not among them, nothing is counted of it
+  -- a row counts only for its account, and counts 0 if its account isn't in the list
   abbrev pub IsOfThem : List Account → Row → Type 0
   IsOfThem accounts r = is_some (account_in accounts r.account) ≡ false → counted r ≡ 0
 
@@ -124,7 +124,7 @@ module _ (counted : Row → ℕ) where
         over-rows accounts rows symbol once known.1,
       )
 
-  -- what is counted of all rows of an instrument is what is counted of each account's
+  -- the count over all rows of an instrument is the sum over the accounts
   pub over-accounts : (accounts : List Account) (rows : List Row) (symbol : Symbol) → IsDistinct (λ a b. same_account a.account b.account) accounts → IsDistinct same_row rows
       → AllByRecursion (IsOfThem accounts) rows
       → counted_on rows symbol ≡ sum_by (λ (a : Account). counted_in rows a.account symbol) accounts

@@ -1,4 +1,4 @@
--- The path of each agreement of a reference, and what it goes through.
+-- The path of each agreement of a reference, and the keys on it.
 use Rattle.std.proofs.Common.{◌≡◌, ◌&&◌, Bool, true, false, not, is_none, List, [], ◌∷◌, Option, Some, None, is_some, unwrap_or, subst, refl, sym, ap, ◌∙◌, inl, inr}
 use Rattle.std.specs.List.{AllByRecursion, IsDistinct, find}
 use Rattle.std.specs.Option.{option_and_then, option_map}
@@ -30,7 +30,7 @@ use Rattle.gu_rules.specs.Limits.{path_after}
 use Rattle.gu_rules.proofs.Facts.{some-is}
 use Rattle.gu_rules.proofs.KnownOnes.{all-found}
 
--- the accounts of all agreements are there
+-- the accounts of all agreements are in the reference
 accounts_there : (reference : Tables) → IsSound reference → AllByRecursion (λ (a : Agreement). is_some (account_row reference a.account) ≡ true) reference.agreements
 accounts_there reference sound =
     let known : Agreement → Bool = λ a. is_firm reference a.executing && is_some (account_row reference a.account) in
@@ -74,7 +74,7 @@ path-there reference sound firm account id between = by (agreement_for reference
         let carried = some-is (account_row reference row.0.account) (all-found (λ (b : Agreement). is_some (account_row reference b.account) ≡ true) (λ (b : Agreement). same_agreement b.id id) reference.agreements row.0 (accounts_there reference sound) row.1) in
         (path_through row.0.executing id row.0.account carried.0.firm (guarantor_of reference carried.0.firm), path_made reference id row.0 carried.0 row.1 carried.1)
 
--- what a path goes through: an account is carried by one firm, and a firm has one guarantor or none
+-- the keys on a path: an account is carried by one firm, and a firm has at most one guarantor
 pub record GoesThrough (reference : Tables) (id : AgreementId) (path : List LimitKey) : Type 0 where
   pub executing : FirmId
   pub account : AccountId
@@ -113,7 +113,7 @@ path_after-once reference offer = by (agreement_between reference offer.firm off
             let goes = goes_through reference id path e in
             subst (IsDistinct key_eq) (sym goes.is) (kinds_differ goes.executing id goes.account goes.carried.firm (guarantor_of reference goes.carried.firm))
 
--- where a firm has an agreement for each line, the account of each is there
+-- if a firm has an agreement for each line, the account of each is in the reference
 pub accounts-known : (reference : Tables) → IsSound reference → (firm : FirmId) (lines : List Line) → lacks_agreement reference firm lines ≡ false → has_unknown_account reference lines ≡ false
 accounts-known reference sound firm [] none = refl
 accounts-known reference sound firm (line ∷ lines) none = by (agreement_between reference firm line.account) refl (accounts-known reference sound firm lines)

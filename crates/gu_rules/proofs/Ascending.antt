@@ -1,4 +1,4 @@
--- The refusals of a command are tested in the order of their numbers, so that the least one is given.
+-- The refusals of a command are tested in the order of their numbers, so the least one is given.
 use Rattle.std.proofs.Common.{◌≡◌, ℕ, ◌<◌, ◌≤◌, Bool, true, false, List, [], ◌∷◌, AllPairs, get_or, length, slice_get, zero, suc, Option, Some, None, ap, subst, arith}
 use Rattle.std.specs.Option.{option_map_or}
 use Rattle.gu_terms.specs.Refusals.{number_of}
@@ -22,12 +22,12 @@ use Rattle.gu_rules.specs.Limits.{path_after}
 abbrev number : Bool × Refusal → ℕ
 number test = number_of test.1
 
--- from this number on, numbers don't fall
+-- from this number on, numbers don't decrease
 abbrev Climbs : ℕ → List (Bool × Refusal) → Type 0
 Climbs low [] = Unit
 Climbs low (test ∷ tests) = (low ≤ number test) × Climbs (number test) tests
 
--- the keys of a path have one number
+-- the tests for the keys of a path have the same number
 climbs-rooms : (room : LimitKey → ℕ) (lots low : ℕ) (path : List LimitKey) → low ≤ 15 → Climbs low (room_tests room lots path)
 climbs-rooms room lots low [] few = tt
 climbs-rooms room lots low (key ∷ keys) few = (few, climbs-rooms room lots 15 keys (omega arith))
@@ -48,7 +48,7 @@ climbs-lines : (reference : Tables) (state : State) (lines : List Line) (given :
 climbs-lines reference state lines None = tt
 climbs-lines reference state lines (Some given) = (omega arith, (omega arith, (omega arith, (omega arith, tt))))
 
--- the numbers of a command's tests don't fall
+-- the numbers of a command's tests don't decrease
 tests_climb : (reference : Tables) (state : State) (command : Command) → Climbs 0 (tests_of reference state command)
 tests_climb reference state (OpenDay it) = (omega arith, tt)
 tests_climb reference state (SetLimit it) = (omega arith, (omega arith, tt))
@@ -61,13 +61,13 @@ tests_climb reference state (Claim it) =
 tests_climb reference state (Refuse it) = (omega arith, (omega arith, (omega arith, (omega arith, tt))))
 tests_climb reference state (Reverse it) = (omega arith, (omega arith, (omega arith, (omega arith, (omega arith, tt)))))
 
--- after a number all are at least as great
+-- all numbers after one are at least as great
 above : (low : ℕ) (tests : List (Bool × Refusal)) → Climbs low tests → (place : ℕ) (d : Bool × Refusal) → place < length tests → low ≤ number (get_or tests place d)
 above low [] up place d within = absurd (omega arith)
 above low (test ∷ tests) up zero d within = up.0
 above low (test ∷ tests) up (suc place) d within = omega (arith, up.0, above (number test) tests up.1 place d (omega arith))
 
--- numbers that don't fall ascend in pairs
+-- numbers that don't decrease ascend in pairs
 pairs : (low : ℕ) (tests : List (Bool × Refusal)) → Climbs low tests → AllPairs (λ a b. number a ≤ number b) tests
 pairs low [] up i j d less within = absurd (omega arith)
 pairs low (test ∷ tests) up i zero d less within = absurd (omega arith)
@@ -86,7 +86,7 @@ at_least low (first ∷ tests) up zero test at =
     subst (λ (t : Bool × Refusal). low ≤ number t) same up.0
 at_least low (first ∷ tests) up (suc place) test at = omega (arith, up.0, at_least (number first) tests up.1 place test at)
 
--- of the refusals that stand, the first has the least number
+-- among the refusals whose conditions hold, the first has the least number
 least : (low : ℕ) (tests : List (Bool × Refusal)) (done : Done) (given other : Refusal) (place : ℕ) → Climbs low tests
     → first_standing tests done ≡ Denied given → slice_get tests place ≡ Some (true, other) → number_of given ≤ number_of other
 least low [] done given other place up is at = cc
@@ -98,7 +98,7 @@ least low ((false, first) ∷ tests) done given other zero up is at =
     let no : false ≡ true = ap (λ (found : Option (Bool × Refusal)). option_map_or (λ test. test.0) found false) at in cc
 least low ((false, first) ∷ tests) done given other (suc place) up is at = least (number_of first) tests done given other place up.1 is at
 
--- the refusal that is given has the least number of those that stand
+-- the refusal given has the least number among those whose conditions hold
 pub least_given : (reference : Tables) (state : State) (command : Command) (given other : Refusal) (place : ℕ)
     → answer_in reference state command ≡ Denied given → slice_get (tests_of reference state command) place ≡ Some (true, other) → number_of given ≤ number_of other
 least_given reference state command given other place is at =

@@ -1,4 +1,4 @@
--- What was taken of offers and given back, one entry on.
+-- Lots taken from offers and given back, after one more entry.
 use Rattle.std.proofs.Common.{◌≡◌, ℕ, ◌+◌, ◌-◌, ◌<◌, ◌≤◌, false, List, [], ◌∷◌, ◌++◌, length, sum_by, Some, None, refl, ap, ◌∙◌, arith, length-append}
 use Rattle.std.proofs.lemmas.List.Sums.{sum_by_push}
 use Rattle.gu_terms.specs.declared.day.Day.{Day}
@@ -38,7 +38,7 @@ balanced-opened history entry day opens idle balanced = record {
       omega (arith, today);
 }
 
--- an entry that speaks of no offer beyond those that there are
+-- an entry that involves no offer beyond those that exist
 pub named-push : (history : List Entry) (entry : Entry) → opened_day entry ≡ None → IsNamed history
     → ((n : ℕ) → length (offers_of history) < n → taken_by n entry ≡ 0) → ((n : ℕ) → length (offers_of history) < n → closes n entry ≡ false)
     → IsNamed (history ++ entry ∷ [])

@@ -1,4 +1,4 @@
--- What becomes of positions when one offer changes.
+-- Positions after one offer changes.
 use Rattle.std.proofs.Common.{◌≡◌, ℕ, ◌+◌, ◌-◌, ◌≤◌, ◌&&◌, Bool, true, false, List, [], ◌∷◌, map, sum_by, Some, refl, arith, if◌then◌else◌}
 use Rattle.std.proofs.lemmas.List.Sums.{sum_by-cons}
 use Rattle.gu_terms.specs.Same.{same_account, same_side, same_symbol}
@@ -17,7 +17,7 @@ use Rattle.gu_rules.specs.Orderly.{AreWithin, IsCovered}
 use Rattle.gu_rules.specs.Positions.{held_in, is_from, is_on, moved_into, moved_out, report_after}
 use Rattle.gu_rules.proofs.ChangedSums.{moved_out-le-traded, sum-changed, sum-with_lines, either-nothing}
 
--- lots on a side of an instrument, in whatever order the three are asked
+-- lots on a side of an instrument, with the three tests in either order
 turned : (p s a : Bool) (n : ℕ) → (if (p && s) && a then n else 0) ≡ (if p && (a && s) then n else 0)
 turned true true true n = refl
 turned true true false n = refl
@@ -25,12 +25,12 @@ turned true false true n = refl
 turned true false false n = refl
 turned false s a n = refl
 
--- so many more, where a test is passed
+-- more lots, if a test passes
 more : (b : Bool) (m n : ℕ) → (if b then m + n else 0) ≡ (if b then m else 0) + (if b then n else 0)
 more true m n = refl
 more false m n = refl
 
--- so many fewer
+-- fewer lots, if a test passes
 fewer : (b : Bool) (m n : ℕ) → n ≤ m → (if b then m - n else 0) + (if b then n else 0) ≡ (if b then m else 0)
 fewer true m n h = omega (arith, h)
 fewer false m n h = refl
@@ -42,11 +42,11 @@ module _ (reports : List Report) (rows : List Row) (n : ℕ) (row : Row) (at : r
   abbrev out_of_it : Row → Bool
   out_of_it r = is_on reports side symbol r && is_from reports account r
 
-  -- lots taken of an offer are moved in
+  -- lots taken from an offer are moved in
   into-taken : (lots : ℕ) → moved_into reports (changed rows n (taken lots)) side account symbol ≡ moved_into reports rows side account symbol + (if into_it row then lots else 0)
   into-taken lots = omega (arith, sum-changed (λ (r : Row). if into_it r then r.moved else 0) rows n row (taken lots) at, more (into_it row) row.moved lots)
 
-  -- and out
+  -- and moved out
   out-taken : (lots : ℕ) → moved_out reports (changed rows n (taken lots)) side account symbol ≡ moved_out reports rows side account symbol + (if out_of_it row then lots else 0)
   out-taken lots = omega (arith, sum-changed (λ (r : Row). if out_of_it r then r.moved else 0) rows n row (taken lots) at, more (out_of_it row) row.moved lots)
 
@@ -54,7 +54,7 @@ module _ (reports : List Report) (rows : List Row) (n : ℕ) (row : Row) (at : r
   into-reversed : row.today ≤ row.moved → moved_into reports (changed rows n reversed) side account symbol + (if into_it row then row.today else 0) ≡ moved_into reports rows side account symbol
   into-reversed within = omega (arith, sum-changed (λ (r : Row). if into_it r then r.moved else 0) rows n row reversed at, fewer (into_it row) row.moved row.today within)
 
-  -- and out
+  -- and moved out
   out-reversed : row.today ≤ row.moved → moved_out reports (changed rows n reversed) side account symbol + (if out_of_it row then row.today else 0) ≡ moved_out reports rows side account symbol
   out-reversed within = omega (arith, sum-changed (λ (r : Row). if out_of_it r then r.moved else 0) rows n row reversed at, fewer (out_of_it row) row.moved row.today within)
 
@@ -62,11 +62,11 @@ module _ (reports : List Report) (rows : List Row) (n : ℕ) (row : Row) (at : r
   into-at : (r : Report) (lots : ℕ) → report_after reports row ≡ Some r → (if into_it row then lots else 0) ≡ lots_at r.side row.offer.account r.symbol lots side account symbol
   into-at r lots behind = rw behind (turned (same_side r.side side) (same_symbol r.symbol symbol) (same_account row.offer.account account) lots)
 
-  -- and the one that they come from
+  -- the account that the lots come from
   out-at : (r : Report) (lots : ℕ) → report_after reports row ≡ Some r → (if out_of_it row then lots else 0) ≡ lots_at r.side r.account r.symbol lots side account symbol
   out-at r lots behind = rw behind (turned (same_side r.side side) (same_symbol r.symbol symbol) (same_account r.account account) lots)
 
-  -- where lots are taken of an offer, they leave the account of its report and come to its own
+  -- when lots are taken from an offer, they leave the account of its report for its own
   pub held_in-taken : (r : Report) (lots : ℕ) → report_after reports row ≡ Some r → IsCovered reports (changed rows n (taken lots)) → AreWithin (changed rows n (taken lots))
       → held_in reports (changed rows n (taken lots)) side account symbol
       ≡ held_in reports rows side account symbol - lots_at r.side r.account r.symbol lots side account symbol + lots_at r.side row.offer.account r.symbol lots side account symbol
@@ -80,13 +80,13 @@ module _ (reports : List Report) (rows : List Row) (n : ℕ) (row : Row) (at : r
         moved_out-le-traded reports (changed rows n (taken lots)) side account symbol covered within,
       )
 
-  -- which has them
+  -- that account has them
   pub held_in-has : (r : Report) (lots : ℕ) → report_after reports row ≡ Some r → IsCovered reports (changed rows n (taken lots)) → AreWithin (changed rows n (taken lots))
       → lots_at r.side r.account r.symbol lots side account symbol ≤ held_in reports rows side account symbol
   held_in-has r lots behind covered within =
       omega (arith, out-taken lots, out-at r lots behind, moved_out-le-traded reports (changed rows n (taken lots)) side account symbol covered within)
 
-  -- where they are taken back, they leave its own account and come to that of its report
+  -- when they are taken back, they leave its own account for that of its report
   pub held_in-reversed : (r : Report) → report_after reports row ≡ Some r → IsCovered reports rows → AreWithin rows → row.today ≤ row.moved
       → held_in reports (changed rows n reversed) side account symbol
       ≡ held_in reports rows side account symbol - lots_at r.side row.offer.account r.symbol row.today side account symbol + lots_at r.side r.account r.symbol row.today side account symbol
@@ -100,13 +100,13 @@ module _ (reports : List Report) (rows : List Row) (n : ℕ) (row : Row) (at : r
         moved_out-le-traded reports rows side account symbol covered within,
       )
 
-  -- which has them
+  -- that account has them
   pub held_in-moved : (r : Report) → report_after reports row ≡ Some r → IsCovered reports rows → AreWithin rows → row.today ≤ row.moved
       → lots_at r.side row.offer.account r.symbol row.today side account symbol ≤ held_in reports rows side account symbol
   held_in-moved r behind covered within moved =
       omega (arith, into-reversed moved, into-at r row.today behind, moved_out-le-traded reports rows side account symbol covered within)
 
-  -- an offer that is closed stays moved
+  -- closing an offer moves nothing
   pub held_in-closed : held_in reports (changed rows n closed) side account symbol ≡ held_in reports rows side account symbol
   held_in-closed =
       omega (
@@ -132,7 +132,7 @@ sum-next_day f [] same = refl
 sum-next_day f (row ∷ rows) same =
     omega (arith, sum_by-cons f (next_day row) (map next_day rows), sum_by-cons f row rows, same row, sum-next_day f rows same)
 
--- a day that is opened moves nothing
+-- opening a day moves nothing
 pub held_in-next_day : (reports : List Report) (rows : List Row) (side : Side) (account : AccountId) (symbol : Symbol)
     → held_in reports (map next_day rows) side account symbol ≡ held_in reports rows side account symbol
 held_in-next_day reports rows side account symbol =

@@ -1,4 +1,4 @@
--- What becomes of uses and positions when one offer changes.
+-- Uses and positions after one offer changes.
 use Rattle.std.proofs.Common.{◌≡◌, ℕ, zero, suc, ◌+◌, ◌≤◌, ◌&&◌, Bool, true, false, List, [], ◌∷◌, map, sum_by, get_or, Some, refl, ap, arith, if◌then◌else◌}
 use Rattle.std.specs.Prelude.{slice_set}
 use Rattle.std.proofs.lemmas.Option.{get_or_from_slice_get, slice_get_within}
@@ -22,7 +22,7 @@ use Rattle.gu_rules.specs.Orderly.{AreWithin, IsCovered}
 use Rattle.gu_rules.specs.Positions.{is_from, is_on, moved_out, traded}
 use Rattle.gu_rules.proofs.Holding.{given_up_by, given_up-le-traded}
 
--- a sum over offers of which one is changed
+-- a sum over offers after one is changed
 pub sum-changed : (f : Row → ℕ) (rows : List Row) (n : ℕ) (row : Row) (change : Row → Row) → row_at rows n ≡ Some row
     → sum_by f (changed rows n change) + f row ≡ sum_by f rows + f (change row)
 sum-changed f rows zero row change at = cc
@@ -32,7 +32,7 @@ sum-changed f rows (suc place) row change at =
     let set : sum_by f (changed rows (suc place) change) ≡ sum_by f (slice_set rows place (change row)) = rw at refl in
     omega (arith, set, sum_by-set f rows place (change row) row within, ap f here)
 
--- a sum over offers after which those of lines come, of which each adds nothing
+-- a sum over offers followed by new ones, each of which adds nothing
 pub sum-with_lines : (f : Row → ℕ) (rows : List Row) (firm : FirmId) (report : Id) (group : Group) (lines : List Line)
     → ((line : Line) → f (offered firm report group line) ≡ 0) → sum_by f (with_lines rows firm report group lines) ≡ sum_by f rows
 sum-with_lines f rows firm report group lines nothing =
@@ -48,7 +48,7 @@ either-nothing false = refl
 
 -- ---- uses
 
--- lots that were taken of an offer count under the keys of its path
+-- lots taken from an offer count under the keys of its path
 pub use_in-taken : (reference : Tables) (rows : List Row) (n : ℕ) (row : Row) (lots : ℕ) → row_at rows n ≡ Some row → (group : Group) (key : LimitKey)
     → use_in reference (changed rows n (taken lots)) group key ≡ use_in reference rows group key + lots_under row.offer.group (path_after reference row.offer) lots group key
 use_in-taken reference rows n row lots at group key =
@@ -58,13 +58,13 @@ use_in-taken reference rows n row lots at group key =
     more true today lots = refl
     more false today lots = refl
 
--- lots that were moved today and go back count no longer
+-- lots moved today that go back no longer count
 pub use_in-reversed : (reference : Tables) (rows : List Row) (n : ℕ) (row : Row) → row_at rows n ≡ Some row → (group : Group) (key : LimitKey)
     → use_in reference (changed rows n reversed) group key + lots_under row.offer.group (path_after reference row.offer) row.today group key ≡ use_in reference rows group key
 use_in-reversed reference rows n row at group key =
     omega (arith, sum-changed (λ (r : Row). if is_under reference group key r then r.today else 0) rows n row reversed at, either-nothing (is_under reference group key row))
 
--- an offer that is closed counts as it did
+-- a closed offer counts as before
 pub use_in-closed : (reference : Tables) (rows : List Row) (n : ℕ) (row : Row) → row_at rows n ≡ Some row → (group : Group) (key : LimitKey)
     → use_in reference (changed rows n closed) group key ≡ use_in reference rows group key
 use_in-closed reference rows n row at group key =
@@ -77,7 +77,7 @@ use_in-with_lines reference rows firm report at lines group key =
     sum-with_lines (λ (r : Row). if is_under reference group key r then r.today else 0) rows firm report at lines
     (λ line. either-nothing (is_under reference group key (offered firm report at line)))
 
--- nothing counts as a day is opened
+-- nothing counts when a day is opened
 pub use_in-next_day : (reference : Tables) (rows : List Row) (group : Group) (key : LimitKey) → use_in reference (map next_day rows) group key ≡ 0
 use_in-next_day reference [] group key = refl
 use_in-next_day reference (row ∷ rows) group key =
@@ -88,7 +88,7 @@ use_in-next_day reference (row ∷ rows) group key =
       use_in-next_day reference rows group key,
     )
 
--- what one offer counts is within the use
+-- what one offer counts is at most the use
 pub today-le-use_in : (reference : Tables) (rows : List Row) (n : ℕ) (row : Row) → row_at rows n ≡ Some row → (group : Group) (key : LimitKey)
     → is_under reference group key row ≡ true → row.today ≤ use_in reference rows group key
 today-le-use_in reference rows n row at group key under =
@@ -104,7 +104,7 @@ moved-le-counted r within = by r.is_shut r.moved r.offer.lots within
     by true m n h = omega arith
     by false m n h = h
 
--- what was moved out of an account is never more than what it traded
+-- the lots moved out of an account are at most those it traded
 pub moved_out-le-traded : (reports : List Report) (rows : List Row) (side : Side) (account : AccountId) (symbol : Symbol) → IsCovered reports rows → AreWithin rows
     → moved_out reports rows side account symbol ≤ traded reports side account symbol
 moved_out-le-traded reports rows side account symbol covered within =

@@ -1,4 +1,4 @@
--- What an entry makes of the use of a key: where it grows, it stays within the limit.
+-- The use of a key after an entry: if it grows, it stays within the limit.
 use Rattle.std.proofs.Common.{◌≡◌, ℕ, zero, suc, ◌+◌, ◌-◌, ◌<◌, ◌≤◌, ◌++◌, ◌&&◌, true, List, [], ◌∷◌, length, sum_by, Option, refl, sym, ap, ◌∙◌, arith, append-nil, append_assoc, inl, inr, subst, unwrap_or}
 use Rattle.std.proofs.lemmas.Bool.{cases_Bool}
 use Rattle.std.proofs.lemmas.List.Sums.{sum_by-cons}
@@ -49,29 +49,29 @@ use Rattle.gu_rules.proofs.SweptOffers.{all-left}
 use Rattle.gu_rules.proofs.SweptRooms.{all-used, none-used, under-room, used_by}
 use Rattle.gu_rules.proofs.Takers.{claim-takes, claimed, sweep-takes, takes-others, takes-own}
 
--- where the use of a key grows with an entry, it is within the limit
+-- if the use of a key grows with an entry, it is within the limit
 abbrev pub StaysWithin : Tables → List Entry → Entry → Group → LimitKey → Type 0
 StaysWithin reference history entry group key =
     use_of reference history group key < use_of reference (history ++ entry ∷ []) group key
     → use_of reference (history ++ entry ∷ []) group key ≤ limit_of (history ++ entry ∷ []) group key
 
 module _ (reference : Tables) (history : List Entry) (group : Group) (key : LimitKey) where
-  -- an entry that leaves the offers leaves the use
+  -- an entry that leaves the offers unchanged leaves the use unchanged
   still : (entry : Entry) → standing_of (history ++ entry ∷ []) ≡ standing_of history → StaysWithin reference history entry group key
   still entry same grows = absurd (omega (arith, grows, ap (λ (rs : List Row). use_in reference rs group key) same))
 
-  -- so does one that makes no use greater
+  -- so does one that increases no use
   lower : (entry : Entry) (rows : List Row) → standing_of (history ++ entry ∷ []) ≡ rows → use_in reference rows group key ≤ use_of reference history group key → StaysWithin reference history entry group key
   lower entry rows are less grows = absurd (omega (arith, grows, less, ap (λ (rs : List Row). use_in reference rs group key) are))
 
-  -- and lots for which there is room may be added
+  -- lots for which there is room may be added
   higher : (entry : Entry) (lots : ℕ) → use_of reference (history ++ entry ∷ []) group key ≡ use_of reference history group key + lots → lots ≤ room_of reference history group key
       → limit_set (history ++ entry ∷ []) group key ≡ limit_set history group key → StaysWithin reference history entry group key
   higher entry lots more fits same grows =
       let limit : limit_of (history ++ entry ∷ []) group key ≡ limit_of history group key = ap (λ (set : Option ℕ). unwrap_or set 0) same in
       omega (arith, more, fits, limit, grows)
 
--- what holds of each key by its place holds of one that is among them
+-- a property of each key by index is one of a key in the list
 keyed-at : (P : LimitKey → Type 0) (keys : List LimitKey) (key : LimitKey) → has_key keys key ≡ true → ((k : ℕ) (d : LimitKey) → k < length keys → P (slice_index_or keys k d)) → P key
 keyed-at P [] key has each = cc
 keyed-at P (first ∷ keys) key has each =
@@ -124,7 +124,7 @@ module _ (reference : Tables) (history : List Entry) (group : Group) (key : Limi
       (lower reference history group key entry _ (standing_of-lines history entry it.firm it.report at it.lines refl idle refl o.balanced o.named)
       (omega (arith, use_in-with_lines reference (standing_of history) it.firm it.report at it.lines group key)))
 
-  -- any command that is accepted
+  -- any accepted command
   accepted : (command : Command) → IsAccepted reference history command → StaysWithin reference history (accepted_entry reference history command) group key
   accepted (OpenDay it) is =
       lower reference history group key (opening it.day) _ (standing_of-opened history (opening it.day) it.day refl refl (record { takes = λ n. refl; gives = λ n. refl; closed = λ n. refl }) o.balanced)
@@ -150,11 +150,11 @@ module _ (reference : Tables) (history : List Entry) (group : Group) (key : Limi
 -- ---- sweeps
 
 module _ (reference : Tables) (sweep : SweepEntry) (group : Group) (key : LimitKey) where
-  -- the lots that takes use, of these offers
+  -- the lots that takes use, given these offers
   abbrev used : List Row → List Take → ℕ
   used rows takes = sum_by (used_by reference rows sweep.group (offers_shown reference [] sweep.group) group key) takes
 
-  -- takes of later offers use what they did
+  -- takes from later offers use the same as before
   used-later : (rows : List Row) (n lots : ℕ) (takes : List Take) → AllByRecursion (λ (t : Take). n < t.offer) takes → used (changed rows n (taken lots)) takes ≡ used rows takes
   used-later rows n lots [] later = refl
   used-later rows n lots (take ∷ takes) later =
@@ -169,7 +169,7 @@ module _ (reference : Tables) (sweep : SweepEntry) (group : Group) (key : LimitK
         used-later rows n lots takes later.1,
       )
 
-  -- takes, one after another, add to the use what they use
+  -- takes, one after another, add their lots to the use
   all-charged : (takes : List Take) (history : List Entry) → IsOrdered reference history → Later (λ (a b : Take). a.offer < b.offer) takes → AllByRecursion (IsLeft (standing_of history)) takes
       → use_of reference (history ++ parts sweep takes) group key ≡ use_of reference history group key + used (standing_of history) takes
   all-charged [] history ordered later left = ap (λ (h : List Entry). use_of reference h group key) (append-nil history) ∙ omega arith

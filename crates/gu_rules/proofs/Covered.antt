@@ -1,4 +1,4 @@
--- Of no report more is given up than it traded, one entry on.
+-- No more of a report is given up than it traded, after one more entry.
 use Rattle.std.proofs.Common.{◌≡◌, ℕ, zero, ◌+◌, ◌-◌, ◌≤◌, ◌&&◌, Bool, true, false, List, [], ◌∷◌, map, sum_by, Some, refl, sym, ap, ◌∙◌, arith, if◌then◌else◌, inl, inr, subst}
 use Rattle.std.proofs.lemmas.Bool.{cases_Bool}
 use Rattle.std.proofs.lemmas.List.Sums.{sum_by-append, sum_by-cons}
@@ -20,7 +20,7 @@ use Rattle.gu_offers.specs.Rows.{Row, counted_of, counted_under, is_of_report, r
 use Rattle.gu_rules.specs.Orderly.{AreOwn, IsCovered, lots_traded}
 use Rattle.gu_rules.proofs.ChangedSums.{sum-changed}
 
--- what one offer holds of a report
+-- the lots of a report that one offer holds
 abbrev held : FirmId → Id → Row → ℕ
 held firm id r = if is_of_report firm id r then counted_of r else 0
 
@@ -28,7 +28,7 @@ less-where : (b : Bool) (m n : ℕ) → m ≤ n → (if b then m else 0) ≤ (if
 less-where true m n h = h
 less-where false m n h = omega arith
 
--- where one offer comes to hold no more, of no report more is given up
+-- if one offer comes to hold no more, no more of any report is given up
 pub covered-changed : (reports : List Report) (rows : List Row) (n : ℕ) (row : Row) (change : Row → Row) → row_at rows n ≡ Some row → (change row).offer ≡ row.offer
     → counted_of (change row) ≤ counted_of row → IsCovered reports rows → IsCovered reports (changed rows n change)
 covered-changed reports rows n row change at same less covered =
@@ -41,7 +41,7 @@ covered-changed reports rows n row change at same less covered =
     omega (arith, sums, fewer, h))
     covered
 
--- taking lots of an offer that isn't closed, closing one, and taking lots back
+-- taking lots from an offer that isn't closed, closing one, and taking lots back
 pub covered-taken : (reports : List Report) (rows : List Row) (n : ℕ) (row : Row) (lots : ℕ) → row_at rows n ≡ Some row → row.is_shut ≡ false → IsCovered reports rows
     → IsCovered reports (changed rows n (taken lots))
 covered-taken reports rows n row lots at stands covered =
@@ -69,7 +69,7 @@ covered-reversed reports rows n row at within covered =
     by true m today most h = omega arith
     by false m today most h = omega (arith, h)
 
--- a day that is opened
+-- opening a day
 pub covered-next_day : (reports : List Report) (rows : List Row) → IsCovered reports rows → IsCovered reports (map next_day rows)
 covered-next_day reports rows covered =
     along (λ (q : Report). counted_under rows q.firm q.id ≤ lots_traded reports q) (λ q. counted_under (map next_day rows) q.firm q.id ≤ lots_traded reports q) reports
@@ -79,7 +79,7 @@ covered-next_day reports rows covered =
     same firm id [] = refl
     same firm id (row ∷ rows) = omega (arith, sum_by-cons (held firm id) (next_day row) (map next_day rows), sum_by-cons (held firm id) row rows, same firm id rows)
 
--- what new offers hold of a report: all lines, or none
+-- the lots of a report that new offers hold: all lines, or none
 lines-held : (firm : FirmId) (id : Id) (by : FirmId) (own : Id) (group : Group) (lines : List Line)
     → sum_by (held firm id) (map (offered by own group) lines) ≡ (if same_firm by firm && same_id own id then lots_in_all lines else 0)
 lines-held firm id by own group [] = sym (nothing (same_firm by firm && same_id own id))

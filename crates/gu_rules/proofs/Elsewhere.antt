@@ -1,4 +1,4 @@
--- An entry that touches no offer and no limit of a group leaves its view.
+-- An entry that touches no offer and no limit of a group leaves its view unchanged.
 use Rattle.std.proofs.Common.{◌≡◌, ℕ, zero, suc, ◌+◌, ◌-◌, ◌==◌, ◌&&◌, ◌||◌, Bool, true, false, List, [], ◌∷◌, ◌++◌, length, map, Option, Some, None, unwrap_or, refl, sym, ap, ◌∙◌, arith, append_assoc, append-nil, if◌then◌else◌, subst, inl, inr}
 use Rattle.std.specs.Prelude.{IsTrue, slice_get}
 use Rattle.std.specs.List.{AllByRecursion, cons_option, filter_map, find}
@@ -41,13 +41,13 @@ use Rattle.gu_rules.proofs.Growing.{last-kept}
 use Rattle.gu_rules.proofs.StandingLemmas.{either-false, is_shut-push, offers_of-push}
 use Rattle.gu_rules.proofs.Today.{entries_today-kept}
 
--- an entry takes nothing of the offer of a number, gives nothing back to it and doesn't close it
+-- an entry takes nothing from the offer with a number, gives nothing back to it and doesn't close it
 pub record IsSpared (entry : Entry) (n : ℕ) : Type 0 where
   pub takes : taken_by n entry ≡ 0
   pub gives : given_back_by n entry ≡ 0
   pub closed : closes n entry ≡ false
 
--- such an offer stands as it stood
+-- such an offer is unchanged
 standing-spared : (history : List Entry) (entry : Entry) (n : ℕ) (offer : Offer) → opened_day entry ≡ None → IsSpared entry n
     → standing (history ++ entry ∷ []) n offer ≡ standing history n offer
 standing-spared history entry n offer none spared =
@@ -60,19 +60,19 @@ standing-spared history entry n offer none spared =
     λ i. record { offer = offer; moved = moved i; today = today i; is_shut = shut i }
 
 module _ (group : Group) where
-  -- rows of which those of the group are the same, with more of other groups after them
+  -- rows in which those of the group are the same, followed by more of other groups
   abbrev pub Alike : List Row → List Row → Type 0
   Alike [] [] = Unit {0}
   Alike [] (more ∷ others) = (same_group more.offer.group group ≡ false) × Alike [] others
   Alike (old ∷ rows) [] = ⊥
   Alike (old ∷ rows) (new ∷ others) = ((same_group old.offer.group group ≡ true → new ≡ old) × (new.offer ≡ old.offer)) × Alike rows others
 
-  -- the offers of the group among these, of which the first has this number, are spared
+  -- the offers of the group among these, the first of which has this number, are spared
   abbrev AreSpared : Entry → ℕ → List Offer → Type 0
   AreSpared entry m [] = Unit {0}
   AreSpared entry m (offer ∷ offers) = (same_group offer.group group ≡ true → IsSpared entry m) × AreSpared entry (m + 1) offers
 
-  -- offers that stand, and those of one more entry after them
+  -- the offers as they are now, and those of one more entry after them
   alike-standing : (history : List Entry) (entry : Entry) (m : ℕ) (offers made : List Offer) → opened_day entry ≡ None → AreSpared entry m offers
       → AllByRecursion (λ (o : Offer). same_group o.group group ≡ false) made → Alike (standing_from history m offers) (standing_from (history ++ entry ∷ []) m (offers ++ made))
   alike-standing history entry m [] [] none spared others = tt
@@ -82,7 +82,7 @@ module _ (group : Group) where
 
   -- ---- the open offers
 
-  -- a product group's open offers among these rows, of which the first has this number
+  -- a product group's open offers among these rows, the first of which has this number
   abbrev open_from : ℕ → List Row → List OpenOffer
   open_from m [] = []
   open_from m (row ∷ rows) = if is_open_in group row then record { number = m; offer = row.offer; left = left_of row } ∷ open_from (m + 1) rows else open_from (m + 1) rows
@@ -167,7 +167,7 @@ module _ (group : Group) where
 
 -- ---- versions
 
--- what touches a group after one more entry
+-- the entries that touch a group after one more entry
 touching_after-push : (group : Group) (before later : List Entry) (entry : Entry)
     → touching_after before group (later ++ entry ∷ []) ≡ touching_after before group later ++ option_to_list (if touches (before ++ later) group entry then Some (length (before ++ later) + 1) else None)
 touching_after-push group before [] entry =
@@ -187,7 +187,7 @@ touching-untouched history entry group untouched =
 
 -- ---- the view
 
--- an entry opens no day, makes no offer of a group, spares those that there are, sets no limit there, and doesn't touch it
+-- an entry opens no day, makes no offer in a group, spares the existing ones, sets no limit there, and doesn't touch it
 record Leaves (history : List Entry) (group : Group) (entry : Entry) : Type 0 where
   opens : opened_day entry ≡ None
   makes : AllByRecursion (λ (o : Offer). same_group o.group group ≡ false) (lines_by entry)
@@ -203,7 +203,7 @@ spared-each group entry m (offer ∷ offers) each = (
   spared-each group entry (m + 1) offers (λ place o at own. let next : m + suc place ≡ m + 1 + place = omega arith in subst (IsSpared entry) next (each (suc place) o at own)),
 )
 
--- its view is what it was
+-- its view is unchanged
 view-left : (reference : Tables) (history : List Entry) (entry : Entry) (group : Group) → Leaves history group entry
     → group_view reference (history ++ entry ∷ []) group ≡ group_view reference history group
 view-left reference history entry group leaves =
@@ -238,7 +238,7 @@ view-left reference history entry group leaves =
 
 -- ---- the entries
 
--- the offer of a number is another one than that of a group, where it isn't of the group
+-- the offer with a number differs from one of a group, if it isn't in the group
 another : (history : List Entry) (group : Group) (n place : ℕ) (o : Offer) → slice_get (offers_of history) place ≡ Some o → same_group o.group group ≡ true → is_of_group history group n ≡ false
     → (n == suc place) ≡ false
 another history group n place o at own other =
@@ -251,7 +251,7 @@ another history group n place o at own other =
       | inr miss ↦ miss
     ]
 
--- an offer that a view of another group shows stands in that group
+-- an offer shown by a view of another group is in that group
 stands_in : (group : Group) (m : ℕ) (rows : List Row) (reference : Tables) (n : ℕ) → has_offer (filter_map (shown reference) (open_from group m rows)) n ≡ true
     → (place : ℕ) × (row : Row) × (n ≡ m + place) × (slice_get rows place ≡ Some row) × (same_group row.offer.group group ≡ true)
 stands_in group m [] reference n has = cc
@@ -281,13 +281,13 @@ stands_in group m (row ∷ rows) reference n has = by (stands_in group (m + 1) r
             first true e h = let one : m ≡ n = (Decides-eqb m n).0 e in (zero, row, omega (arith, one), refl, is)
             first false e h = later (more h)
 
--- an offer that stands is one that was made
+-- an offer as it is now was made
 made-at : (history : List Entry) (m : ℕ) (offers : List Offer) (place : ℕ) (row : Row) → slice_get (standing_from history m offers) place ≡ Some row → slice_get offers place ≡ Some row.offer
 made-at history m [] place row at = cc
 made-at history m (offer ∷ offers) zero row at = let same : standing history m offer ≡ row = cc in ap (λ (r : Row). Some r.offer) same
 made-at history m (offer ∷ offers) (suc place) row at = made-at history (m + 1) offers place row at
 
--- takes that name no offer of this number take nothing of it
+-- takes that don't name this offer take nothing from it
 unnamed : (takes : List Take) (n : ℕ) → AllByRecursion (λ (t : Take). (t.offer == n) ≡ false) takes → lots_of takes n ≡ 0
 unnamed takes n none = ap (λ (found : Option Take). unwrap_or (option_map (λ (t : Take). t.lots) found) 0) (go takes none)
   where
@@ -330,7 +330,7 @@ sweep-spares reference history group sweep may other place o at own = record {
     each [] known = tt
     each (t ∷ takes) known = (stranger t.offer known.0, each takes known.1)
 
--- lines make offers of the give-up's group
+-- lines make offers in the give-up's group
 lines-other : (firm : FirmId) (report : Id) (at group : Group) (lines : List Line) → same_group at group ≡ false
     → AllByRecursion (λ (o : Offer). same_group o.group group ≡ false) (map (λ (l : Line). record { firm = firm; report = report; group = at; account = l.account; lots = l.lots }) lines)
 lines-other firm report at group [] other = tt
@@ -392,7 +392,7 @@ leaves reference history group entry may untouched = record {
   untouched = untouched;
 }
 
--- an entry that may follow and doesn't touch a group leaves its view
+-- an entry that may follow and doesn't touch a group leaves its view unchanged
 pub view-elsewhere : (reference : Tables) (history : List Entry) (entry : Entry) (group : Group) → MayFollow reference history entry → touches history group entry ≡ false
     → group_view reference (history ++ entry ∷ []) group ≡ group_view reference history group
 view-elsewhere reference history entry group may untouched = view-left reference history entry group (leaves reference history group entry may untouched)

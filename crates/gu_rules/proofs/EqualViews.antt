@@ -1,4 +1,4 @@
--- Equal versions are equal views.
+-- Equal versions mean equal views.
 use Rattle.std.proofs.Common.{◌≡◌, List, length, take, sym, ap, ◌∙◌}
 use Rattle.std.proofs.Math.Seq.{take-append_seam}
 use mathlib.Core.List.{IsPrefix}
@@ -11,7 +11,7 @@ use Rattle.gu_rules.specs.Views.{group_view}
 use Rattle.gu_rules.proofs.LegalLaws.{view-stays}
 use Rattle.gu_rules.proofs.VersionLemmas.{equal_versions}
 
--- where a group has one version after a beginning of a legal history and after the whole, it has one view
+-- if a group has the same version after a prefix of a legal history and after the whole, it has the same view
 pub equal_views : (reference : Tables) (front history : List Entry) (group : Group) → IsPrefix front history → IsLegal reference history
     → version_of front group ≡ version_of history group → group_view reference front group ≡ group_view reference history group
 equal_views reference front history group begins legal same =

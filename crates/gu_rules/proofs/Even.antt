@@ -1,4 +1,4 @@
--- As many lots are held long as short once both sides of a trade are.
+-- As many lots are held long as short once both sides of a trade exist.
 use Rattle.std.proofs.Common.{◌≡◌, ℕ, ◌+◌, Bool, ◌==◌, not, true, false, refl, arith}
 use Rattle.std.specs.Ordering.{int_eq}
 use Rattle.std.proofs.lemmas.Bool.Decides.{Decides-eqb}
@@ -12,7 +12,7 @@ use Rattle.gu_terms.proofs.SameValues.{both}
 use Rattle.gu_positions.specs.Changes.{lots_at_side}
 use Rattle.gu_trades.specs.Matching.{is_other_side}
 
--- lots of both sides of one instrument count as many on either
+-- lots of both sides of one instrument count equally on either
 pub sides-even : (one other : Side) (symbol on : Symbol) (lots : ℕ) → same_side one other ≡ false
     → lots_at_side one symbol lots Buy on + lots_at_side other symbol lots Buy on ≡ lots_at_side one symbol lots Sell on + lots_at_side other symbol lots Sell on
 sides-even Buy Buy symbol on lots apart = cc
@@ -20,7 +20,7 @@ sides-even Buy Sell symbol on lots apart = omega arith
 sides-even Sell Buy symbol on lots apart = omega arith
 sides-even Sell Sell symbol on lots apart = cc
 
--- the other side of a report has its instrument and its lots, and another side
+-- the other side of a report has its instrument, its lots, and the opposite side
 pub other-side : (first second : Report) → is_other_side first second ≡ true → (first.symbol ≡ second.symbol) × ((first.lots ≡ second.lots) × (same_side first.side second.side ≡ false))
 other-side first second is =
     let a = both _ (not (same_side first.side second.side)) is in
@@ -33,6 +33,6 @@ other-side first second is =
     off true h = cc
     off false h = refl
 
--- and it has as many lots
+-- it has as many lots
 pub as-many : (waiting report : Report) → is_other_side waiting report ≡ true → waiting.lots ≡ report.lots
 as-many waiting report is = (other-side waiting report is).1.0

@@ -1,4 +1,4 @@
--- What is known of an offer of which a command is accepted.
+-- What is known of an offer for which a command is accepted.
 use Rattle.std.proofs.Common.{◌≡◌, ℕ, zero, suc, ◌+◌, ◌-◌, ◌<◌, ◌≤◌, ◌==◌, Bool, true, false, nat_lt, List, [], ◌∷◌, length, slice_get, slice_index_or, Option, Some, None, is_none, is_some, refl, ap, ◌∙◌, arith, ◌≢◌}
 use Rattle.std.specs.Option.{option_map_or}
 use Rattle.std.proofs.lemmas.Bool.{ltb-false}
@@ -34,7 +34,7 @@ pub some-is : {X : Type 0} (found : Option X) → is_some found ≡ true → (x 
 some-is None e = cc
 some-is (Some x) e = (x, refl)
 
--- an offer that is there, with its report
+-- an existing offer, with its report
 pub record IsThere (history : List Entry) (n : ℕ) (row : Row) (report : Report) : Type 0 where
   pub at : row_at (standing_of history) n ≡ Some row
   pub behind : report_after (reports_of history) row ≡ Some report
@@ -47,14 +47,14 @@ there history n orderly some =
     let behind = some-is (report_after (reports_of history) row) (all-at (λ r. is_some (report_after (reports_of history) r) ≡ true) (standing_of history) n row found.1 orderly.found) in
     (row, behind.0, record { at = found.1; behind = behind.1; within = all-at (λ r. r.moved ≤ r.offer.lots) (standing_of history) n row found.1 orderly.within })
 
--- what is left of it
+-- the lots left of it
 pub left-is : (rows : List Row) (n : ℕ) (row : Row) → row_at rows n ≡ Some row → left_in rows n ≡ left_of row
 left-is rows n row at = rw at refl
 
 pub today-is : (rows : List Row) (n : ℕ) (row : Row) → row_at rows n ≡ Some row → today_in rows n ≡ row.today
 today-is rows n row at = rw at refl
 
--- of an offer of which lots are left, it isn't closed, and they are what was not moved
+-- an offer with lots left isn't closed, and they are those not moved
 pub open-left : (row : Row) (left : ℕ) → row.moved ≤ row.offer.lots → left ≡ left_of row → (left == 0) ≡ false → (row.is_shut ≡ false) × (row.moved + left ≤ row.offer.lots)
 open-left row left within is some = by row.is_shut refl
   where
@@ -73,7 +73,7 @@ room-at room lots [] k d within = absurd (omega arith)
 room-at room lots (key ∷ path) zero d within = refl
 room-at room lots (key ∷ path) (suc k) d within = room-at room lots path k d (omega arith)
 
--- a claim that is accepted
+-- an accepted claim
 pub record MayBeClaimed (reference : Tables) (history : List Entry) (n : ℕ) (row : Row) (report : Report) : Type 0 where
   pub there : IsThere history n row report
   pub stands : row.is_shut ≡ false
@@ -110,7 +110,7 @@ claimable reference history firm n orderly is =
       },
     )
 
--- a refusal that is accepted
+-- an accepted refusal
 pub refusable : (reference : Tables) (history : List Entry) (firm : FirmId) (n : ℕ) (why : AllocReject) → IsInOrder history → IsAccepted reference history (Refuse (record { firm = firm; offer = n; why = why }))
     → (row : Row) × (report : Report) × IsThere history n row report
 refusable reference history firm n why orderly is =
@@ -118,7 +118,7 @@ refusable reference history firm n why orderly is =
     let passes = none_stands (tests_of reference state (Refuse (record { firm = firm; offer = n; why = why }))) (done_of reference state (Refuse (record { firm = firm; offer = n; why = why }))) (done_of reference state (Refuse (record { firm = firm; offer = n; why = why }))) is.accepted in
     there history n orderly (passes 2 (is_none (row_at (standing_of history) n)) UnknownOffer refl)
 
--- a reversal that is accepted
+-- an accepted reversal
 pub record MayBeReversed (history : List Entry) (n : ℕ) (row : Row) (report : Report) : Type 0 where
   pub there : IsThere history n row report
   pub nothing : left_in (standing_of history) n ≡ 0
@@ -144,7 +144,7 @@ reversible reference history firm n orderly is =
     positive zero e = let hit : (zero == 0) ≡ true = (Decides-eqb zero 0).1 refl in cc
     positive (suc k) e = omega arith
 
--- an open offer of a history in order is there
+-- an open offer of an orderly history exists
 pub open-there : (history : List Entry) (n : ℕ) → IsInOrder history → 0 < left_in (standing_of history) n
     → (row : Row) × (report : Report) × IsThere history n row report × (row.is_shut ≡ false) × (row.moved + left_in (standing_of history) n ≤ row.offer.lots)
 open-there history n o some =
@@ -159,7 +159,7 @@ open-there history n o some =
     is_there None h = absurd (omega (arith, h))
     is_there (Some row) h = refl
 
--- a take of another offer leaves an offer as it is
+-- a take from another offer leaves an offer unchanged
 pub row_at-other : (rows : List Row) (n m : ℕ) (change : Row → Row) → m ≢ n → row_at (changed rows n change) m ≡ row_at rows m
 row_at-other rows zero m change differ = refl
 row_at-other rows (suc place) zero change differ = refl

@@ -1,4 +1,4 @@
--- Each offer of a legal history gives up a trade, and trades have two sides of as many lots.
+-- Each offer of a legal history gives up a trade, and the two sides of a trade have as many lots.
 use Rattle.std.proofs.Common.{◌≡◌, ℕ, ◌+◌, ◌<◌, ◌&&◌, ◌++◌, Bool, true, false, not, List, [], ◌∷◌, length, map, slice_get, sum_by, Option, Some, None, is_none, is_some, if◌then◌else◌, refl, sym, ap, ◌∙◌, arith, append-nil, subst}
 use Rattle.std.specs.List.{AllByRecursion, IsDistinct, find}
 use Rattle.std.specs.Option.{option_map_or, option_or, option_to_list}
@@ -60,7 +60,7 @@ use Rattle.gu_rules.proofs.StandingLemmas.{offers_of-push}
 -- ---- sums over accounts
 
 module _ (accounts : List Account) (once : IsDistinct (λ a b. same_account a.account b.account) accounts) (symbol : Symbol) where
-  -- of accounts that differ, lots of one are counted once
+  -- among distinct accounts, the lots of one are counted once
   pub alone : (name : AccountId) (lots : ℕ) → is_some (account_in accounts name) ≡ true → sum_by (λ (a : Account). if same_account name a.account then lots else 0) accounts ≡ lots
   alone name lots there =
       let r : PositionRow = record { account = name; symbol = symbol; long = lots; short = 0 } in
@@ -80,7 +80,7 @@ module _ (accounts : List Account) (once : IsDistinct (λ a b. same_account a.ac
   alone-if true name lots there = alone name lots there
   alone-if false name lots there = sum_by-zeros accounts
 
-  -- lots of a side and an account are counted on the side
+  -- lots on a side and for an account are counted on that side
   alone-at : (side on : Side) (name : AccountId) (own : Symbol) (lots : ℕ) → is_some (account_in accounts name) ≡ true
       → sum_by (λ (a : Account). lots_at side name own lots on a.account symbol) accounts ≡ lots_at_side side own lots on symbol
   alone-at side on name own lots there =
@@ -95,16 +95,16 @@ module _ (accounts : List Account) (once : IsDistinct (λ a b. same_account a.ac
       by true false false = refl
       by false a s = refl
 
-  -- what trades brought to all accounts on a side
+  -- the lots that trades brought to all accounts on a side
   abbrev pub traded_on : List Report → Side → ℕ
   traded_on reports side = sum_by (λ (a : Account). traded reports side a.account symbol) accounts
 
-  -- a report that nobody waits for brings nothing
+  -- a report for which none is waiting brings nothing
   on-opened : (reports : List Report) (r : Report) (side : Side) → with_match r.match_id reports ≡ [] → traded_on (reports ++ r ∷ []) side ≡ traded_on reports side
   on-opened reports r side none =
       sum_by-agree (λ (a : Account). traded (reports ++ r ∷ []) side a.account symbol) (λ (a : Account). traded reports side a.account symbol) accounts (λ a. traded-opened reports r side a.account symbol none)
 
-  -- one that is matched brings both
+  -- a matched report brings both
   on-matched : (reports : List Report) (waiting r : Report) (side : Side) → with_match r.match_id reports ≡ waiting ∷ [] → is_some (account_in accounts waiting.account) ≡ true → is_some (account_in accounts r.account) ≡ true
       → traded_on (reports ++ r ∷ []) side ≡ traded_on reports side + lots_at_side waiting.side waiting.symbol waiting.lots side symbol + lots_at_side r.side r.symbol r.lots side symbol
   on-matched reports waiting r side one theirs mine =
@@ -120,7 +120,7 @@ module _ (accounts : List Account) (once : IsDistinct (λ a b. same_account a.ac
         alone-at r.side side r.account r.symbol r.lots mine,
       )
 
-  -- so that as many lots were brought on either side as were
+  -- so as many lots as before were brought on either side
   even-on : (reports : List Report) (r : Report) → AllByRecursion (λ (q : Report). is_some (account_in accounts q.account) ≡ true) reports → is_some (account_in accounts r.account) ≡ true
       → conflicts (with_match r.match_id reports) r ≡ false → traded_on reports Buy ≡ traded_on reports Sell → traded_on (reports ++ r ∷ []) Buy ≡ traded_on (reports ++ r ∷ []) Sell
   even-on reports r known mine fits even =
@@ -143,7 +143,7 @@ module _ (accounts : List Account) (once : IsDistinct (λ a b. same_account a.ac
 
 -- ---- all of it
 
--- the accounts of all reports are there, each offer gives up a trade, and trades brought as many lots on either side
+-- the accounts of all reports are in the reference, each offer gives up a trade, and trades brought as many lots on either side
 pub record IsSourced (reference : Tables) (history : List Entry) : Type 0 where
   pub reports : AllByRecursion (λ (r : Report). is_there reference r.account) (reports_of history)
   pub offers : AllGiveUpTrades reference history
@@ -239,7 +239,7 @@ sourced-given reference history it is sourced =
           even = λ once symbol. subst (λ (rs : List Report). traded_on reference.accounts once symbol rs Buy ≡ traded_on reference.accounts once symbol rs Sell) reports (sourced.even once symbol);
         }
 
--- any command that is accepted
+-- any accepted command
 sourced-accepted : (reference : Tables) (history : List Entry) (command : Command) → IsAccepted reference history command → IsSourced reference history → IsSourced reference (history ++ accepted_entry reference history command ∷ [])
 sourced-accepted reference history (ReportSide it) is sourced =
     let command = ReportSide it in

@@ -1,4 +1,4 @@
--- What is known of a give-up that is accepted.
+-- What is known of an accepted give-up.
 use Rattle.std.proofs.Common.{◌≡◌, ℕ, suc, ◌+◌, ◌-◌, ◌≤◌, Bool, true, false, not, nat_lt, List, [], length, slice_get, Option, Some, is_none, is_some, None, refl, sym, ap, ◌∙◌}
 use Rattle.std.specs.List.{AllByRecursion}
 use Rattle.std.specs.Option.{option_and_then, option_map, option_map_or}
@@ -30,7 +30,7 @@ use Rattle.gu_rules.proofs.KnownOnes.{some-not-none}
 use Rattle.gu_rules.proofs.Passing.{none_stands}
 use Rattle.gu_rules.proofs.AcceptedCommands.{names-are, not_not, report-is}
 
--- its report and its group, the lots that are free, its accounts and agreements, and what it did
+-- its report and its group, the free lots, its accounts and agreements, and its effect
 pub record MayBeGiven (reference : Tables) (history : List Entry) (it : GiveUpOf) (report : Report) (group : Group) : Type 0 where
   pub given : given_up reference (state_of reference history) it.firm it.report ≡ Some (report, group)
   pub of_firm : report.firm ≡ it.firm
@@ -90,7 +90,7 @@ may-be-given reference history it is report group given =
       did = ap (λ (g : Option (Report × Group)). option_map_or (λ g. Offered g.1 (length (standing_of history) + 1) (length it.lines)) g Opened) given;
     }
 
--- and there is one
+-- there is such a report and group
 pub givable : (reference : Tables) (history : List Entry) (it : GiveUpOf) → IsAccepted reference history (GiveUp it)
     → (report : Report) × (group : Group) × MayBeGiven reference history it report group
 givable reference history it is =

@@ -1,4 +1,4 @@
--- One entry more.
+-- One more entry.
 use Rattle.std.proofs.Common.{◌≡◌, ℕ, ◌+◌, ◌<◌, List, [], ◌∷◌, ◌++◌, length, take, Option, Some, None, refl, sym, ap, ◌∙◌, arith, length-append, append_assoc, append-nil, get_or}
 use Rattle.std.specs.List.{filter_map, last_or}
 use Rattle.std.specs.Option.{option_to_list}
@@ -11,11 +11,11 @@ use Rattle.gu_rules.specs.Legal.{IsLegal, MayBeEntered, MayFollow, StandsLast}
 use Rattle.gu_rules.specs.Reports.{open_day, report_on, reports_after, reports_of}
 use Rattle.gu_ref.specs.Tables.{Tables}
 
--- what one more item gives is the last that is given
+-- what one more item gives is the last
 pub last-given : {X Y : Type 0} (given : X → Option Y) (before : List X) (item : X) (value : Y) → given item ≡ Some value → last_or None (filter_map given (before ++ item ∷ [])) ≡ Some value
 last-given given before item value e = ap (last_or None) (filter_map-append given before (item ∷ [])) ∙ rw e (last_or-last None (filter_map given before) value)
 
--- and where it gives nothing, the last stays
+-- if it gives nothing, the last stays
 pub last-kept : {X Y : Type 0} (given : X → Option Y) (before : List X) (item : X) → given item ≡ None → last_or None (filter_map given (before ++ item ∷ [])) ≡ last_or None (filter_map given before)
 last-kept {Y = Y} given before item e = ap (last_or None) (filter_map-append given before (item ∷ [])) ∙ rw e (ap (last_or {A = Y} None) (append-nil (filter_map given before)))
 
@@ -36,12 +36,12 @@ reports_of-push before entry = reports_after-push [] before entry
 pub take-next : (history : List Entry) (i : ℕ) {entry : Entry} → i < length history → entry ≡ get_or history i entry → take (i + 1) history ≡ take i history ++ entry ∷ []
 take-next history i {entry} within is = take_more history i entry within ∙ ap (λ (e : Entry). take i history ++ e ∷ []) (sym is)
 
--- and the reports that they took in
+-- the reports that these entries accepted
 pub reports_of-next : (history : List Entry) (i : ℕ) {entry : Entry} → i < length history → entry ≡ get_or history i entry
     → reports_of (take (i + 1) history) ≡ reports_of (take i history) ++ option_to_list (report_on (open_day (take i history)) entry)
 reports_of-next history i {entry} within is = ap reports_of (take-next history i within is) ∙ reports_of-push (take i history) entry
 
--- a legal history grows by an entry that may follow it
+-- a legal history followed by an entry that may follow it is legal
 pub legal_push : (reference : Tables) (history : List Entry) (entry : Entry) → IsLegal reference history → length history < 1000000 → MayBeEntered entry → MayFollow reference history entry → IsLegal reference (history ++ entry ∷ [])
 legal_push reference history entry legal room entered may = record {
   within = omega (arith, length-append history (entry ∷ []));
@@ -49,6 +49,6 @@ legal_push reference history entry legal room entered may = record {
   each = push_each (MayFollow reference) history entry legal.each may;
 }
 
--- and stands in it as the last one
+-- and that entry is its last
 pub stands_last : (reference : Tables) (history : List Entry) (entry : Entry) → IsLegal reference history → length history < 1000000 → MayBeEntered entry → MayFollow reference history entry → StandsLast reference (length history + 1) entry
 stands_last reference history entry legal room entered may = record { before = history; legal = legal_push reference history entry legal room entered may; number_is = refl }

@@ -1,4 +1,4 @@
--- Over the accounts, as many lots are held long as short.
+-- Over all accounts, as many lots are held long as short.
 use Rattle.std.proofs.Common.{◌≡◌, ℕ, ◌+◌, ◌&&◌, Bool, true, false, List, [], ◌∷◌, sum_by, Option, Some, is_some, if◌then◌else◌, refl, sym, ap, ◌∙◌, subst, arith, inl, inr}
 use Rattle.std.specs.List.{AllByRecursion, IsDistinct}
 use Rattle.std.specs.Option.{option_map_or}
@@ -29,14 +29,14 @@ use Rattle.gu_rules.proofs.ChangedSums.{moved_out-le-traded}
 use Rattle.gu_rules.proofs.GivenTrades.{IsSourced, alone-if, traded_on}
 use Rattle.gu_rules.proofs.KnownOnes.{all-found, is_there}
 
--- an offer whose account is there, and the account of its report
+-- an offer whose account and whose report's account are in the reference
 pub record IsBetween (reference : Tables) (reports : List Report) (row : Row) : Type 0 where
   pub into : is_there reference row.offer.account
   pub report : Report
   pub behind : report_after reports row ≡ Some report
   pub from : is_there reference report.account
 
--- each offer of a history is such
+-- each offer of a history is one
 all-between : (reference : Tables) (history : List Entry) → IsSourced reference history → AllByRecursion (IsBetween reference (reports_of history)) (standing_of history)
 all-between reference history sourced = go 1 (offers_of history) sourced.offers
   where
@@ -54,11 +54,11 @@ all-between reference history sourced = go 1 (offers_of history) sourced.offers
         )
 
 module _ (reference : Tables) (once : IsDistinct (λ a b. same_account a.account b.account) reference.accounts) (symbol : Symbol) (side : Side) (reports : List Report) where
-  -- what was moved of an offer of this side and this instrument
+  -- the lots moved from an offer of this side and instrument
   abbrev moved_on : Row → ℕ
   moved_on row = if is_on reports side symbol row then row.moved else 0
 
-  -- is moved into one account
+  -- they are moved into one account
   into-once : (row : Row) → IsBetween reference reports row → sum_by (λ (a : Account). if is_on reports side symbol row && same_account row.offer.account a.account then row.moved else 0) reference.accounts ≡ moved_on row
   into-once row b = alone-if reference.accounts once symbol (is_on reports side symbol row) row.offer.account row.moved b.into
 
@@ -70,7 +70,7 @@ module _ (reference : Tables) (once : IsDistinct (λ a b. same_account a.account
       (λ a. ap (λ (q : Option Report). if is_on reports side symbol row && option_map_or (λ (r : Report). same_account r.account a.account) q false then row.moved else 0) b.behind)
       ∙ alone-if reference.accounts once symbol (is_on reports side symbol row) b.report.account row.moved b.from
 
-  -- over the accounts, as many lots were moved into as out of them
+  -- over all accounts, as many lots were moved into as out of them
   same-moved : (rows : List Row) → AllByRecursion (IsBetween reference reports) rows
       → sum_by (λ (a : Account). moved_into reports rows side a.account symbol) reference.accounts ≡ sum_by (λ (a : Account). moved_out reports rows side a.account symbol) reference.accounts
   same-moved rows between =
@@ -88,7 +88,7 @@ module _ (reference : Tables) (once : IsDistinct (λ a b. same_account a.account
           let one : f row ≡ g row = into-once row all.0 ∙ sym (out-once row all.0) in
           omega (arith, sum_by-cons f row rows, sum_by-cons g row rows, one, each rows all.1)
 
-  -- so that all that is held was brought by trades
+  -- so the total held was brought by trades
   held-traded : (rows : List Row) → AllByRecursion (IsBetween reference reports) rows → IsCovered reports rows → AreWithin rows
       → sum_by (λ (a : Account). held_in reports rows side a.account symbol) reference.accounts ≡ traded_on reference.accounts once symbol reports side
   held-traded rows between covered within =
@@ -116,7 +116,7 @@ held-even reference history once sourced covered within symbol =
 -- ---- accounts that aren't in the reference
 
 module _ (reference : Tables) (account : AccountId) (none : is_some (account_row reference account) ≡ false) (side : Side) (symbol : Symbol) where
-  -- one that is there is another
+  -- an account in the reference is a different one
   another : (name : AccountId) → is_there reference name → same_account name account ≡ false
   another name there =
       elim (cases_Bool (same_account name account)) [
@@ -124,7 +124,7 @@ module _ (reference : Tables) (account : AccountId) (none : is_some (account_row
         | inr miss ↦ miss
       ]
 
-  -- so that no trade brought it lots
+  -- so no trade brought it lots
   none-brought : (all reports : List Report) → AllByRecursion (λ (r : Report). is_there reference r.account) reports → sum_by (brought all side account symbol) reports ≡ 0
   none-brought all [] known = refl
   none-brought all (r ∷ reports) known =

@@ -1,4 +1,4 @@
--- What is given up of an account's reports is never more than what it traded.
+-- No more of an account's reports is given up than it traded.
 use Rattle.std.proofs.Common.{◌≡◌, ℕ, ◌≤◌, ◌&&◌, Bool, true, false, List, sum_by, Option, Some, None, refl, sym, ◌∙◌, arith, if◌then◌else◌, inl, inr}
 use Rattle.std.proofs.lemmas.Bool.{cases_Bool}
 use Rattle.std.proofs.lemmas.List.Sums.{sum_by-le-sum_by}
@@ -21,15 +21,15 @@ use Rattle.gu_rules.specs.Positions.{brought, is_from, is_on, report_after, trad
 abbrev is_at : Side → AccountId → Symbol → Report → Bool
 is_at side account symbol r = same_side r.side side && same_account r.account account && same_symbol r.symbol symbol
 
--- what an offer holds of a report on this side of this instrument, for this account
+-- the lots that an offer holds of a report on this side of this instrument, for this account
 abbrev pub given_up_by : List Report → Side → AccountId → Symbol → Row → ℕ
 given_up_by reports side account symbol row = if is_on reports side symbol row && is_from reports account row then counted_of row else 0
 
--- the same by the report
+-- the same, from the report
 abbrev held_of_report : Side → AccountId → Symbol → Row → Report → ℕ
 held_of_report side account symbol row r = if is_at side account symbol r then (if is_of_report r.firm r.id row then counted_of row else 0) else 0
 
--- an offer of a report is of the report by its firm and its id
+-- an offer gives up a report if it has its firm and its id
 is_of_report-by : (row : Row) (r : Report) → is_by row.offer.firm row.offer.report r ≡ true → is_of_report r.firm r.id row ≡ true
 is_of_report-by row r by =
     let parts = both _ _ by in
@@ -37,7 +37,7 @@ is_of_report-by row r by =
     let ids = sym (same_id-true r.id row.offer.report parts.1) in
     rw ((λ i. same_firm (firms i) r.firm) ∙ same_firm-own r.firm, (λ i. same_id (ids i) r.id) ∙ same_id-own r.id) refl
 
--- of three tests, in whatever order
+-- three tests in either order
 three : (p a s : Bool) (m n : ℕ) → ((p && a && s) ≡ true → m ≤ n) → (if p && s && a then m else 0) ≤ n
 three true true true m n h = h refl
 three true true false m n h = omega arith
@@ -61,7 +61,7 @@ given-le reports side account symbol row = by (report_after reports row) refl
         let all : held_of_report side account symbol row r ≡ counted_of row = rw (hit, mine) refl in
         omega (arith, one, all)))
 
--- what all offers hold of one report, on this side of this instrument, for this account
+-- the lots that all offers hold of one report, on this side of this instrument, for this account
 held-under : (rows : List Row) (side : Side) (account : AccountId) (symbol : Symbol) (r : Report)
     → sum_by (λ row. held_of_report side account symbol row r) rows ≡ (if is_at side account symbol r then counted_under rows r.firm r.id else 0)
 held-under rows side account symbol r =
@@ -70,7 +70,7 @@ held-under rows side account symbol r =
       | inr miss ↦ rw miss (sum_by-zeros rows)
     ]
 
--- is within what it brought
+-- they are at most those that it brought
 held-le : (reports : List Report) (rows : List Row) (side : Side) (account : AccountId) (symbol : Symbol) (r : Report)
     → counted_under rows r.firm r.id ≤ lots_traded reports r
     → sum_by (λ row. held_of_report side account symbol row r) rows ≤ brought reports side account symbol r
@@ -82,7 +82,7 @@ held-le reports rows side account symbol r covered =
     four true false m n h = h
     four false q m n h = omega arith
 
--- what is given up of an account's reports is never more than what it traded
+-- no more of an account's reports is given up than it traded
 pub given_up-le-traded : (reports : List Report) (rows : List Row) (side : Side) (account : AccountId) (symbol : Symbol) → IsCovered reports rows
     → sum_by (given_up_by reports side account symbol) rows ≤ traded reports side account symbol
 given_up-le-traded reports rows side account symbol covered =

@@ -1,11 +1,11 @@
--- Orderly histories, whatever number of offers they have.
+-- Orderly histories, whatever the number of offers.
 use Rattle.std.proofs.Common.{◌*◌, ◌≤◌, List, length, [], refl, arith}
 use Rattle.gu_terms.specs.declared.entry.Entry.{Entry}
 use Rattle.gu_rules.specs.Offers.{offers_of, standing_of}
 use Rattle.gu_rules.specs.Orderly.{AreFound, AreOwn, AreWithin, IsBalanced, IsCovered, IsNamed, IsOrderly}
 use Rattle.gu_rules.specs.Reports.{reports_of}
 
--- all of it but how many offers there are
+-- everything except the number of offers
 pub record IsInOrder (history : List Entry) : Type 0 where
   pub balanced : IsBalanced history
   pub named : IsNamed history
@@ -17,11 +17,11 @@ pub record IsInOrder (history : List Entry) : Type 0 where
 pub in_order : (history : List Entry) → IsOrderly history → IsInOrder history
 in_order history o = record { balanced = o.balanced; named = o.named; covered = o.covered; found = o.found; within = o.within; own = o.own }
 
--- and that
+-- together with that number
 pub whole : (history : List Entry) → IsInOrder history → length (offers_of history) ≤ 16 * length history → IsOrderly history
 whole history o few = record { balanced = o.balanced; named = o.named; covered = o.covered; found = o.found; within = o.within; own = o.own; few = few }
 
--- nothing is orderly
+-- the empty history is orderly
 pub nothing-orderly : IsOrderly []
 nothing-orderly = record {
   balanced = record { all = λ n. omega arith; today = λ n. omega arith; within = λ n. omega arith };

@@ -1,4 +1,4 @@
--- What is found in a list of which each is known, and accounts that are in the reference.
+-- Elements found in a list with a property of each, and accounts in the reference.
 use Rattle.std.proofs.Common.{◌≡◌, true, is_some, Bool, List, [], ◌∷◌, Some, refl, sym, ◌∙◌, subst, inl, inr, false, filter, if◌then◌else◌, Option, None, is_none}
 use Rattle.std.proofs.lemmas.Bool.{cases_Bool}
 use Rattle.std.specs.List.{AllByRecursion, find}
@@ -10,7 +10,7 @@ use Rattle.gu_ref.specs.Tables.{Tables}
 abbrev pub is_there : Tables → AccountId → Type 0
 is_there reference account = is_some (account_row reference account) ≡ true
 
--- what holds of each holds of the one that is found
+-- a property of each element is one of the element found
 pub all-found : {X : Type 0} (P : X → Type 0) (test : X → Bool) (xs : List X) (x : X) → AllByRecursion P xs → find test xs ≡ Some x → P x
 all-found P test [] x all is = cc
 all-found {X} P test (first ∷ xs) x all is =
@@ -24,7 +24,7 @@ all-found {X} P test (first ∷ xs) x all is =
           all-found P test xs x all.1 there
     ]
 
--- and of those that pass a test
+-- and of the elements that pass a test
 pub all-passing : {X : Type 0} (P : X → Type 0) (test : X → Bool) (xs : List X) → AllByRecursion P xs → AllByRecursion P (filter test xs)
 all-passing P test [] all = tt
 all-passing {X} P test (x ∷ xs) all = by (test x) (all-passing P test xs all.1)

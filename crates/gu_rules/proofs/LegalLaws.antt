@@ -35,14 +35,14 @@ use Rattle.gu_rules.proofs.HeldEven.{held-even, none-held}
 use Rattle.gu_rules.proofs.LegalOrder.{legal_ordered}
 use Rattle.gu_rules.proofs.Onward.{onward}
 
--- what leaves an account
+-- the lots that leave an account
 pub leaves_less : (reference : Tables) (history : List Entry) (side : Side) (account : AccountId) (symbol : Symbol) → IsLegal reference history
     → moved_out (reports_of history) (standing_of history) side account symbol ≤ traded (reports_of history) side account symbol
 leaves_less reference history side account symbol legal =
     let o = (legal_ordered reference history legal).order in
     moved_out-le-traded (reports_of history) (standing_of history) side account symbol o.covered o.within
 
--- what is held
+-- the lots held
 pub long_as_short : (reference : Tables) (history : List Entry) → IsSound reference → IsLegal reference history → LongIsShort (record { reference = reference; history = history })
 long_as_short reference history sound legal =
     let o = (legal_ordered reference history legal).order in held-even reference history sound.once.accounts (sourced reference history legal) o.covered o.within
@@ -60,7 +60,7 @@ has_path reference firm account agreement sound between =
 
 -- ---- how many offers there are
 
--- an entry makes an offer a line
+-- an entry makes one offer for each line
 few-made : (entry : Entry) → MayBeEntered entry → length (lines_by entry) ≤ 16
 few-made (Asked (GiveUp it) (Accepted (Offered group first count))) lines_are =
     omega (arith, lines_are.most, length-map {B = Offer} it.lines (λ (l : Line). record { firm = it.firm; report = it.report; group = group; account = l.account; lots = l.lots }))
@@ -77,7 +77,7 @@ few_offers_made reference history legal = few-offers history legal.entered
 
 -- ---- views
 
--- where no entry from a place on touches a group, its view stays
+-- if no entry from an index on touches a group, its view is unchanged
 pub view-stays : (reference : Tables) (history : List Entry) (first : ℕ) (group : Group) → IsLegal reference history
     → ((place : ℕ) (entry : Entry) → first ≤ place → slice_get history place ≡ Some entry → touches (take place history) group entry ≡ false)
     → group_view reference history group ≡ group_view reference (take first history) group

@@ -1,4 +1,4 @@
--- Every legal history is in order; no group has many open offers, and each offer was made by an agreement.
+-- Every legal history is orderly; no group has more than 4,096 open offers, and each offer was made under an agreement.
 use Rattle.std.proofs.Common.{◌≡◌, ℕ, ◌+◌, ◌<◌, ◌≤◌, ◌++◌, List, [], ◌∷◌, length, Option, Some, is_none, refl, sym, ap, ◌∙◌, arith, append-nil, append_assoc, subst}
 use Rattle.std.specs.List.{AllByRecursion}
 use Rattle.std.specs.Option.{option_map_or, option_to_list}
@@ -50,7 +50,7 @@ use Rattle.gu_rules.proofs.StillShown.{shown-accepted}
 use Rattle.gu_rules.proofs.SweptOffers.{TakesLeft, all-left}
 use Rattle.gu_rules.proofs.Takers.{claim-takes, claimed, part-takes, takes-others, takes-own}
 
--- a history in order, of whose offers no group has many open ones, and each was made by an agreement
+-- an orderly history in which no group has more than 4,096 open offers, and each offer was made under an agreement
 pub record IsOrdered (reference : Tables) (history : List Entry) : Type 0 where
   pub order : IsInOrder history
   pub shown : IsShown reference (standing_of history)
@@ -59,7 +59,7 @@ pub record IsOrdered (reference : Tables) (history : List Entry) : Type 0 where
 
 -- a report
 module _ (reference : Tables) (history : List Entry) (it : ReportSideOf) (is : IsAccepted reference history (ReportSide it)) where
-  -- is made on an open day
+  -- it is made on an open day
   pub day-there : (day : Day) × (open_day history ≡ Some day)
   day-there =
       let command = ReportSide it in
@@ -93,7 +93,7 @@ gave_up reference history it o is =
     (subst (λ (o : Id). IsInOrder (history ++ giving_up report.firm it.id o it.lines group first ∷ [])) may.of_id
     (ordered-lines history entry report group it.lines o (unreported entry (λ d. refl) (open_day history)) refl idle refl may.there may.matched may.free)))
 
--- any command that is accepted
+-- any accepted command
 accepted : (reference : Tables) (history : List Entry) (command : Command) → IsInOrder history → IsAccepted reference history command
     → IsInOrder (history ++ accepted_entry reference history command ∷ [])
 accepted reference history (OpenDay it) o is =
@@ -113,7 +113,7 @@ accepted reference history (Reverse it) o is =
     let f = reversible reference history it.firm it.offer o is in
     subst (λ (lots : ℕ). IsInOrder (history ++ taken_back it.firm it.offer lots ∷ [])) (sym (today-is (standing_of history) it.offer f.0 f.2.there.at)) (ordered-taken_back history it.firm it.offer f.0 o f.2.there.at)
 
--- one that is refused
+-- a refused command
 denied : (reference : Tables) (history : List Entry) (command : Command) (why : Refusal) → IsOrdered reference history → IsOrdered reference (history ++ Asked command (Denied why) ∷ [])
 denied reference history command why ordered =
     let entry = Asked command (Denied why) in
@@ -130,7 +130,7 @@ denied reference history command why ordered =
 abbrev pub IsLeft : List Row → Take → Type 0
 IsLeft rows t = (0 < left_in rows t.offer) × (t.lots ≤ left_in rows t.offer)
 
--- one take of a sweep: what it makes of the offers, after which the others are still left
+-- one take of a sweep: its effect on the offers, after which the other takes are still left
 pub record TakesFirst (reference : Tables) (history : List Entry) (sweep : SweepEntry) (take : Take) (takes : List Take) : Type 0 where
   pub row : Row
   pub at : row_at (standing_of history) take.offer ≡ Some row

@@ -1,15 +1,15 @@
--- What becomes of sums over offers when one of them changes.
+-- Sums over offers after one of them changes.
 use Rattle.std.proofs.Common.{◌≡◌, ◌≢◌, ℕ, zero, suc, ◌+◌, ◌<◌, List, [], ◌∷◌, sum_by, Some, refl, sym, ap, arith, slice_get, subst}
 use Rattle.std.proofs.lemmas.List.Sums.{sum_by-cons}
 use Rattle.gu_terms.specs.declared.entry.Entry.{Entry}
 use Rattle.gu_offers.specs.Rows.{Row}
 use Rattle.gu_rules.proofs.StandingLemmas.{stepped, stepped_from}
 
--- an entry leaves the offers of all numbers but one
+-- an entry changes no offer except one
 abbrev pub LeavesOthers : Entry → ℕ → Type 0
 LeavesOthers entry n = (m : ℕ) → m ≢ n → (row : Row) → stepped entry m row ≡ row
 
--- numbered above it, offers stay
+-- offers with higher numbers are unchanged
 pub behind : (entry : Entry) (n m : ℕ) (rows : List Row) → LeavesOthers entry n → n < m → stepped_from entry m rows ≡ rows
 behind entry n m [] others above = refl
 behind entry n m (row ∷ rows) others above =
@@ -17,7 +17,7 @@ behind entry n m (row ∷ rows) others above =
     let more = behind entry n (m + 1) rows others (omega (arith, above)) in
     λ i. one i ∷ more i
 
--- where one offer changes, a sum over all changes by it
+-- if one offer changes, a sum over all changes by its change
 pub one_changes : (f : Row → ℕ) (entry : Entry) (m : ℕ) (rows : List Row) (place : ℕ) (row : Row)
     → LeavesOthers entry (m + place) → slice_get rows place ≡ Some row
     → sum_by f (stepped_from entry m rows) + f row ≡ sum_by f rows + f (stepped entry (m + place) row)

@@ -1,4 +1,4 @@
--- Views of the book are nested: an account is carried by one firm, and a firm has one guarantor or none.
+-- Views of the book are nested: an account is carried by one firm, and a firm has at most one guarantor.
 use Rattle.std.proofs.Common.{◌≡◌, ◌||◌, Bool, true, false, List, Option, Some, None, refl, sym, ap, ◌∙◌}
 use Rattle.std.specs.Prelude.{All}
 use Rattle.std.specs.List.{AllByRecursion}
@@ -48,7 +48,7 @@ next_carrying : (executing : FirmId) (id : AgreementId) (own : AccountId) (carry
 next_carrying executing id own carrying None = rw (key_eq-refl (Carry carrying)) refl
 next_carrying executing id own carrying (Some firm) = rw (key_eq-refl (Carry carrying)) refl
 
--- after an account comes the firm of its row
+-- an account is followed by the firm in its row
 behind_account : (reference : Tables) (id : AgreementId) (path : List LimitKey) → GoesThrough reference id path → (account : AccountId) → has_key path (Acct account) ≡ true
     → (carried : Account) × (account_row reference account ≡ Some carried) × (next_key path (Acct account) ≡ Some (Carry carried.firm))
 behind_account reference id path goes account h =
@@ -59,7 +59,7 @@ behind_account reference id path goes account h =
       (λ i. next_key (goes.is i) (Acct (sym same i))) ∙ next_account goes.executing id goes.account goes.carried.firm guarantor,
     )
 
--- and after a carrying firm its guarantor, or nothing
+-- a carrying firm is followed by its guarantor, or nothing
 behind_carrying : (reference : Tables) (id : AgreementId) (path : List LimitKey) → GoesThrough reference id path → (firm : FirmId) → has_key path (Carry firm) ≡ true
     → next_key path (Carry firm) ≡ option_map (λ g. Guar g) (guarantor_of reference firm)
 behind_carrying reference id path goes firm h =
@@ -68,7 +68,7 @@ behind_carrying reference id path goes firm h =
     (λ i. next_key (goes.is i) (Carry (sym same i))) ∙ next_carrying goes.executing id goes.account goes.carried.firm guarantor
     ∙ ap (λ (f : FirmId). option_map (λ g. Guar g) (guarantor_of reference f)) same
 
--- two paths go on alike
+-- two paths continue alike
 accounts_alike : (reference : Tables) (a b : ViewOffer) → HasPath reference a → HasPath reference b → (account : AccountId) → GoOnAlike (Acct account) a.path b.path
 accounts_alike reference a b mine theirs account in_a in_b =
     let one = behind_account reference a.agreement a.path (goes_through reference a.agreement a.path mine) account in_a in
@@ -87,7 +87,7 @@ whole reference o mine =
     let goes = goes_through reference o.agreement o.path mine in
     (goes.executing, goes.account, goes.carried.firm, guarantor_of reference goes.carried.firm, goes.is)
 
--- a view of offers that have the paths of their agreements
+-- a view of offers with the paths of their agreements
 pub is_nested : (reference : Tables) (view : GroupView) → AllByRecursion (HasPath reference) view.offers → IsNested view
 is_nested reference view have = record {
   paths = All-from_recursion IsPath view.offers (along (HasPath reference) IsPath view.offers (whole reference) have);

@@ -1,4 +1,4 @@
--- What holds of none, and of one entry more, holds of every legal history.
+-- A property of no entries that one more entry keeps is one of every legal history.
 use Rattle.std.proofs.Common.{◌≡◌, ℕ, ◌<◌, ◌++◌, List, [], ◌∷◌, length, slice_get, take, Some, refl, sym, ap, ◌∙◌, arith, append_assoc, append-nil, subst}
 use Rattle.std.proofs.Math.Seq.{take-append_seam}
 use Rattle.std.proofs.lemmas.List.{length-take}
@@ -7,12 +7,12 @@ use Rattle.gu_terms.specs.declared.entry.Entry.{Entry}
 use Rattle.gu_ref.specs.Tables.{Tables}
 use Rattle.gu_rules.specs.Legal.{IsLegal, MayFollow}
 
--- the entry after others stands at their number
+-- the entry after others is at their number
 seam : (before later : List Entry) (entry : Entry) → slice_get (before ++ entry ∷ later) (length before) ≡ Some entry
 seam [] later entry = refl
 seam (first ∷ before) later entry = seam before later entry
 
--- what holds of the first entries of a history, and of each entry more, holds of all
+-- a property of no entries that each next entry of a history keeps is one of the whole
 pub onward : (history : List Entry) (P : List Entry → Type 0) → ((k : ℕ) (entry : Entry) → slice_get history k ≡ Some entry → P (take k history) → P (take k history ++ entry ∷ []))
     → (before later : List Entry) → history ≡ before ++ later → P before → P history
 onward history P more before [] is holds = subst P (sym (is ∙ append-nil before)) holds
@@ -22,7 +22,7 @@ onward history P more before (entry ∷ later) is holds =
     onward history P more (before ++ entry ∷ []) later (is ∙ sym (append_assoc before (entry ∷ []) later))
     (subst (λ (h : List Entry). P (h ++ entry ∷ [])) front (more (length before) entry at (subst P (sym front) holds)))
 
--- what holds of none, and of each entry that may follow, holds of a legal history
+-- a property of no entries that each entry that may follow keeps is one of a legal history
 pub each_legal : (reference : Tables) (P : List Entry → Type 0) → P [] → ((before : List Entry) (entry : Entry) → length before < 1000000 → MayFollow reference before entry → P before → P (before ++ entry ∷ []))
     → (history : List Entry) → IsLegal reference history → P history
 each_legal reference P none more history legal = onward history P next [] history refl none

@@ -1,4 +1,4 @@
--- A history in order stays in order with one more report.
+-- An orderly history stays orderly after one more report.
 use Rattle.std.proofs.Common.{◌≡◌, false, List, Option, Some, None, is_some, refl, ◌∙◌, ℕ, true, [], ◌∷◌, sym, ap, arith, if◌then◌else◌, inl, inr, ◌++◌, ◌≤◌, Bool}
 use Rattle.std.proofs.lemmas.Bool.{cases_Bool}
 use Rattle.std.proofs.lemmas.List.Folds.{find-append}
@@ -31,7 +31,7 @@ not_found reports r new = by (report_by reports r.firm r.id) (is_some-find (is_b
     by None e = refl
     by (Some q) e = cc
 
--- so that no offer holds lots of it
+-- so no offer holds lots of it
 unheld : (reports : List Report) (rows : List Row) (r : Report) → report_by reports r.firm r.id ≡ None → AreFound reports rows → counted_under rows r.firm r.id ≡ 0
 unheld reports [] r none found = refl
 unheld reports (row ∷ rows) r none found =
@@ -55,7 +55,7 @@ pub all-push : {X : Type 0} (P : X → Type 0) (xs : List X) (x : X) → AllByRe
 all-push P [] x all has = (has, tt)
 all-push P (first ∷ xs) x all has = (all.0, all-push P xs x all.1 has)
 
--- no more is given up than is traded
+-- no more is given up than traded
 covered-push : (reports : List Report) (rows : List Row) (r : Report) → report_by reports r.firm r.id ≡ None → AreFound reports rows → IsCovered reports rows → IsCovered (reports ++ r ∷ []) rows
 covered-push reports rows r none found covered =
     all-push (λ q. counted_under rows q.firm q.id ≤ lots_traded (reports ++ r ∷ []) q) reports r
@@ -74,7 +74,7 @@ found-push reports rows r found =
     along (λ (row : Row). is_some (report_after reports row) ≡ true) (λ row. is_some (report_after (reports ++ r ∷ []) row) ≡ true) rows
     (λ row h. ap (λ (q : Option Report). is_some q) (behind-push reports r row h) ∙ h) found
 
--- and each report itself
+-- and each report finds itself
 own-push : (reports : List Report) (r : Report) → report_by reports r.firm r.id ≡ None → AreOwn reports → AreOwn (reports ++ r ∷ [])
 own-push reports r none own =
     all-push (λ (q : Report). report_by (reports ++ r ∷ []) q.firm q.id ≡ Some q) reports r
@@ -82,7 +82,7 @@ own-push reports r none own =
     (λ q h. find-append (is_by q.firm q.id) reports (r ∷ []) ∙ ap (λ (found : Option Report). option_or found (find (is_by q.firm q.id) (r ∷ []))) h) own)
     (find-append (is_by r.firm r.id) reports (r ∷ []) ∙ ap (λ (found : Option Report). option_or found (find (is_by r.firm r.id) (r ∷ []))) none ∙ rw (same_firm-own r.firm, same_id-own r.id) refl)
 
--- an entry that takes a report in
+-- an entry that accepts a report
 pub ordered-reported : (history : List Entry) (entry : Entry) (r : Report) → IsInOrder history → opened_day entry ≡ None → IsIdle entry
     → Fits (reports_of history) r → reports_of (history ++ entry ∷ []) ≡ reports_of history ++ r ∷ [] → standing_of (history ++ entry ∷ []) ≡ standing_of history → IsInOrder (history ++ entry ∷ [])
 ordered-reported history entry r o opens idle fits taken rows =

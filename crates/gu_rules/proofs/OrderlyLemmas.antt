@@ -1,4 +1,4 @@
--- What holds of every legal history holds one entry on.
+-- What holds of every legal history still holds after one more entry.
 use Rattle.std.proofs.Common.{◌≡◌, ◌≢◌, ℕ, zero, suc, ◌+◌, ◌*◌, ◌-◌, ◌<◌, ◌≤◌, true, false, List, [], ◌∷◌, ◌++◌, length, map, Option, Some, None, is_some, refl, sym, ap, ◌∙◌, arith, length-append, append-nil, subst, ◌==◌, inl, inr}
 use Rattle.std.proofs.lemmas.Bool.{cases_Bool}
 use Rattle.std.proofs.lemmas.Bool.Decides.{Decides-eqb}
@@ -33,12 +33,12 @@ use Rattle.gu_rules.proofs.StandingLemmas.{IsIdle, offers_of-push, stepped}
 use Rattle.gu_rules.proofs.Stepping.{standing_of-idle, standing_of-lines, standing_of-one, standing_of-opened}
 use Rattle.gu_rules.proofs.Takers.{TakesOne, apart, takes-others, takes-own}
 
--- an entry that reports nothing leaves the reports
+-- an entry that reports nothing leaves the reports unchanged
 pub reports_of-kept : (history : List Entry) (entry : Entry) → report_on (open_day history) entry ≡ None → reports_of (history ++ entry ∷ []) ≡ reports_of history
 reports_of-kept history entry none =
     reports_of-push history entry ∙ ap (λ (r : Option Report). reports_of history ++ option_to_list r) none ∙ append-nil (reports_of history)
 
--- a fact of each offer stays where one is changed to such that has it
+-- a property of each offer is kept when one is changed to another with it
 pub all-changed : (P : Row → Type 0) (rows : List Row) (n : ℕ) (row : Row) (change : Row → Row) → row_at rows n ≡ Some row → P (change row) → AllByRecursion P rows → AllByRecursion P (changed rows n change)
 all-changed P rows zero row change at has all = cc
 all-changed P rows (suc place) row change at has all = rw at (set rows place all)
@@ -48,7 +48,7 @@ all-changed P rows (suc place) row change at has all = rw at (set rows place all
     set (first ∷ rows) zero all = (has, all.1)
     set (first ∷ rows) (suc place) all = (all.0, set rows place all.1)
 
--- and holds of the one of a number
+-- and holds of the offer with a number
 pub all-at : (P : Row → Type 0) (rows : List Row) (n : ℕ) (row : Row) → row_at rows n ≡ Some row → AllByRecursion P rows → P row
 all-at P rows zero row at all = cc
 all-at P rows (suc place) row at all = go rows place at all
@@ -58,7 +58,7 @@ all-at P rows (suc place) row at all = go rows place at all
     go (first ∷ rows) zero at all = let same : first ≡ row = cc in subst P same all.0
     go (first ∷ rows) (suc place) at all = go rows place at all.1
 
--- the offer of a number stands as the history has it
+-- the offer with a number is as the history has it
 pub row-is : (history : List Entry) (n : ℕ) (row : Row) → row_at (standing_of history) n ≡ Some row → row ≡ standing history n row.offer
 row-is history zero row at = cc
 row-is history (suc place) row at = go 1 (offers_of history) place at ∙ ap (λ (m : ℕ). standing history m row.offer) (omega arith)
@@ -71,13 +71,13 @@ row-is history (suc place) row at = go 1 (offers_of history) place at ∙ ap (λ
         sym same ∙ (λ i. standing history m (offers_same i)) ∙ ap (λ (k : ℕ). standing history k row.offer) (omega arith)
     go m (offer ∷ offers) (suc place) at = go (m + 1) offers place at ∙ ap (λ (k : ℕ). standing history k row.offer) (omega arith)
 
--- of which no more was moved today than in all
+-- no more of it was moved today than in all
 pub today-le-moved : (history : List Entry) (n : ℕ) (row : Row) → IsBalanced history → row_at (standing_of history) n ≡ Some row → row.today ≤ row.moved
 today-le-moved history n row balanced at =
     let is = row-is history n row at in
     omega (arith, ap (λ (r : Row). r.today) is, ap (λ (r : Row). r.moved) is, balanced.within n)
 
--- and which is one of those that there are
+-- and it is one of the existing ones
 number-within : (history : List Entry) (n : ℕ) (row : Row) → row_at (standing_of history) n ≡ Some row → n ≤ length (offers_of history)
 number-within history zero row at = cc
 number-within history (suc place) row at = go 1 (offers_of history) place at
@@ -87,7 +87,7 @@ number-within history (suc place) row at = go 1 (offers_of history) place at
     go m (offer ∷ offers) zero at = omega arith
     go m (offer ∷ offers) (suc place) at = omega (arith, go (m + 1) offers place at)
 
--- all of it, by the reports and the offers as they are then
+-- everything, from the reports and the offers as they are then
 pub ordered : (history later : List Entry) (rows : List Row) → reports_of later ≡ reports_of history → standing_of later ≡ rows → IsBalanced later → IsNamed later
     → IsCovered (reports_of history) rows → AreFound (reports_of history) rows → AreWithin rows → AreOwn (reports_of history) → IsInOrder later
 ordered history later rows reports offers balanced named covered found within own = record {
@@ -106,7 +106,7 @@ few-kept history entry nothing few =
     ap {A = List Offer} length (offers_of-push history entry ∙ ap (λ (made : List Offer). offers_of history ++ made) nothing ∙ append-nil (offers_of history)) in
     omega (arith, same, few, length-append history (entry ∷ []))
 
--- an entry that reports nothing, makes no offer, opens no day and speaks of no offer
+-- an entry that reports nothing, makes no offer, opens no day and involves no offer
 pub ordered-idle : (history : List Entry) (entry : Entry) → IsInOrder history → report_on (open_day history) entry ≡ None → opened_day entry ≡ None → lines_by entry ≡ [] → IsIdle entry
     → IsInOrder (history ++ entry ∷ [])
 ordered-idle history entry o unreported none nothing idle =
@@ -130,7 +130,7 @@ ordered-opened history entry day o unreported opens nothing idle =
     all-next_day P keeps [] all = tt
     all-next_day P keeps (row ∷ rows) all = (keeps row all.0, all-next_day P keeps rows all.1)
 
--- an entry that changes one offer, of which lots aren't given back that weren't moved today
+-- an entry that changes one offer, and gives back only lots moved today
 ordered-one : (history : List Entry) (entry : Entry) (n : ℕ) (row : Row) (change : Row → Row) → IsInOrder history → report_on (open_day history) entry ≡ None → opened_day entry ≡ None → lines_by entry ≡ []
     → LeavesOthers entry n → row_at (standing_of history) n ≡ Some row → stepped entry n row ≡ change row
     → ((m : ℕ) → given_back_by m entry ≤ moved_of (entries_today history) m + taken_by m entry)
@@ -151,7 +151,7 @@ ordered-one history entry n row change o unreported none nothing others at is gi
 beyond-apart : (n m most : ℕ) → n ≤ most → most < m → m ≢ n
 beyond-apart n m most within beyond same = absurd (omega (arith, within, beyond, same))
 
--- an entry that takes of an offer that isn't closed, no more than is left
+-- an entry that takes from an offer that isn't closed, no more than is left
 pub ordered-taken : (history : List Entry) (entry : Entry) (n lots : ℕ) (row : Row) → TakesOne entry n lots → IsInOrder history → row_at (standing_of history) n ≡ Some row → row.is_shut ≡ false
     → row.moved + lots ≤ row.offer.lots → IsInOrder (history ++ entry ∷ [])
 ordered-taken history entry n lots row takes o at stands less =
@@ -207,7 +207,7 @@ ordered-taken_back history firm n row o at =
               omega (arith, none)
         ]
 
--- a give-up of a matched report that has lots free for the lines
+-- a give-up of a matched report with enough free lots
 pub ordered-lines : (history : List Entry) (entry : Entry) (report : Report) (group : Group) (lines : List Line) → IsInOrder history → report_on (open_day history) entry ≡ None → opened_day entry ≡ None
     → IsIdle entry
     → lines_by entry ≡ map (λ (l : Line). record { firm = report.firm; report = report.id; group = group; account = l.account; lots = l.lots }) lines
@@ -229,7 +229,7 @@ ordered-lines history entry report group lines o unreported none idle made there
     more P has [] (l ∷ ls) all = (has l, more P has [] ls all)
     more P has (row ∷ rows) ls all = (all.0, more P has rows ls all.1)
 
--- ---- the same, with few offers
+-- ---- the same, with the number of offers bounded
 
 pub orderly-idle : (history : List Entry) (entry : Entry) → IsOrderly history → report_on (open_day history) entry ≡ None → opened_day entry ≡ None → lines_by entry ≡ [] → IsIdle entry
     → IsOrderly (history ++ entry ∷ [])

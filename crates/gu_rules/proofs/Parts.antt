@@ -1,4 +1,4 @@
--- A sweep does what its takes do, one after another.
+-- A sweep has the same effect as its takes, one after another.
 use Rattle.std.proofs.Common.{◌≡◌, ℕ, ◌+◌, ◌<◌, ◌==◌, List, [], ◌∷◌, ◌++◌, length, sum_by, if◌then◌else◌, refl, sym, ap, ◌∙◌, arith, append-nil, append_assoc, subst, inl, inr}
 use Rattle.std.proofs.lemmas.Bool.{cases_Bool}
 use Rattle.std.proofs.lemmas.Bool.Decides.{Decides-eqb}
@@ -31,7 +31,7 @@ use Rattle.gu_rules.proofs.Today.{entries_today-kept}
 
 -- ---- all but what is taken
 
--- two histories that say the same of all but what is taken
+-- two histories agree on everything except what is taken
 pub record IsAlike (one two : List Entry) : Type 0 where
   pub day : open_day one ≡ open_day two
   pub reports : reports_of one ≡ reports_of two
@@ -54,7 +54,7 @@ alike-self history = record {
   shut = λ n. refl;
 }
 
--- what is like a second, which is like a third
+-- agreement is transitive
 alike-on : (one two three : List Entry) → IsAlike one two → IsAlike two three → IsAlike one three
 alike-on one two three a b = record {
   day = a.day ∙ b.day;
@@ -104,11 +104,11 @@ parts-alike sweep (take ∷ takes) history =
 
 -- ---- what is taken
 
--- the lots of all takes of an offer
+-- the lots that all takes take from an offer
 abbrev lots_in_takes : List Take → ℕ → ℕ
 lots_in_takes takes n = sum_by (λ (t : Take). if t.offer == n then t.lots else 0) takes
 
--- one take of it
+-- one take from it
 one-take : (sweep : SweepEntry) (take : Take) (n : ℕ) → taken_by n (part sweep take) ≡ (if take.offer == n then take.lots else 0)
 one-take sweep take n =
     elim (cases_Bool (take.offer == n)) [
@@ -127,14 +127,14 @@ parts-taken sweep (take ∷ takes) n =
       parts-taken sweep takes n,
     )
 
--- takes of later offers take none of it
+-- takes from later offers take none of it
 none-later : (takes : List Take) (n : ℕ) → AllByRecursion (λ (t : Take). n < t.offer) takes → lots_in_takes takes n ≡ 0
 none-later [] n later = refl
 none-later (take ∷ takes) n later =
     let miss : (if take.offer == n then take.lots else 0) ≡ 0 = rw (apart take.offer n (λ same. absurd (omega (arith, later.0, same)))) refl in
     omega (arith, sum_by-cons (λ (t : Take). if t.offer == n then t.lots else 0) take takes, miss, none-later takes n later.1)
 
--- where offers ascend, an offer has one take at most
+-- if offers ascend, an offer has at most one take
 pub lots_of-sum : (takes : List Take) (n : ℕ) → Later (λ (a b : Take). a.offer < b.offer) takes → lots_of takes n ≡ sum_by (λ (t : Take). if t.offer == n then t.lots else 0) takes
 lots_of-sum [] n later = refl
 lots_of-sum (take ∷ takes) n later =
@@ -161,14 +161,14 @@ parts-today sweep (take ∷ takes) history =
     ∙ ap (λ (h : List Entry). h ++ parts sweep takes) (entries_today-kept history (part sweep take) (part-takes sweep take).only.opens)
     ∙ append_assoc (entries_today history) (part sweep take ∷ []) (parts sweep takes)
 
--- ---- two histories that come to the same
+-- ---- two histories with the same result
 
 pub record ComeToSame (one two : List Entry) : Type 0 where
   pub alike : IsAlike one two
   pub taken : (n : ℕ) → sum_by (taken_by n) one ≡ sum_by (taken_by n) two
   pub taken_today : (n : ℕ) → sum_by (taken_by n) (entries_today one) ≡ sum_by (taken_by n) (entries_today two)
 
--- the takes of a sweep and the sweep do
+-- the takes of a sweep and the sweep agree
 pub parts-same : (history : List Entry) (sweep : SweepEntry) → IsAscending sweep.takes → ComeToSame (history ++ parts sweep sweep.takes) (history ++ Swept sweep ∷ [])
 parts-same history sweep ascending =
     let later = Later-from_AllPairs (λ (a b : Take). a.offer < b.offer) sweep.takes ascending in
@@ -196,7 +196,7 @@ parts-same history sweep ascending =
     }
 
 module _ (one two : List Entry) (same : ComeToSame one two) where
-  -- the same is moved of each offer
+  -- the same is moved from each offer
   moved : (n : ℕ) → moved_of one n ≡ moved_of two n
   moved n = omega (arith, same.taken n, same.alike.given n)
 
@@ -209,14 +209,14 @@ module _ (one two : List Entry) (same : ComeToSame one two) where
       let rest = standing_from-same (n + 1) offers in
       λ i. record { offer = offer; moved = moved n i; today = moved_today n i; is_shut = same.alike.shut n i } ∷ rest i
 
-  -- the offers stand as they do
+  -- the offers are the same
   pub standing_of-same : standing_of one ≡ standing_of two
   standing_of-same = standing_from-same 1 (offers_of one) ∙ ap (standing_from two 1) same.alike.offers
 
   count : length (offers_of two) ≡ length (offers_of one)
   count = ap {A = List Offer} length (sym same.alike.offers)
 
-  -- and what is in order is
+  -- if one is orderly, so is the other
   pub ordered-same : IsInOrder one → IsInOrder two
   ordered-same o =
       let reports = same.alike.reports in

@@ -18,7 +18,7 @@ use Rattle.gu_rules.specs.Reports.{open_day, opened_day, report_on}
 use Rattle.gu_rules.proofs.Growing.{last-kept}
 use Rattle.gu_rules.proofs.StandingLemmas.{either-false}
 
--- what one more entry leaves as it was, where it says nothing of it
+-- what one more entry leaves unchanged, if it doesn't affect it
 pub open_day-kept : (history : List Entry) (entry : Entry) → opened_day entry ≡ None → open_day (history ++ entry ∷ []) ≡ open_day history
 open_day-kept history entry none = last-kept opened_day history entry none
 
@@ -40,17 +40,17 @@ pub record IsQuiet (history : List Entry) (entry : Entry) : Type 0 where
   pub gives_up : (firm : FirmId) (id : Id) → gave_up firm id entry ≡ false
   pub sets : (group : Group) (key : LimitKey) → limit_set_by group key entry ≡ None
 
--- reports are taken in while a day is open
+-- reports are accepted while a day is open
 pub unreported : (entry : Entry) → ((day : Day) → report_on (Some day) entry ≡ None) → (today : Option Day) → report_on today entry ≡ None
 unreported entry none None = refl
 unreported entry none (Some day) = none day
 
--- a command that is refused is such an entry
+-- a refused command is such an entry
 pub denied-quiet : (history : List Entry) (command : Command) (why : Refusal) → IsQuiet history (Asked command (Denied why))
 denied-quiet history (OpenDay it) why = record { opens = refl; reports = unreported (Asked (OpenDay it) (Denied why)) (λ d. refl) (open_day history); gives_up = λ f i. refl; sets = λ g k. refl }
 denied-quiet history command why = record { opens = refl; reports = unreported (Asked command (Denied why)) (λ d. refl) (open_day history); gives_up = λ f i. refl; sets = λ g k. refl }
 
--- which makes no offers
+-- it makes no offers
 pub denied-lines : (command : Command) (why : Refusal) → lines_by (Asked command (Denied why)) ≡ []
 denied-lines (OpenDay it) why = refl
 denied-lines command why = refl

@@ -1,4 +1,4 @@
--- What one more report brings.
+-- The effect of one more report.
 use Rattle.std.proofs.Common.{◌≡◌, ℕ, ◌+◌, ◌≤◌, ◌&&◌, nat_le, Bool, true, false, List, [], ◌∷◌, ◌++◌, length, filter, sum_by, Option, Some, None, is_some, refl, sym, ap, ◌∙◌, arith, append-nil, length-append, if◌then◌else◌, inl, inr}
 use Rattle.std.specs.List.{find}
 use Rattle.std.specs.Option.{option_or}
@@ -21,7 +21,7 @@ use Rattle.gu_offers.specs.Rows.{Row}
 use Rattle.gu_rules.specs.Orderly.{AreFound}
 use Rattle.gu_rules.specs.Positions.{brought, is_from, is_on, moved_into, moved_out, report_after, traded}
 
--- the reports with a match id, one report on
+-- the reports with a match id, after one more report
 with_match-push : (match_id : Id) (reports : List Report) (r : Report) → with_match match_id (reports ++ r ∷ []) ≡ with_match match_id reports ++ (if same_id r.match_id match_id then r ∷ [] else [])
 with_match-push match_id reports r =
     filter-append (λ (q : Report). same_id q.match_id match_id) reports (r ∷ [])
@@ -30,12 +30,12 @@ with_match-push match_id reports r =
       | inr miss ↦ rw miss refl
     ]
 
--- a report of another match id is a side of a trade as before
+-- a report with another match id is a side of a trade if it was before
 other_trade : (reports : List Report) (r q : Report) → same_id q.match_id r.match_id ≡ false → is_of_trade (reports ++ r ∷ []) q ≡ is_of_trade reports q
 other_trade reports r q miss =
     ap (λ (with : List Report). nat_le 2 (length with)) (with_match-push q.match_id reports r ∙ rw (same_id-turned r.match_id q.match_id, miss) (append-nil (with_match q.match_id reports)))
 
--- one of the same match id, with those that had it before
+-- one with the same match id, together with those that had it before
 one_trade : (reports : List Report) (r q : Report) → same_id q.match_id r.match_id ≡ true → is_of_trade (reports ++ r ∷ []) q ≡ nat_le 2 (length (with_match r.match_id reports ++ r ∷ []))
 one_trade reports r q hit =
     let ids : q.match_id ≡ r.match_id = same_id-true q.match_id r.match_id hit in
@@ -82,7 +82,7 @@ brought-waiting reports side account symbol q is = rw is (by (same_side q.side s
     by true n = refl
     by false n = refl
 
--- a report that nobody waits for brings nothing
+-- a report for which none is waiting brings nothing
 pub traded-opened : (reports : List Report) (r : Report) (side : Side) (account : AccountId) (symbol : Symbol) → with_match r.match_id reports ≡ []
     → traded (reports ++ r ∷ []) side account symbol ≡ traded reports side account symbol
 traded-opened reports r side account symbol none =
@@ -104,7 +104,7 @@ traded-opened reports r side account symbol none =
       sum_by-cons (brought new side account symbol) r [],
     )
 
--- a sum over those that pass
+-- a sum over the elements that pass
 sum-filter : {X : Type 0} (test : X → Bool) (f : X → ℕ) (xs : List X) → sum_by f (filter test xs) ≡ sum_by (λ x. if test x then f x else 0) xs
 sum-filter test f [] = refl
 sum-filter {X} test f (x ∷ xs) =
@@ -114,7 +114,7 @@ sum-filter {X} test f (x ∷ xs) =
     by true = sum_by-cons f x (filter test xs)
     by false = omega arith
 
--- a report that is matched brings its lots, and those of the one that waited for it
+-- a matched report brings its lots and those of the waiting one
 pub traded-matched : (reports : List Report) (waiting r : Report) (side : Side) (account : AccountId) (symbol : Symbol) → with_match r.match_id reports ≡ waiting ∷ []
     → traded (reports ++ r ∷ []) side account symbol
     ≡ traded reports side account symbol + lots_at waiting.side waiting.account waiting.symbol waiting.lots side account symbol + lots_at r.side r.account r.symbol r.lots side account symbol
@@ -150,7 +150,7 @@ traded-matched reports waiting r side account symbol one =
       sum_by-cons (brought new side account symbol) r [],
     )
 
--- which stays the first of its firm and its id
+-- the report that an offer gives up is unchanged
 pub behind-push : (reports : List Report) (r : Report) (row : Row) → is_some (report_after reports row) ≡ true → report_after (reports ++ r ∷ []) row ≡ report_after reports row
 behind-push reports r row there =
     find-append (is_by row.offer.firm row.offer.report) reports (r ∷ []) ∙ by (report_after reports row) (find (is_by row.offer.firm row.offer.report) (r ∷ [])) there
@@ -159,7 +159,7 @@ behind-push reports r row there =
     by (Some q) b h = refl
     by None b h = cc
 
--- so that lots were moved as before
+-- so lots were moved as before
 pub held_in-reported : (reports : List Report) (rows : List Row) (r : Report) (side : Side) (account : AccountId) (symbol : Symbol) → AreFound reports rows
     → (moved_into (reports ++ r ∷ []) rows side account symbol ≡ moved_into reports rows side account symbol) × (moved_out (reports ++ r ∷ []) rows side account symbol ≡ moved_out reports rows side account symbol)
 held_in-reported reports [] r side account symbol found = (refl, refl)

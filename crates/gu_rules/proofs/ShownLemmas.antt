@@ -1,4 +1,4 @@
--- The offers of each group are few, and each was made by an agreement: what changes of the offers leave so.
+-- No group has more than 4,096 open offers, and each was made under an agreement: changes that preserve this.
 use Rattle.std.proofs.Common.{◌≡◌, ℕ, zero, suc, ◌+◌, ◌-◌, ◌<◌, ◌≤◌, Bool, true, false, cond, ◌&&◌, List, [], ◌∷◌, ◌++◌, length, map, Option, Some, None, is_some, refl, sym, ap, ◌∙◌, arith, subst, length-append, inl, inr}
 use Rattle.std.specs.Prelude.{slice_get, slice_set}
 use Rattle.std.specs.List.{AllByRecursion}
@@ -19,12 +19,12 @@ use Rattle.gu_offers.specs.Rows.{Row, is_open, is_open_in, left_of, numbers_from
 use Rattle.gu_rules.specs.Orderly.{AreAgreed, AreFew, IsShown}
 use Rattle.gu_rules.proofs.OrderlyLemmas.{all-at, all-changed}
 
--- a change leaves what an offer offers, and opens none that is closed
+-- a change keeps the offer itself, and opens no closed one
 pub record IsClosing (change : Row → Row) : Type 0 where
   pub same : (row : Row) → (change row).offer ≡ row.offer
   pub shuts : (row : Row) → is_open (change row) ≡ true → is_open row ≡ true
 
--- so that one that is changed is open in a group only where it was
+-- so a changed offer is open in a group only if it was before
 still-open : (change : Row → Row) → IsClosing change → (group : Group) (row : Row) → is_open_in group (change row) ≡ true → is_open_in group row ≡ true
 still-open change closing group row h = by (same_group (change row).offer.group group) (is_open (change row)) refl refl h
   where
@@ -37,7 +37,7 @@ counted : (b : Bool) (n : ℕ) (rest : List ℕ) → length (cond b (n ∷ rest)
 counted true n rest = omega arith
 counted false n rest = omega arith
 
--- fewer are open
+-- no more are open
 module _ (change : Row → Row) (closing : IsClosing change) (group : Group) where
   fewer : (n : ℕ) (rows : List Row) (place : ℕ) (row : Row) → slice_get rows place ≡ Some row → length (numbers_from n (slice_set rows place (change row)) group) ≤ length (numbers_from n rows group)
   fewer n [] place row at = omega arith
@@ -73,7 +73,7 @@ shown-changed reference rows (suc place) change closing shown = by (slice_get ro
         let few : AreFew (slice_set rows place (change row)) = λ group. omega (arith, fewer change closing group 1 rows place row e, shown.few group) in
         record { few = rw e few; agreed = agreed }
 
--- what is left of an offer of which lots are taken was left of it before
+-- after lots are taken from an offer, what is left was left before
 taken-closing : (lots : ℕ) → IsClosing (taken lots)
 taken-closing lots = record { same = λ row. refl; shuts = λ row h. by row row.is_shut refl (ltb-true 0 (left_of (taken lots row)) h) }
   where
@@ -84,7 +84,7 @@ taken-closing lots = record { same = λ row. refl; shuts = λ row h. by row row.
         let before : left_of row ≡ row.offer.lots - row.moved = rw e refl in
         lt-ltb 0 (left_of row) (omega (arith, some, after, before))
 
--- lots of an offer are taken: by a claim, or by a sweep
+-- lots are taken from an offer, by a claim or a sweep
 pub shown-taken : (reference : Tables) (rows : List Row) (n lots : ℕ) → IsShown reference rows → IsShown reference (changed rows n (taken lots))
 shown-taken reference rows n lots shown = shown-changed reference rows n (taken lots) (taken-closing lots) shown
 
@@ -114,17 +114,17 @@ at_most : (b : Bool) (n : ℕ) (rest : List ℕ) → length (cond b (n ∷ rest)
 at_most true n rest = omega arith
 at_most false n rest = omega arith
 
--- no more are open than there are
+-- no more are open than there are offers
 few_numbers : (n : ℕ) (rows : List Row) (group : Group) → length (numbers_from n rows group) ≤ length rows
 few_numbers n [] group = omega arith
 few_numbers n (r ∷ rows) group = omega (arith, at_most (is_open_in group r) n (numbers_from (n + 1) rows group), few_numbers (n + 1) rows group)
 
--- none of the lines is an offer of another group
+-- none of the lines is an offer in another group
 no_others : (n : ℕ) (firm : FirmId) (report : Id) (at : Group) (lines : List Line) (group : Group) → same_group at group ≡ false → length (numbers_from n (map (offered firm report at) lines) group) ≡ 0
 no_others n firm report at [] group other = refl
 no_others n firm report at (line ∷ lines) group other = rw other (no_others (n + 1) firm report at lines group other)
 
--- lines are given up, by agreements, where there is room for them
+-- lines are given up under agreements, with room for their offers
 pub shown-with_lines : (reference : Tables) (rows : List Row) (firm : FirmId) (report : Id) (at : Group) (lines : List Line)
     → AllByRecursion (λ (l : Line). is_some (agreement_between reference firm l.account) ≡ true) lines → open_count rows at + length lines ≤ 4096
     → IsShown reference rows → IsShown reference (with_lines rows firm report at lines)

@@ -1,4 +1,4 @@
--- Entries that speak of one offer, and those that speak of none.
+-- Entries that involve one offer, and entries that involve none.
 use Rattle.std.proofs.Common.{◌≡◌, ℕ, ◌+◌, ◌-◌, ◌||◌, Bool, true, false, refl, arith}
 use Rattle.gu_terms.specs.declared.alloc_reject.AllocReject.{AllocReject}
 use Rattle.gu_terms.specs.declared.command.Command.{Command}
@@ -16,26 +16,26 @@ use Rattle.gu_rules.proofs.Moved.{LeavesOthers}
 use Rattle.gu_rules.proofs.StandingLemmas.{IsIdle, stepped, stepped-still}
 use Rattle.gu_rules.proofs.Takers.{apart, same}
 
--- an entry of a refusal, and of a reversal
+-- the entry of a refusal, and of a reversal
 abbrev pub refused : FirmId → ℕ → AllocReject → ℕ → Entry
 refused firm n why lots = Asked (Refuse (record { firm = firm; offer = n; why = why })) (Accepted (Refused lots))
 
 abbrev pub taken_back : FirmId → ℕ → ℕ → Entry
 taken_back firm n lots = Asked (Reverse (record { firm = firm; offer = n })) (Accepted (Reversed lots))
 
--- each leaves the other offers
+-- each leaves the other offers unchanged
 pub refused-others : (firm : FirmId) (n : ℕ) (why : AllocReject) (lots : ℕ) → LeavesOthers (refused firm n why lots) n
 refused-others firm n why lots m differ row = stepped-still (refused firm n why lots) m row refl refl (apart n m differ)
 
 pub taken_back-others : (firm : FirmId) (n lots : ℕ) → LeavesOthers (taken_back firm n lots) n
 taken_back-others firm n lots m differ row = stepped-still (taken_back firm n lots) m row refl (rw (apart n m differ) refl) (apart n m differ)
 
--- either, by the second
+-- either, because of the second
 pub either-true : (b c : Bool) → c ≡ true → (b || c) ≡ true
 either-true true c h = refl
 either-true false c h = h
 
--- and does this to its own
+-- its effect on its own offer
 pub refused-own : (firm : FirmId) (n : ℕ) (why : AllocReject) (lots : ℕ) (row : Row) → stepped (refused firm n why lots) n row ≡ closed row
 refused-own firm n why lots row =
     let moved : row.moved + 0 - 0 ≡ row.moved = omega arith in
@@ -51,7 +51,7 @@ taken_back-own firm n row =
     let shut = either-true row.is_shut (closes n (taken_back firm n row.today)) (same n) in
     λ i. record { offer = row.offer; moved = moved i; today = today i; is_shut = shut i }
 
--- a command that is refused, an opening, a limit, a report and a give-up speak of no offer
+-- a refused command, an opening, a limit, a report and a give-up involve no offer
 idle : (entry : Entry) → ((n : ℕ) → taken_by n entry ≡ 0) → ((n : ℕ) → given_back_by n entry ≡ 0) → ((n : ℕ) → closes n entry ≡ false) → IsIdle entry
 idle entry takes gives shut = record { takes = takes; gives = gives; closed = shut }
 

@@ -1,4 +1,4 @@
--- What one more entry makes of the offers.
+-- The effect of one more entry on the offers.
 use Rattle.std.proofs.Common.{◌≡◌, ℕ, zero, suc, ◌+◌, ◌<◌, false, List, [], ◌∷◌, ◌++◌, length, map, sum_by, Some, None, refl, sym, ap, ◌∙◌, arith, append-nil, subst}
 use Rattle.std.specs.Prelude.{slice_get, slice_set}
 use Rattle.std.proofs.lemmas.List.Sums.{sum_by_push}
@@ -18,7 +18,7 @@ use Rattle.gu_rules.proofs.Moved.{LeavesOthers, behind}
 use Rattle.gu_rules.proofs.StandingLemmas.{IsIdle, is_shut-push, moved_of-push, offers_of-push, standing_of-push, either-false, stepped, stepped_from, stepped_from-idle}
 use Rattle.gu_rules.proofs.Today.{entries_today-kept, entries_today-new}
 
--- where one offer changes, it is put in its place
+-- if one offer changes, it is replaced in its place
 one_is_set : (entry : Entry) (m : ℕ) (rows : List Row) (place : ℕ) (row : Row) → LeavesOthers entry (m + place) → slice_get rows place ≡ Some row
     → stepped_from entry m rows ≡ slice_set rows place (stepped entry (m + place) row)
 one_is_set entry m [] place row others at = cc
@@ -82,7 +82,7 @@ all_fresh history entry n firm report group (line ∷ lines) none idle named bey
     let others = all_fresh history entry (n + 1) firm report group lines none idle named (omega (arith, beyond)) in
     λ i. one i ∷ others i
 
--- an entry that makes offers of lines and changes none that were there
+-- an entry that makes offers from lines and changes no existing one
 pub standing_of-lines : (history : List Entry) (entry : Entry) (firm : FirmId) (report : Id) (group : Group) (lines : List Line) → opened_day entry ≡ None → IsIdle entry
     → lines_by entry ≡ map (λ (l : Line). record { firm = firm; report = report; group = group; account = l.account; lots = l.lots }) lines
     → IsBalanced history → IsNamed history
@@ -94,7 +94,7 @@ standing_of-lines history entry firm report group lines none idle made balanced 
     ∙ ap (λ (offers : List Offer). standing_of history ++ standing_from (history ++ entry ∷ []) (1 + length (offers_of history)) offers) made
     ∙ ap (λ (rows : List Row). standing_of history ++ rows) (all_fresh history entry (1 + length (offers_of history)) firm report group lines none idle named beyond)
 
--- an offer as a day is opened
+-- an offer after a day is opened
 opened : (history : List Entry) (entry : Entry) (n : ℕ) (offer : Offer) (day : Day) → opened_day entry ≡ Some day → IsIdle entry → IsBalanced history
     → standing (history ++ entry ∷ []) n offer ≡ next_day (standing history n offer)
 opened history entry n offer day opens idle balanced =
@@ -111,7 +111,7 @@ all_opened history entry n (offer ∷ offers) day opens idle balanced =
     let others = all_opened history entry (n + 1) offers day opens idle balanced in
     λ i. one i ∷ others i
 
--- all offers as a day is opened
+-- all offers after a day is opened
 pub standing_of-opened : (history : List Entry) (entry : Entry) (day : Day) → opened_day entry ≡ Some day → lines_by entry ≡ [] → IsIdle entry → IsBalanced history
     → standing_of (history ++ entry ∷ []) ≡ map next_day (standing_of history)
 standing_of-opened history entry day opens nothing idle balanced =

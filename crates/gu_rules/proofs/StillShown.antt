@@ -1,4 +1,4 @@
--- Behind an accepted command the offers of each group are few, and each was made by an agreement.
+-- After an accepted command no group has more than 4,096 open offers, and each offer was made under an agreement.
 use Rattle.std.proofs.Common.{◌≡◌, ℕ, ◌+◌, ◌++◌, true, List, [], ◌∷◌, length, is_some, refl, sym, subst}
 use Rattle.std.specs.List.{AllByRecursion}
 use Rattle.gu_terms.specs.declared.command.Command.{Command}

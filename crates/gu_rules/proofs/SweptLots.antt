@@ -1,4 +1,4 @@
--- The lots that a legal history swept are few: each sweep takes of 4,096 offers at most, and of each no more than it has.
+-- The lots swept in a legal history are bounded: each sweep takes from at most 4,096 offers, and from each no more than it has.
 use Rattle.std.proofs.Common.{◌≡◌, ℕ, zero, suc, ◌+◌, ◌-◌, ◌*◌, ◌≤◌, ◌<◌, ◌++◌, Bool, true, false, List, [], ◌∷◌, length, slice_get, take, Option, Some, None, if◌then◌else◌, refl, sym, ap, ◌∙◌, arith, length-append, subst}
 use Rattle.std.specs.List.{AllByRecursion}
 use Rattle.std.specs.Option.{option_and_then, option_map}
@@ -27,7 +27,7 @@ use Rattle.gu_rules.proofs.Onward.{each_legal}
 use Rattle.gu_rules.proofs.StandingLemmas.{offers_of-push}
 use Rattle.gu_rules.proofs.ViewLemmas.{each-given, few-given, offers-are}
 
--- the lots that the first entries swept, and those that the next one did
+-- the lots that the first entries swept, and those of the next
 pub next-swept : (history : List Entry) (place lots : ℕ) → option_map swept_by (slice_get history place) ≡ Some lots → lots_swept (take (place + 1) history) ≡ lots_swept (take place history) + lots
 next-swept history place lots is = let next : place + 1 ≡ suc place = omega arith in ap (λ n. lots_swept (take n history)) next ∙ by history place is
   where
@@ -36,11 +36,11 @@ next-swept history place lots is = let next : place + 1 ≡ suc place = omega ar
     by (entry ∷ later) zero e = let own : swept_by entry ≡ lots = cc in omega (arith, sum_by-cons swept_by entry [], own)
     by (entry ∷ later) (suc at) e = omega (arith, by later at e, sum_by-cons swept_by entry (take (suc at) later), sum_by-cons swept_by entry (take at later))
 
--- no offer has more than 1,000,000 lots, as none that is made has. (The lists of the definitions have no such bound.)
+-- no offer has more than 1,000,000 lots, since none is made with more. (The lists in the definitions have no such bound.)
 abbrev pub AreSmall : List Offer → Type 0
 AreSmall offers = AllByRecursion (λ (o : Offer). o.lots ≤ 1000000) offers
 
--- nor have they as they stand
+-- nor has any as it is now
 abbrev AreSmallRows : List Row → Type 0
 AreSmallRows rows = AllByRecursion (λ (r : Row). r.offer.lots ≤ 1000000) rows
 
@@ -56,7 +56,7 @@ offers-small history n (offer ∷ offers) sound = (sound.0.lots.most, offers-sma
 pub sound-small : (history : List Entry) → AllByRecursion IsSound (standing_of history) → AreSmall (offers_of history)
 sound-small history sound = offers-small history 1 (offers_of history) sound
 
--- of the first offers, where more were made
+-- the first offers, if more were made
 first-small : (offers more : List Offer) → AreSmall (offers ++ more) → AreSmall offers
 first-small [] more small = tt
 first-small (offer ∷ offers) more small = (small.0, first-small offers more small.1)
@@ -87,7 +87,7 @@ shown-small reference rows small (suc place) o is = by (slice_get rows place) re
     by None e h = cc
     by (Some row) e h = of row (all-at (λ (r : Row). r.offer.lots ≤ 1000000) rows place row small e) (agreement_between reference row.offer.firm row.offer.account) h
 
--- of small offers so many lots may be taken
+-- the lots that may be taken from small offers
 total-small : (lots : ℕ → ℕ) (offers : List ShownOffer) → AllByRecursion (λ (o : ShownOffer). lots o.number ≤ o.lots) offers → AllByRecursion (λ (o : ShownOffer). o.lots ≤ 1000000) offers
     → total offers lots ≤ 1000000 * length offers
 total-small lots [] taken small = omega arith
@@ -115,12 +115,12 @@ entry-small : (reference : Tables) (before : List Entry) (entry : Entry) → IsO
 entry-small reference before (Asked command reply) ordered small may = omega arith
 entry-small reference before (Swept sweep) ordered small may = sweep-small reference before sweep ordered small may
 
--- an ordered history, which swept few lots where its offers are small
+-- an orderly history with small offers sweeps at most that many lots
 record SweepsFew (reference : Tables) (history : List Entry) : Type 0 where
   ordered : IsOrdered reference history
   few : AreSmall (offers_of history) → lots_swept history ≤ 4096000000 * length history
 
--- a legal history of small offers sweeps at most 4,096,000,000 lots an entry
+-- a legal history of small offers sweeps at most 4,096,000,000 lots for each entry
 pub few-swept : (reference : Tables) (history : List Entry) → IsLegal reference history → AreSmall (offers_of history) → lots_swept history ≤ 4096000000 * length history
 few-swept reference history legal small = (each_legal reference (SweepsFew reference) (record { ordered = none-ordered reference; few = λ none. omega arith }) next history legal).few small
   where

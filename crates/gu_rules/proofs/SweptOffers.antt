@@ -1,4 +1,4 @@
--- What a sweep of a group's view takes is left, and there is room for it.
+-- What a sweep of a group's view takes is left.
 use Rattle.std.proofs.Common.{◌≡◌, ℕ, zero, suc, ◌+◌, ◌<◌, ◌≤◌, ◌==◌, Bool, true, false, cond, List, [], ◌∷◌, sum_by, slice_get, Option, Some, None, refl, sym, ap, ◌∙◌, arith, subst, inl, inr}
 use Rattle.std.specs.List.{AllByRecursion, cons_option, filter_map, list_any}
 use Rattle.std.specs.Option.{option_and_then, option_map}
@@ -27,9 +27,9 @@ use Rattle.gu_rules.specs.Views.{group_view, offers_shown, shown}
 use Rattle.gu_rules.proofs.ViewLemmas.{shown-numbers}
 use Rattle.gu_rules.proofs.Takers.{apart, same}
 
--- ---- what a view shows stands
+-- ---- what a view shows exists
 
--- an offer of a view stands for an open offer of its group
+-- an offer of a view represents an open offer of its group
 pub record Stands (reference : Tables) (rows : List Row) (group : Group) (o : ViewOffer) : Type 0 where
   pub row : Row
   pub at : row_at rows o.number ≡ Some row
@@ -55,7 +55,7 @@ open-at rows group m (r ∷ rest) at =
         ((r, subst (λ (n : ℕ). row_at rows n ≡ Some r) here (at zero r refl), e), more)
     by false e more = more
 
--- what is shown of it stands
+-- what is shown of it exists
 shown-stands : (reference : Tables) (rows : List Row) (group : Group) (n : ℕ) (o : ViewOffer) → OpenAt rows group n → option_and_then (shown reference) (open_offer_at rows n) ≡ Some o → Stands reference rows group o
 shown-stands reference rows group n o open_ is = by (agreement_between reference row.offer.firm row.offer.account) (rw open_.1 at is)
   where
@@ -89,7 +89,7 @@ all-shown reference rows group (n ∷ numbers) all = by (option_and_then (shown 
     by None e more = more
     by (Some o) e more = (shown-stands reference rows group n o all.0 e, more)
 
--- all that a view shows stands
+-- everything that a view shows exists
 pub offers-stand : (reference : Tables) (history : List Entry) (group : Group) → AllByRecursion (Stands reference (standing_of history) group) (offers_shown reference history group)
 offers-stand reference history group =
     let rows = standing_of history in
@@ -98,7 +98,7 @@ offers-stand reference history group =
 
 -- ---- lots
 
--- what holds of each offer holds of the one of a number
+-- a property of each offer holds of the one with a number
 named : (P : ViewOffer → Type 0) (offers : List ViewOffer) (n : ℕ) → list_any (λ (o : ViewOffer). o.number == n) offers ≡ true → AllByRecursion P offers → (o : ViewOffer) × (offer_of offers n ≡ Some o) × (o.number ≡ n) × P o
 named P [] n has all = cc
 named P (o ∷ offers) n has all =
@@ -107,7 +107,7 @@ named P (o ∷ offers) n has all =
       | inr miss ↦ rw miss (named P offers n (sym (rw miss refl) ∙ has) all.1)
     ]
 
--- where offers ascend, each take has the lots that are taken of its offer
+-- if offers ascend, each take has the lots taken from its offer
 own-lots : (takes : List Take) → Later (λ (a b : Take). a.offer < b.offer) takes → AllByRecursion (λ (t : Take). lots_of takes t.offer ≡ t.lots) takes
 own-lots [] later = tt
 own-lots (take ∷ takes) later =
@@ -118,7 +118,7 @@ own-lots (take ∷ takes) later =
           later.0 (own-lots takes later.1),
     )
 
--- a take is of an open offer, which has its lots left
+-- a take is from an open offer with its lots left
 pub record TakesLeft (reference : Tables) (rows : List Row) (group : Group) (offers : List ViewOffer) (t : Take) : Type 0 where
   pub o : ViewOffer
   pub found : offer_of offers t.offer ≡ Some o
@@ -134,7 +134,7 @@ among (o ∷ offers) = (
   along (λ (p : ViewOffer). (f : ViewOffer → ℕ) → f p ≤ sum_by f offers) (λ (p : ViewOffer). (f : ViewOffer → ℕ) → f p ≤ sum_by f (o ∷ offers)) offers (λ p h f. omega (arith, h f, sum_by-cons f o offers)) (among offers),
 )
 
--- so is each of a sweep
+-- so is each take of a sweep
 pub all-left : (reference : Tables) (history : List Entry) (sweep : SweepEntry) → IsSweepOf (group_view reference history sweep.group) sweep
     → AllByRecursion (TakesLeft reference (standing_of history) sweep.group (offers_shown reference history sweep.group)) sweep.takes
 all-left reference history sweep right =

@@ -28,11 +28,11 @@ use Rattle.gu_rules.specs.Views.{group_view, offers_shown}
 use Rattle.gu_rules.proofs.Parts.{lots_of-sum}
 use Rattle.gu_rules.proofs.SweptOffers.{TakesLeft}
 
--- the lots that a take uses under a key, of an offer
+-- the lots that a take from an offer uses under a key
 abbrev pub used_of : LimitKey → Take → ViewOffer → ℕ
 used_of key t o = if t.offer == o.number then (if has_key o.path key then t.lots else 0) else 0
 
--- the lots that are taken of an offer, where it comes under the key, are those of all takes of it
+-- the lots taken from an offer to which the key applies are those of all takes from it
 used-offer : (takes : List Take) (key : LimitKey) (o : ViewOffer) → Later (λ (a b : Take). a.offer < b.offer) takes
     → sum_by (λ (t : Take). used_of key t o) takes ≡ (if has_key o.path key then lots_of takes o.number else 0)
 used-offer takes key o later =
@@ -52,7 +52,7 @@ used-offer takes key o later =
         either false = refl
 
 module _ (reference : Tables) (rows : List Row) (group : Group) (offers : List ViewOffer) (at : Group) (key : LimitKey) where
-  -- the lots that a take uses, by its offer's row
+  -- the lots that a take uses, from its offer's row
   abbrev pub used_by : Take → ℕ
   used_by t = option_map_or (λ (r : Row). lots_charged r.offer.group (path_after reference r.offer) t.lots at key) (row_at rows t.offer) 0
 
@@ -64,7 +64,7 @@ module _ (reference : Tables) (rows : List Row) (group : Group) (offers : List V
       let apart_ : same_group at s.row.offer.group ≡ false = ap (same_group at) s.own ∙ other in
       rw (here, apart_) refl
 
-  -- in its own it uses its lots where its offer's path has the key
+  -- in its own group it uses its lots if its offer's path has the key
   here-used : (t : Take) → TakesLeft reference rows group offers t → used_by t ≤ sum_by (used_of key t) offers
   here-used t takes =
       let s = takes.stands in
@@ -92,7 +92,7 @@ module _ (reference : Tables) (rows : List Row) (group : Group) (offers : List V
   none-used [] other left = refl
   none-used (t ∷ takes) other left = omega (arith, sum_by-cons used_by t takes, elsewhere other t left.0, none-used takes other left.1)
 
--- what holds of each key holds of one of them
+-- a property of each key holds of one of them
 keyed : (P : LimitKey → Type 0) (keys : List LimitKey) (key : LimitKey) → has_key keys key ≡ true → AllByRecursion P keys → P key
 keyed P [] key has all = cc
 keyed P (k ∷ keys) key has all =
@@ -101,7 +101,7 @@ keyed P (k ∷ keys) key has all =
       | inr miss ↦ keyed P keys key (sym (rw miss refl) ∙ has) all.1
     ]
 
--- a view counts no more under a key than its room
+-- a view counts at most its room under a key
 pub under-room : (reference : Tables) (history : List Entry) (group : Group) (key : LimitKey) (lots : ℕ → ℕ) → IsAdmissible (group_view reference history group) lots
     → lots_under (offers_shown reference history group) key lots ≤ room_of reference history group key
 under-room reference history group key lots within =

@@ -1,4 +1,4 @@
--- Entries that take lots of offers, and do nothing else.
+-- Entries that take lots from offers, and do nothing else.
 use Rattle.std.proofs.Common.{◌≡◌, ◌≢◌, ℕ, ◌+◌, ◌-◌, ◌==◌, ◌||◌, true, false, [], ◌∷◌, Option, Some, None, refl, sym, arith, inl, inr}
 use Rattle.std.proofs.lemmas.Bool.{cases_Bool}
 use Rattle.std.proofs.lemmas.Bool.Decides.{Decides-eqb}
@@ -23,7 +23,7 @@ use Rattle.gu_rules.specs.Reports.{opened_day, report_on}
 use Rattle.gu_rules.proofs.Moved.{LeavesOthers}
 use Rattle.gu_rules.proofs.StandingLemmas.{either-false, stepped, stepped-still}
 
--- a number isn't another
+-- a number differs from another
 pub apart : (n m : ℕ) → m ≢ n → (n == m) ≡ false
 apart n m differ =
     elim (cases_Bool (n == m)) [
@@ -31,7 +31,7 @@ apart n m differ =
       | inr miss ↦ miss
     ]
 
--- and is itself
+-- and equals itself
 pub same : (n : ℕ) → (n == n) ≡ true
 same n = (Decides-eqb n n).1 refl
 
@@ -45,7 +45,7 @@ pub record OnlyTakes (entry : Entry) : Type 0 where
   pub gives_up : (firm : FirmId) (id : Id) → gave_up firm id entry ≡ false
   pub sets : (group : Group) (key : LimitKey) → limit_set_by group key entry ≡ None
 
--- it takes so many lots of one offer
+-- it takes this many lots from one offer
 pub record TakesOne (entry : Entry) (n lots : ℕ) : Type 0 where
   pub only : OnlyTakes entry
   pub own : taken_by n entry ≡ lots
@@ -55,7 +55,7 @@ pub record TakesOne (entry : Entry) (n lots : ℕ) : Type 0 where
 abbrev pub claimed : FirmId → ℕ → ℕ → Entry
 claimed firm n lots = Asked (Claim (record { firm = firm; offer = n })) (Accepted (Claimed lots))
 
--- takes of its offer
+-- takes from its offer
 pub claim-takes : (firm : FirmId) (n lots : ℕ) → TakesOne (claimed firm n lots) n lots
 claim-takes firm n lots = record {
   only = record {
@@ -91,7 +91,7 @@ sweep-takes sweep = record {
     unreported None = refl
     unreported (Some day) = refl
 
--- one take of a sweep takes of its offer
+-- one take of a sweep takes from its offer
 pub part-takes : (sweep : SweepEntry) (take : Take) → TakesOne (part sweep take) take.offer take.lots
 part-takes sweep take = record {
   only = sweep-takes (record { group = sweep.group; takes = take ∷ []; cut = sweep.cut; lots = take.lots });
@@ -99,11 +99,11 @@ part-takes sweep take = record {
   others = λ m differ. rw (apart take.offer m differ) refl;
 }
 
--- such an entry leaves the other offers
+-- such an entry leaves the other offers unchanged
 pub takes-others : (entry : Entry) (n lots : ℕ) → TakesOne entry n lots → LeavesOthers entry n
 takes-others entry n lots takes m differ row = stepped-still entry m row (takes.others m differ) (takes.only.gives m) (takes.only.closed m)
 
--- and takes of its own
+-- and takes from its own
 pub takes-own : (entry : Entry) (n lots : ℕ) (row : Row) → TakesOne entry n lots → stepped entry n row ≡ taken lots row
 takes-own entry n lots row takes =
     let moved : row.moved + taken_by n entry - given_back_by n entry ≡ row.moved + lots = omega (arith, takes.own, takes.only.gives n) in

@@ -1,4 +1,4 @@
--- The entries of today, one entry on.
+-- Today's entries, after one more entry.
 use Rattle.std.proofs.Common.{◌≡◌, ℕ, ◌+◌, ◌-◌, Bool, true, false, not, List, [], ◌∷◌, ◌++◌, length, drop, Option, Some, None, is_some, ap, ◌∙◌, arith, length-append, if◌then◌else◌}
 use Rattle.std.specs.List.{after_last, prefix_len, suffix_len}
 use Rattle.std.proofs.lemmas.List.{drop-append-le, reverse-append}
@@ -11,7 +11,7 @@ use Rattle.gu_rules.specs.Reports.{entries_today, opened_day}
 suffix_len-push : {X : Type 0} (p : X → Bool) (xs : List X) (x : X) → suffix_len p (xs ++ x ∷ []) ≡ (if p x then 1 + suffix_len p xs else 0)
 suffix_len-push p xs x = ap (prefix_len p) (reverse-append xs (x ∷ []))
 
--- after an item that doesn't pass, what stood after the last that did goes on
+-- after an item that doesn't pass, the items after the last that did continue
 after_last-kept : {X : Type 0} (p : X → Bool) (xs : List X) (x : X) → p x ≡ false → after_last p (xs ++ x ∷ []) ≡ after_last p xs ++ x ∷ []
 after_last-kept {X} p xs x fails =
     let q : X → Bool = λ y. not (p y) in
@@ -20,7 +20,7 @@ after_last-kept {X} p xs x fails =
     rw (suffix_len-push q xs x, passes) (omega (arith, length-append xs (x ∷ []))) in
     ap (λ (n : ℕ). drop n (xs ++ x ∷ [])) size ∙ drop-append-le (length xs - suffix_len q xs) xs (x ∷ []) (omega arith)
 
--- after one that passes, nothing stands after it
+-- after one that passes, there are none
 after_last-new : {X : Type 0} (p : X → Bool) (xs : List X) (x : X) → p x ≡ true → after_last p (xs ++ x ∷ []) ≡ []
 after_last-new {X} p xs x passes =
     let q : X → Bool = λ y. not (p y) in
@@ -33,6 +33,6 @@ after_last-new {X} p xs x passes =
 pub entries_today-kept : (history : List Entry) (entry : Entry) → opened_day entry ≡ None → entries_today (history ++ entry ∷ []) ≡ entries_today history ++ entry ∷ []
 entries_today-kept history entry none = after_last-kept (λ e. is_some (opened_day e)) history entry (ap (λ (d : Option Day). is_some d) none)
 
--- an opening has no entries after it
+-- there are no entries after an opening
 pub entries_today-new : (history : List Entry) (entry : Entry) (day : Day) → opened_day entry ≡ Some day → entries_today (history ++ entry ∷ []) ≡ []
 entries_today-new history entry day opens = after_last-new (λ e. is_some (opened_day e)) history entry (ap (λ (d : Option Day). is_some d) opens)

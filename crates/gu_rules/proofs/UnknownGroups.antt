@@ -1,4 +1,4 @@
--- A group that the reference doesn't have has no limits.
+-- A group that the reference lacks has no limits.
 use Rattle.std.proofs.Common.{◌≡◌, ℕ, ◌&&◌, not, Bool, true, false, List, [], ◌∷◌, take, slice_get, zero, suc, Option, Some, None, inl, inr, refl, sym, ap, subst}
 use Rattle.std.specs.List.{filter_map, last_or}
 use Rattle.std.proofs.lemmas.Bool.{cases_Bool}
@@ -25,13 +25,13 @@ known : (a b : Bool) → not (a && b) ≡ false → a ≡ true
 known true b h = refl
 known false b h = cc
 
--- a limit that is accepted is of a known group
+-- an accepted limit is for a known group
 limit_group : (reference : Tables) (before : List Entry) (it : SetLimitOf) → MayFollow reference before (Asked (SetLimit it) (Accepted LimitSet)) → is_group reference it.group ≡ true
 limit_group reference before it may =
     known (is_group reference it.group) (is_known_key reference it.key)
     (none_stands (limit_tests reference it.group it.key it.lots) LimitSet LimitSet (sym may) 0 (not (is_group reference it.group && is_known_key reference it.key)) UnknownKey refl)
 
--- so that no entry sets one for an unknown group
+-- so no entry sets one for an unknown group
 sets_nothing : (reference : Tables) (before : List Entry) (group : Group) (key : LimitKey) (entry : Entry) → is_group reference group ≡ false → MayFollow reference before entry
     → limit_set_by group key entry ≡ None
 sets_nothing reference before group key (Asked (SetLimit it) (Accepted LimitSet)) unknown may =

@@ -9,7 +9,7 @@ use Rattle.gu_terms.specs.declared.entry.Entry.{Entry}
 use Rattle.gu_terms.specs.declared.group.Group.{Group}
 use Rattle.gu_rules.specs.Versions.{touches, touching, touching_after, version_of}
 
--- the touches of entries one after another
+-- the touches of consecutive entries
 pub touching_after-append : (before first later : List Entry) (group : Group)
     → touching_after before group (first ++ later) ≡ touching_after before group first ++ touching_after (before ++ first) group later
 touching_after-append before [] later group = ap (λ (b : List Entry). touching_after b group later) (sym (append-nil before))
@@ -20,7 +20,7 @@ touching_after-append before (entry ∷ first) later group =
     ∙ sym (append_assoc here rest (touching_after (before ++ entry ∷ [] ++ first) group later))
     ∙ ap (λ (b : List Entry). here ++ rest ++ touching_after b group later) (append_assoc before (entry ∷ []) first)
 
--- entries that come later add their touches after those that were there
+-- later entries add their touches after the earlier ones
 pub touching-append : (first later : List Entry) (group : Group) → touching (first ++ later) group ≡ touching first group ++ touching_after first group later
 touching-append first later group = touching_after-append [] first later group
 
@@ -51,11 +51,11 @@ version-le history group = few_touches [] history group
 
 -- ---- equal versions
 
--- none of these entries touches the group, where others came before them
+-- none of these entries touches the group, after these earlier ones
 abbrev AreQuiet : List Entry → Group → List Entry → Type 0
 AreQuiet before group later = (m : ℕ) (entry : Entry) → slice_get later m ≡ Some entry → touches (before ++ take m later) group entry ≡ false
 
--- what holds of the first of them and of those after it
+-- this holds for the first of them and for those after it
 quiet_first : (before : List Entry) (group : Group) (first : Entry) (later : List Entry) → AreQuiet before group (first ∷ later) → touches before group first ≡ false
 quiet_first before group first later quiet = ap (λ (b : List Entry). touches b group first) (sym (append-nil before)) ∙ quiet 0 first refl
 
@@ -67,7 +67,7 @@ none_counted : (b : Bool) (n : ℕ) (rest : List ℕ) → length (option_to_list
 none_counted true n rest h = absurd (omega (arith, h))
 none_counted false n rest h = (refl, h)
 
--- no touch is counted exactly where no entry touches
+-- the count of touches is 0 if and only if no entry touches
 quiet_none : (before : List Entry) (group : Group) (later : List Entry) → AreQuiet before group later → length (touching_after before group later) ≡ 0
 quiet_none before group [] quiet = refl
 quiet_none before group (entry ∷ later) quiet =
@@ -85,7 +85,7 @@ none_quiet before group (first ∷ later) none (suc m) entry at =
     ap (λ (b : List Entry). touches b group entry) (sym (append_assoc before (first ∷ []) (take m later)))
     ∙ none_quiet (before ++ first ∷ []) group later rest m entry at
 
--- the version after all entries: that after the first ones, and the touches of the others
+-- the version after all entries is that after the first ones plus the touches of the others
 version_at : (history : List Entry) (k : ℕ) (group : Group)
     → version_of history group ≡ version_of (take k history) group + length (touching_after (take k history) group (drop k history))
 version_at history k group =
@@ -93,7 +93,7 @@ version_at history k group =
     ∙ ap (λ (l : List ℕ). length l) (touching-append (take k history) (drop k history) group)
     ∙ length-append (touching (take k history) group) (touching_after (take k history) group (drop k history))
 
--- an entry after the first ones stands among the others
+-- an entry after the first ones is among the others
 behind : (history : List Entry) (k m : ℕ) (entry : Entry) → slice_get (drop k history) m ≡ Some entry → slice_get history (k + m) ≡ Some entry
 behind history k m entry at =
     let inside = slice_get_within (drop k history) m entry at in
@@ -108,7 +108,7 @@ among history k m entry at =
     let within : m < length (drop k history) = omega (arith, inside, length-drop k history) in
     slice_get-get_or (drop k history) m entry within ∙ ap (λ (e : Entry). Some e) here
 
--- versions at two moments of one history are equal exactly where no entry between touches the group
+-- versions at two moments of one history are equal if and only if no entry between touches the group
 pub equal_versions : (history : List Entry) (k : ℕ) (group : Group) → (version_of (take k history) group ≡ version_of history group)
     ↔ ((m : ℕ) (entry : Entry) → k ≤ m → slice_get history m ≡ Some entry → touches (take m history) group entry ≡ false)
 equal_versions history k group = (forth, back)

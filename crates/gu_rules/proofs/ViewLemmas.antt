@@ -30,7 +30,7 @@ use Rattle.gu_rules.specs.Limits.{path_after}
 use Rattle.gu_rules.specs.Views.{offers_in, shown, shown_at}
 use Rattle.gu_rules.proofs.AgreementPaths.{goes_through, path-there}
 
--- what is shown of open offers is shown of their numbers
+-- what is shown of open offers is shown for their numbers
 pub shown-numbers : {X Y Z : Type 0} (f : X → Option Y) (g : Y → Option Z) (xs : List X) → filter_map g (filter_map f xs) ≡ filter_map (λ x. option_and_then g (f x)) xs
 shown-numbers f g [] = refl
 shown-numbers {Y = Y} {Z = Z} f g (x ∷ xs) = by (f x) (shown-numbers f g xs)
@@ -45,7 +45,7 @@ offers-are reference rows group = shown-numbers (open_offer_at rows) (shown refe
 
 -- ---- each offer
 
--- what a view shows of the offer of a number: its number, what is left of it, and the path of its agreement
+-- what a view shows of the offer with a number: its number, what is left of it, and the path of its agreement
 pub record ShowsOffer (reference : Tables) (rows : List Row) (number : ℕ) (o : ViewOffer) : Type 0 where
   pub own : o.number ≡ number
   pub lots : o.lots ≡ left_in rows number
@@ -80,7 +80,7 @@ shows_offer reference sound rows number o is = by (row_at rows number) refl is
     by None e h = cc
     by (Some row) e h = of row e (agreement_between reference row.offer.firm row.offer.account) refl h
 
--- what holds of each that is given
+-- a property of each element given
 pub each-given : {X Y : Type 0} (P : Y → Type 0) (f : X → Option Y) (xs : List X) → ((x : X) (y : Y) → f x ≡ Some y → P y) → AllByRecursion P (filter_map f xs)
 each-given P f [] h = tt
 each-given {Y = Y} P f (x ∷ xs) h = by (f x) refl (each-given P f xs h)
@@ -99,7 +99,7 @@ few-given {Y = Y} f (x ∷ xs) = by (f x) (few-given f xs)
 
 -- ---- numbers and lots
 
--- what holds of the open ones at their places holds of their numbers
+-- a property of the open offers at their indexes is one of their numbers
 each_open : (P : ℕ → Type 0) (group : Group) (n : ℕ) (rows : List Row) → ((place : ℕ) (row : Row) → slice_get rows place ≡ Some row → is_open_in group row ≡ true → P (n + place))
     → AllByRecursion P (numbers_from n rows group)
 each_open P group n [] h = tt
@@ -111,7 +111,7 @@ each_open P group n (first ∷ rows) h =
     by true e rest = let here : n + 0 ≡ n = omega arith in (subst P here (h 0 first refl e), rest)
     by false e rest = rest
 
--- of an open offer there are lots left, and no more than it has
+-- an open offer has lots left, and no more than it has
 open-lots : (group : Group) (row : Row) → IsSound row → is_open_in group row ≡ true → IsLots (left_of row)
 open-lots group row sound h =
     let some : 0 < left_of row = ltb-true 0 (left_of row) (second (same_group row.offer.group group) (nat_lt 0 (left_of row)) h) in
@@ -133,7 +133,7 @@ lots_left rows group sound =
     let left : left_in rows (1 + place) ≡ left_of row = ap (λ (o : Option Row). option_map_or left_of o 0) (row_at-place rows place (1 + place) e ∙ at) in
     subst IsLots (sym left) (open-lots group row (all-at IsSound rows place row sound at) open_in))
 
--- numbers that ascend and have lots show no bad offer
+-- ascending numbers with valid lots show no bad offer
 good_offer : (before : ℕ) (o : ViewOffer) → before < o.number → IsLots o.lots → is_bad before o ≡ false
 good_offer before o above lots = or_from (nat_le o.number before) (o.lots == 0 || nat_lt 1000000 o.lots) (not_below o.number before above) (or_from (o.lots == 0) (nat_lt 1000000 o.lots) (some o.lots lots.some) (le-ltb 1000000 o.lots lots.most))
   where
@@ -172,7 +172,7 @@ own-path reference o has =
     let goes = goes_through reference o.agreement o.path has in
     ap (λ (path : List LimitKey). option_map_or (key_eq (Agr o.agreement)) (slice_get path 1) false) goes.is ∙ key_eq-refl (Agr o.agreement)
 
--- offers of one agreement have one path
+-- offers under one agreement have one path
 one-path : (reference : Tables) (a b : ViewOffer) → HasPath reference a → HasPath reference b → (same_agreement a b && not (pointwise key_eq a.path b.path)) ≡ false
 one-path reference a b mine theirs =
     elim (cases_Bool (same_agreement a b)) [
@@ -197,7 +197,7 @@ none_differs reference offers have =
 
 -- ---- rooms
 
--- of the open offers of a group none is bad
+-- none of a group's open offers is bad
 pub none_bad_offer : (reference : Tables) → IsSoundReference reference → (rows : List Row) (group : Group) → AllByRecursion IsSound rows → IsShown reference rows
     → bad_offer (filter_map (shown_at reference rows) (open_numbers rows group)) ≡ None
 none_bad_offer reference sound rows group each shown =

@@ -1,4 +1,4 @@
--- The answer to a command: the first refusal whose condition holds, or else what the command did.
+-- The answer to a command: the first refusal whose condition holds, or else the command's effect.
 use Rattle.std.specs.Prelude.{ℕ, ◌+◌, ◌-◌, ◌==◌, ◌&&◌, ◌++◌, Bool, true, false, not, nat_lt, List, [], ◌∷◌, length, map, Option, Some, None, is_none, is_some, if◌then◌else◌}
 use Rattle.std.specs.List.{find, list_any}
 use Rattle.std.specs.Option.{option_and_then, option_map, option_map_or}
@@ -36,16 +36,16 @@ use Rattle.gu_rules.specs.Limits.{path_after, room_of}
 use Rattle.gu_rules.specs.Offers.{has_give_up, standing_of}
 use Rattle.gu_rules.specs.Reports.{open_day, reports_of}
 
--- the first refusal whose condition holds, or else what the command did
+-- the first refusal whose condition holds, or else the command's effect
 abbrev pub first_standing : List (Bool × Refusal) → Done → Reply
 first_standing [] done = Accepted done
 first_standing (test ∷ tests) done = if test.0 then Denied test.1 else first_standing tests done
 
--- the first refusal whose condition holds, if one does
+-- the first refusal whose condition holds, if any does
 abbrev pub refusal_in : List (Bool × Refusal) → Option Refusal
 refusal_in tests = option_map (λ test. test.1) (find (λ test. test.0) tests)
 
--- a day comes after the open one, or no day was open
+-- a day is after the open one, or no day is open
 abbrev pub is_later : Option Day → Day → Bool
 is_later None day = true
 is_later (Some today) day = nat_lt (date_number today.year today.month today.day) (date_number day.year day.month day.day)
@@ -55,11 +55,11 @@ abbrev pub is_other_day : Day → Option Day → Bool
 is_other_day today None = false
 is_other_day today (Some day) = not (same_day today day)
 
--- the account is there and another firm's
+-- the account is in the reference and is another firm's
 abbrev pub is_another_firms : Tables → AccountId → FirmId → Bool
 is_another_firms reference account firm = option_map_or (λ row. not (same_firm row.firm firm)) (account_row reference account) false
 
--- the reference has what a key names; a guarantor is a firm that guarantees another
+-- the reference has what a key names; a guarantor's key needs a firm that is the guarantor in a row
 abbrev pub is_known_key : Tables → LimitKey → Bool
 is_known_key reference (Exec firm) = is_firm reference firm
 is_known_key reference (Agr agreement) = is_some (agreement_row reference agreement)
@@ -67,22 +67,22 @@ is_known_key reference (Acct account) = is_some (account_row reference account)
 is_known_key reference (Carry firm) = is_firm reference firm
 is_known_key reference (Guar firm) = is_guarantor reference firm
 
--- the most lots that a limit may have
+-- the most lots in a limit
 abbrev pub most_limit : ℕ
 most_limit = 1000000000
 
--- the tests of an opening
+-- the tests for opening a day
 abbrev pub opening_tests : Option Day → Day → List (Bool × Refusal)
 opening_tests today day = (not (is_later today day), WrongDay) ∷ []
 
--- the tests of a limit
+-- the tests for setting a limit
 abbrev pub limit_tests : Tables → Group → LimitKey → ℕ → List (Bool × Refusal)
 limit_tests reference group key lots =
     (not (is_group reference group && is_known_key reference key), UnknownKey)
     ∷ (nat_lt most_limit lots, TooHigh)
     ∷ []
 
--- the tests of a report, which is made on the open day, where its firm names a day or none, and these reports were taken in
+-- the tests for a report made on the open day, given the day that its firm names, if any, and the reports accepted before
 abbrev pub report_tests : Tables → List Report → Report → Option Day → List (Bool × Refusal)
 report_tests reference reports report day =
     (is_other_day report.day day, WrongDay)
@@ -93,11 +93,11 @@ report_tests reference reports report day =
     ∷ (conflicts (with_match report.match_id reports) report, MatchConflict)
     ∷ []
 
--- the keys that refuse a claim: each key of a path under which there is less room than these lots
+-- the tests that refuse a claim for lack of room: one for each key of a path, if it has less room than these lots
 abbrev pub room_tests : (LimitKey → ℕ) → ℕ → List LimitKey → List (Bool × Refusal)
 room_tests room lots path = map (λ key. (nat_lt (room key) lots, LimitReached key)) path
 
--- what answers depend on: the open day, the reports, the offers as they are now, which give-ups there were, and the room under each key
+-- all that answers depend on: the open day, the reports, the offers as they are now, the give-ups so far, and the room under each key
 pub record State : Type 0 where
   pub today : Option Day
   pub reports : List Report
@@ -105,7 +105,7 @@ pub record State : Type 0 where
   pub has_give_up : FirmId → Id → Bool
   pub room : Group → LimitKey → ℕ
 
--- what a history comes to
+-- the state that a history leads to
 abbrev pub state_of : Tables → List Entry → State
 state_of reference history =
     record {
@@ -120,19 +120,19 @@ state_of reference history =
 abbrev pub group_of : Tables → Report → Option Group
 group_of reference report = option_map (λ (i : Instrument). i.group) (instrument_row reference report.symbol)
 
--- the account of one of the lines isn't in the reference
+-- the account in one of the lines isn't in the reference
 abbrev pub has_unknown_account : Tables → List Line → Bool
 has_unknown_account reference lines = list_any (λ (l : Line). is_none (account_row reference l.account)) lines
 
--- the firm has no agreement for the account of one of the lines
+-- the firm has no agreement for the account in one of the lines
 abbrev pub lacks_agreement : Tables → FirmId → List Line → Bool
 lacks_agreement reference firm lines = list_any (λ (l : Line). is_none (agreement_between reference firm l.account)) lines
 
--- of this number of lots of a firm's report with this id, those that may still be given up
+-- out of this number of lots of a firm's report, those that may still be given up
 abbrev pub free_lots : List Row → FirmId → Id → ℕ → ℕ
 free_lots offers firm id lots = lots - counted_under offers firm id
 
--- the tests of a give-up of a firm's report with this id, as it is now, in this group
+-- the tests for giving up a firm's report, as it is now, in this group
 abbrev pub tests_of_lines : Tables → List Row → FirmId → Id → Standing → Group → List Line → List (Bool × Refusal)
 tests_of_lines reference offers firm id standing group lines =
     (not standing.is_of_trade, NotMatched)
@@ -141,11 +141,11 @@ tests_of_lines reference offers firm id standing group lines =
     ∷ (nat_lt 4096 (open_count offers group + length lines), TooManyOffers)
     ∷ []
 
--- the tests of a give-up of this report, in this group
+-- the tests for giving up this report in this group
 abbrev pub lines_tests : Tables → State → Report → Group → List Line → List (Bool × Refusal)
 lines_tests reference state report group lines = tests_of_lines reference state.offers report.firm report.id (standing_in state.reports report) group lines
 
--- the tests of a give-up; the report is the firm's own, and its group is that of its instrument
+-- the tests for a give-up; the report is the firm's own, and the group is that of its instrument
 abbrev pub give_up_tests : Tables → State → FirmId → Id → List Line → Option (Report × Group) → List (Bool × Refusal)
 give_up_tests reference state firm id lines given =
     (is_none state.today, NoDay)
@@ -154,12 +154,12 @@ give_up_tests reference state firm id lines given =
     ∷ (is_none given, UnknownTrade)
     ∷ option_map_or (λ g. lines_tests reference state g.0 g.1 lines) given []
 
--- the firm's report with this id, and its group
+-- the firm's report with this id, and the group of its instrument
 abbrev pub given_up : Tables → State → FirmId → Id → Option (Report × Group)
 given_up reference state firm report =
     option_and_then (λ r. option_map (λ group. (r, group)) (group_of reference r)) (report_by state.reports firm report)
 
--- the tests of whatever a carrying firm says to an offer: a day is open, the offer is to it, and it is there
+-- the tests for every carrying firm's response to an offer: a day is open, the offer isn't to another firm's account, and it exists
 abbrev pub offer_tests : Tables → State → FirmId → ℕ → List (Bool × Refusal)
 offer_tests reference state firm n =
     (is_none state.today, NoDay)
@@ -167,7 +167,7 @@ offer_tests reference state firm n =
     ∷ (is_none (row_at state.offers n), UnknownOffer)
     ∷ []
 
--- the tests of a claim after those: lots are left, and each key on the path has room for them, in the order of the path
+-- the further tests for a claim: lots are left, and each key on the path has room for them, in the order of the path
 abbrev pub claim_tests : Tables → State → ℕ → List (Bool × Refusal)
 claim_tests reference state n =
     (left_in state.offers n == 0, OfferClosed)
@@ -176,20 +176,20 @@ claim_tests reference state n =
     (row_at state.offers n)
     []
 
--- the test of a refusal after those: lots are left
+-- the further test for a refusal: lots are left
 abbrev pub refuse_tests : State → ℕ → List (Bool × Refusal)
 refuse_tests state n = (left_in state.offers n == 0, OfferClosed) ∷ []
 
--- the tests of a reversal after those: nothing is left, and something was moved since the day was opened
+-- the further tests for a reversal: nothing is left, and something was moved since the day was opened
 abbrev pub reverse_tests : State → ℕ → List (Bool × Refusal)
 reverse_tests state n = (nat_lt 0 (left_in state.offers n), OfferOpen) ∷ (today_in state.offers n == 0, NothingToReverse) ∷ []
 
--- the tests of a report that a firm asks for, which is made where a day is open
+-- the tests for a report as a firm submits it, made on the open day if there is one
 abbrev pub side_tests : Tables → State → ReportSideOf → List (Bool × Refusal)
 side_tests reference state r =
     (is_none state.today, NoDay) ∷ option_map_or (λ today. report_tests reference state.reports (made_on today r) r.day) state.today []
 
--- the tests of a command, in their order
+-- the tests for a command, in order
 abbrev pub tests_of : Tables → State → Command → List (Bool × Refusal)
 tests_of reference state (OpenDay opening) = opening_tests state.today opening.day
 tests_of reference state (SetLimit limit) = limit_tests reference limit.group limit.key limit.lots
@@ -199,7 +199,7 @@ tests_of reference state (Claim claim) = offer_tests reference state claim.firm 
 tests_of reference state (Refuse refusal) = offer_tests reference state refusal.firm refusal.offer ++ refuse_tests state refusal.offer
 tests_of reference state (Reverse reversal) = offer_tests reference state reversal.firm reversal.offer ++ reverse_tests state reversal.offer
 
--- what a command does where no test holds. (A give-up without a report, for which there is no group, is refused by a test.)
+-- the effect of a command if no test holds. (A give-up without a report, for which there is no group, is refused by a test.)
 abbrev pub done_of : Tables → State → Command → Done
 done_of reference state (OpenDay opening) = Opened
 done_of reference state (SetLimit limit) = LimitSet
@@ -210,7 +210,7 @@ done_of reference state (Claim claim) = Claimed (left_in state.offers claim.offe
 done_of reference state (Refuse refusal) = Refused (left_in state.offers refusal.offer)
 done_of reference state (Reverse reversal) = Reversed (today_in state.offers reversal.offer)
 
--- the answer to a command, where a history comes to this
+-- the answer to a command in this state
 abbrev pub answer_in : Tables → State → Command → Reply
 answer_in reference state command = first_standing (tests_of reference state command) (done_of reference state command)
 

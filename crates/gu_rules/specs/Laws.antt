@@ -1,4 +1,4 @@
--- Words of the laws of legal histories: what an offer gives up.
+-- Terms used in the laws of legal histories: what an offer gives up.
 use Rattle.std.specs.Prelude.{◌≡◌, true, List, Some, is_some}
 use Rattle.std.specs.List.{AllByRecursion}
 use Rattle.gu_terms.specs.declared.agreement.AgreementId.{AgreementId}
@@ -13,8 +13,8 @@ use Rattle.gu_rules.specs.Answer.{group_of}
 use Rattle.gu_rules.specs.Offers.{offers_of}
 use Rattle.gu_rules.specs.Reports.{reports_of}
 
--- an offer gives up a report that is a side of a trade, in the group of its instrument, to an account of the reference,
--- by the agreement between it and the firm
+-- an offer gives up a report that is a side of a trade, in the group of its instrument, to an account of the reference, under the agreement
+-- between the firm and that account
 pub record GivesUpTrade (reference : Tables) (reports : List Report) (offer : Offer) : Type 0 where
   pub report : Report
   pub found : report_by reports offer.firm offer.report ≡ Some report
@@ -24,6 +24,6 @@ pub record GivesUpTrade (reference : Tables) (reports : List Report) (offer : Of
   pub agreement : AgreementId
   pub between : agreement_between reference offer.firm offer.account ≡ Some agreement
 
--- each offer does
+-- this holds for each offer
 abbrev pub AllGiveUpTrades : Tables → List Entry → Type 0
 AllGiveUpTrades reference history = AllByRecursion (GivesUpTrade reference (reports_of history)) (offers_of history)

@@ -1,4 +1,4 @@
--- What holds of every legal history.
+-- Facts about every legal history.
 use Rattle.std.specs.Prelude.{◌≡◌, ℕ, ◌*◌, ◌<◌, ◌≤◌, true, false, List, length, sum_by, Some, is_some, if◌then◌else◌}
 use Rattle.std.specs.List.{AllByRecursion}
 use Rattle.gu_terms.specs.declared.entry.Entry.{Entry}
@@ -13,40 +13,40 @@ use Rattle.gu_rules.specs.Offers.{given_back_by, is_shut, moved_of, offers_of, s
 use Rattle.gu_rules.specs.Positions.{report_after}
 use Rattle.gu_rules.specs.Reports.{entries_today, reports_of}
 
--- of each offer no more was given back than was taken, over all entries and over those of today, and today no more was moved than in all
+-- for each offer, no more was given back than was taken, over all entries and over today's; and no more was moved today than in all
 pub record IsBalanced (history : List Entry) : Type 0 where
   pub all : (n : ℕ) → sum_by (given_back_by n) history ≤ sum_by (taken_by n) history
   pub today : (n : ℕ) → sum_by (given_back_by n) (entries_today history) ≤ sum_by (taken_by n) (entries_today history)
   pub within : (n : ℕ) → moved_of (entries_today history) n ≤ moved_of history n
 
--- no entry speaks of an offer that isn't there
+-- no entry takes from or closes an offer that doesn't exist
 pub record IsNamed (history : List Entry) : Type 0 where
   pub takes : (n : ℕ) → length (offers_of history) < n → sum_by (taken_by n) history ≡ 0
   pub today : (n : ℕ) → length (offers_of history) < n → sum_by (taken_by n) (entries_today history) ≡ 0
   pub closed : (n : ℕ) → length (offers_of history) < n → is_shut history n ≡ false
 
--- the lots of a report that may be given up: its own, once it is a side of a trade
+-- the lots of a report that may be given up: its own, once it is a side of a trade, else 0
 abbrev pub lots_traded : List Report → Report → ℕ
 lots_traded reports r = if is_of_trade reports r then r.lots else 0
 
--- of no report more is given up than it traded
+-- no more of a report is given up than it traded
 abbrev pub IsCovered : List Report → List Row → Type 0
 IsCovered reports rows = AllByRecursion (λ r. counted_under rows r.firm r.id ≤ lots_traded reports r) reports
 
--- each offer is of a report that is there
+-- each offer gives up a report that exists
 abbrev pub AreFound : List Report → List Row → Type 0
 AreFound reports rows = AllByRecursion (λ row. is_some (report_after reports row) ≡ true) rows
 
--- no more was moved of any offer than it has
+-- no more of an offer was moved than it has
 abbrev pub AreWithin : List Row → Type 0
 AreWithin rows = AllByRecursion (λ (r : Row). r.moved ≤ r.offer.lots) rows
 
--- each report is the one that its firm and its id find
+-- looking up each report's firm and id finds that report
 abbrev pub AreOwn : List Report → Type 0
 AreOwn reports = AllByRecursion (λ (q : Report). report_by reports q.firm q.id ≡ Some q) reports
 
--- no subtraction is cut off, no offer is spoken of before it is there, no report has more given up than it traded, each offer is of a report that is there,
--- no offer has more moved than it has, each report is found by its firm and its id, and an entry makes sixteen offers at most
+-- no subtraction truncates, no entry uses an offer that doesn't exist yet, no more of a report is given up than it traded, each offer gives
+-- up a report that exists, no more of an offer was moved than it has, each report is found by its firm and id, at most 16 offers an entry
 pub record IsOrderly (history : List Entry) : Type 0 where
   pub balanced : IsBalanced history
   pub named : IsNamed history
@@ -60,11 +60,11 @@ pub record IsOrderly (history : List Entry) : Type 0 where
 abbrev pub AreFew : List Row → Type 0
 AreFew rows = (group : Group) → open_count rows group ≤ 4096
 
--- each offer was made by an agreement
+-- each offer was made under an agreement
 abbrev pub AreAgreed : Tables → List Row → Type 0
 AreAgreed reference rows = AllByRecursion (λ (r : Row). is_some (agreement_between reference r.offer.firm r.offer.account) ≡ true) rows
 
--- the offers of each group make a view, and all of them are shown
+-- no group has more than 4,096 open offers, and each offer was made under an agreement
 pub record IsShown (reference : Tables) (rows : List Row) : Type 0 where
   pub few : AreFew rows
   pub agreed : AreAgreed reference rows

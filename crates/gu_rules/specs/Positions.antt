@@ -1,4 +1,4 @@
--- Positions: what an account holds of an instrument.
+-- Positions: the lots that an account holds in an instrument.
 use Rattle.std.specs.Prelude.{◌≡◌, ℕ, ◌+◌, ◌-◌, ◌==◌, ◌&&◌, Bool, false, List, Option, Some, None, sum_by, if◌then◌else◌}
 use Rattle.std.specs.List.{filter_map}
 use Rattle.std.specs.Option.{option_map_or}
@@ -22,12 +22,12 @@ use Rattle.gu_rules.specs.BookState.{BookState}
 use Rattle.gu_rules.specs.Offers.{standing_of}
 use Rattle.gu_rules.specs.Reports.{reports_of}
 
--- the lots that a report brings to an account on a side of an instrument: its own, once it is a side of a trade
+-- the lots that a report brings to an account on one side of an instrument: its own, once it is a side of a trade
 abbrev pub brought : List Report → Side → AccountId → Symbol → Report → ℕ
 brought reports side account symbol r =
     if same_side r.side side && same_account r.account account && same_symbol r.symbol symbol && is_of_trade reports r then r.lots else 0
 
--- the lots that the trades among these reports bring to an account on a side of an instrument
+-- the lots that the trades among these reports bring to an account on one side of an instrument
 abbrev pub traded : List Report → Side → AccountId → Symbol → ℕ
 traded reports side account symbol = sum_by (brought reports side account symbol) reports
 
@@ -39,26 +39,26 @@ report_after reports row = report_by reports row.offer.firm row.offer.report
 abbrev pub is_on : List Report → Side → Symbol → Row → Bool
 is_on reports side symbol row = option_map_or (λ (r : Report). same_side r.side side && same_symbol r.symbol symbol) (report_after reports row) false
 
--- an offer gives up a report of this account
+-- an offer gives up a report for this account
 abbrev pub is_from : List Report → AccountId → Row → Bool
 is_from reports account row = option_map_or (λ (r : Report). same_account r.account account) (report_after reports row) false
 
--- the lots that were moved into an account, on a side of an instrument
+-- the lots moved into an account, on one side of an instrument
 abbrev pub moved_into : List Report → List Row → Side → AccountId → Symbol → ℕ
 moved_into reports rows side account symbol =
     sum_by (λ (row : Row). if is_on reports side symbol row && same_account row.offer.account account then row.moved else 0) rows
 
--- the lots that were moved out of it
+-- the lots moved out of an account, on one side of an instrument
 abbrev pub moved_out : List Report → List Row → Side → AccountId → Symbol → ℕ
 moved_out reports rows side account symbol =
     sum_by (λ (row : Row). if is_on reports side symbol row && is_from reports account row then row.moved else 0) rows
 
--- what it holds there: what trades brought and what was moved in, less what was moved out
+-- the lots held there: those traded and moved in, less those moved out
 abbrev pub held_in : List Report → List Row → Side → AccountId → Symbol → ℕ
 held_in reports rows side account symbol =
     traded reports side account symbol + moved_into reports rows side account symbol - moved_out reports rows side account symbol
 
--- the lots that an account holds on a side of an instrument
+-- the lots that an account holds on one side of an instrument
 abbrev pub held_of : List Entry → Side → AccountId → Symbol → ℕ
 held_of history side account symbol = held_in (reports_of history) (standing_of history) side account symbol
 
@@ -66,29 +66,29 @@ held_of history side account symbol = held_in (reports_of history) (standing_of 
 abbrev pub long_of : List Entry → AccountId → Symbol → ℕ
 long_of history account symbol = held_of history Buy account symbol
 
--- and short
+-- the lots that an account holds short in an instrument
 abbrev pub short_of : List Entry → AccountId → Symbol → ℕ
 short_of history account symbol = held_of history Sell account symbol
 
--- the row of an instrument: the lots long and short, where there are any
+-- the row of an instrument: the lots long and short, if there are any
 abbrev pub row_of_lots : Symbol → ℕ → ℕ → Option PositionRow
 row_of_lots symbol long short = if long == 0 && short == 0 then None else Some (record { symbol = symbol; long = long; short = short })
 
--- all that an account holds, in the order of the reference's instruments
+-- all positions of an account, in the order of the reference's instruments
 abbrev pub position_rows : BookState → AccountId → List PositionRow
 position_rows book account =
     filter_map (λ (i : Instrument). row_of_lots i.symbol (long_of book.history account i.symbol) (short_of book.history account i.symbol)) book.reference.instruments
 
--- the account is there, and it is this firm's
+-- the account is in the reference and is this firm's
 abbrev pub is_of_firm : Tables → FirmId → AccountId → Bool
 is_of_firm reference firm account = option_map_or (λ row. same_firm row.firm firm) (account_row reference account) false
 
--- the open interest of an instrument: over the accounts, what each holds long above what it holds short
+-- the open interest of an instrument: the sum, over the reference's accounts, of the excess of long lots over short ones
 abbrev pub open_interest_of : BookState → Symbol → ℕ
 open_interest_of book symbol =
     sum_by (λ (a : Account). long_of book.history a.account symbol - short_of book.history a.account symbol) book.reference.accounts
 
--- over the accounts, as many lots of each instrument are held long as short
+-- over the reference's accounts, as many lots of each instrument are held long as short
 abbrev pub LongIsShort : BookState → Type 0
 LongIsShort book =
     (symbol : Symbol)

@@ -1,4 +1,4 @@
--- Sweeps: which may be committed after a history.
+-- Sweeps that may be committed after a history.
 use Rattle.std.specs.Prelude.{◌≡◌, ◌==◌, true, List, [], ◌∷◌, map}
 use Rattle.std.specs.List.{IsDistinct}
 use Rattle.gu_terms.specs.LimitKeys.{key_eq}
@@ -14,8 +14,8 @@ use Rattle.gu_view.specs.Takes.{IsOldestGreatest}
 use Rattle.gu_view.specs.View.{GroupView}
 use Rattle.gu_rules.specs.Views.{group_view}
 
--- a sweep of a view: it takes within every offer and room as many lots as any that does, of all that do the one that gives the oldest
--- offers most, and its cut says so
+-- a sweep of a view: its takes fit each offer and room, are the greatest that do, and among those give older offers most; its cut covers
+-- each offer, with a room of exactly the lots taken; takes ascend, and the cut names each key and offer once
 pub record IsSweepOf (view : GroupView) (sweep : SweepEntry) : Type 0 where
   pub ascending : IsAscending sweep.takes
   pub keys : IsDistinct key_eq sweep.cut.keys
@@ -23,15 +23,15 @@ pub record IsSweepOf (view : GroupView) (sweep : SweepEntry) : Type 0 where
   pub right : IsRight view sweep.takes sweep.cut sweep.lots
   pub oldest : IsOldestGreatest view (lots_of sweep.takes)
 
--- a sweep that may come after these entries: of a group of the reference, as its view is then
+-- a sweep may follow these entries: it is of a group in the reference, as its view is then
 pub record MaySweep (reference : Tables) (before : List Entry) (sweep : SweepEntry) : Type 0 where
   pub known : is_group reference sweep.group ≡ true
   pub sweeps : IsSweepOf (group_view reference before sweep.group) sweep
 
--- one take of a sweep, as a sweep of it alone
+-- one take of a sweep, as a sweep with that take alone
 abbrev pub part : SweepEntry → Take → Entry
 part sweep take = Swept (record { group = sweep.group; takes = take ∷ []; cut = sweep.cut; lots = take.lots })
 
--- the takes of a sweep, one after another
+-- the takes of a sweep, one after another, each as a sweep
 abbrev pub parts : SweepEntry → List Take → List Entry
 parts sweep takes = map (part sweep) takes

@@ -1,4 +1,4 @@
--- Versions: how many entries touched a group.
+-- Versions: the number of entries that touched a group.
 use Rattle.std.specs.Prelude.{ℕ, zero, suc, ◌+◌, Bool, true, false, List, [], ◌∷◌, ◌++◌, length, Option, Some, None, slice_get, if◌then◌else◌}
 use Rattle.std.specs.Option.{option_map_or, option_to_list}
 use Rattle.gu_terms.specs.Same.{same_group}
@@ -11,17 +11,17 @@ use Rattle.gu_terms.specs.declared.reply.Done.TheVariants.{Opened, LimitSet, Off
 use Rattle.gu_terms.specs.declared.reply.Reply.TheVariants.{Accepted}
 use Rattle.gu_rules.specs.Offers.{offers_of}
 
--- the offer of a number: the first has number 1, and none has number 0
+-- the offer with this number; the first has number 1, and none has number 0
 abbrev pub offer_at : List Entry → ℕ → Option Offer
 offer_at history zero = None
 offer_at history (suc place) = slice_get (offers_of history) place
 
--- the offer of a number is one of this group
+-- the offer with this number is in this group
 abbrev pub is_of_group : List Entry → Group → ℕ → Bool
 is_of_group history group n = option_map_or (λ (o : Offer). same_group o.group group) (offer_at history n) false
 
--- an entry after these touches a group: an opening every group, a limit or a give-up its own, a claim, a refusal or a reversal that of its offer,
--- and a sweep its own, where it takes nothing too; reports and refused commands touch none
+-- an entry after these touches a group: an opening touches every group; a limit or a give-up its own; a claim, a refusal or a reversal that
+-- of its offer; a sweep its own, even if it takes nothing; reports and refused commands touch none
 abbrev pub touches : List Entry → Group → Entry → Bool
 touches before group (Asked (OpenDay opening) (Accepted Opened)) = true
 touches before group (Asked (SetLimit limit) (Accepted LimitSet)) = same_group limit.group group
@@ -32,7 +32,7 @@ touches before group (Asked (Reverse reversal) (Accepted (Reversed lots))) = is_
 touches before group (Swept sweep) = same_group sweep.group group
 touches before group (Asked command reply) = false
 
--- the numbers of later entries that touch a group, where these came before
+-- the numbers of later entries that touch a group, after these entries
 abbrev pub touching_after : List Entry → Group → List Entry → List ℕ
 touching_after before group [] = []
 touching_after before group (entry ∷ later) =
@@ -42,6 +42,6 @@ touching_after before group (entry ∷ later) =
 abbrev pub touching : List Entry → Group → List ℕ
 touching history group = touching_after [] group history
 
--- the version of a group: how many entries touched it
+-- the version of a group: the number of entries that touched it
 abbrev pub version_of : List Entry → Group → ℕ
 version_of history group = length (touching history group)

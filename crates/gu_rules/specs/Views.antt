@@ -1,4 +1,4 @@
--- The view of a group after a history: its open offers, and the rooms of the keys that they come under.
+-- The view of a group after a history: its open offers, and the room of each key that applies to them.
 use Rattle.std.specs.Prelude.{List, map, Option, ℕ}
 use Rattle.std.specs.List.{filter_map}
 use Rattle.std.specs.Option.{option_map, option_and_then}
@@ -14,14 +14,14 @@ use Rattle.gu_rules.specs.Limits.{path_after, room_of}
 use Rattle.gu_rules.specs.Offers.{standing_of}
 use Rattle.gu_rules.specs.Versions.{version_of}
 
--- an open offer as a view shows it: what is left of it, its agreement and its path
+-- an open offer as a view shows it: the lots left of it, its agreement and its path
 abbrev pub shown : Tables → OpenOffer → Option ViewOffer
 shown reference o =
     option_map
     (λ agreement. record { number = o.number; lots = o.left; agreement = agreement; path = path_after reference o.offer })
     (agreement_between reference o.offer.firm o.offer.account)
 
--- the open offers of a group, in the order of their numbers (each has an agreement, by the law that each offer gives up a trade by one)
+-- the open offers of a group, in the order of their numbers (each has an agreement, by the law that each offer gives up a trade under one)
 abbrev pub offers_shown : Tables → List Entry → Group → List ViewOffer
 offers_shown reference history group = filter_map (shown reference) (open_offers (standing_of history) group)
 
@@ -35,7 +35,7 @@ group_view reference history group =
       rooms = map (λ key. record { key = key; lots = room_of reference history group key }) (keys_of (offers_shown reference history group));
     }
 
--- the offer of a number, as a view shows it
+-- the offer with a number, as a view shows it
 abbrev pub shown_at : Tables → List Row → ℕ → Option ViewOffer
 shown_at reference rows number = option_and_then (shown reference) (open_offer_at rows number)
 

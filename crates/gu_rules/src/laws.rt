@@ -1,4 +1,4 @@
-//! What follows from the definitions alone.
+//! Consequences of the definitions alone.
 
 ghost use Rattle.std.specs.Prelude.{◌≡◌, ◌<◌, ◌≤◌, ◌↔◌, ◌++◌, ◌∷◌, [], ℕ, true, false, AllPairs, length, List, Some, slice_get, take};
 ghost use Rattle.gu_terms.specs.Refusals.{number_of};
@@ -16,8 +16,8 @@ ghost use Rattle.gu_rules.specs.Notices.{notices_between, notices_of};
 ghost use Rattle.gu_rules.specs.Versions.{touches, touching, touching_after, version_of};
 ghost use Rattle.gu_rules.specs.Views.{group_view};
 
-/// The refusals of a command are tested in the order of their numbers: of those whose condition holds, the one with the least
-/// number is the reply.
+/// A command's refusals are tested in the order of their numbers: if several conditions hold, the reply is the refusal with the least
+/// number.
 pub fn the_least_refusal_is_given()
     ensures ascend { (reference : Tables) (state : State) (command : CommandOf)
         → AllPairs (λ a b. number_of a.1 ≤ number_of b.1) (tests_of reference state command) }
@@ -27,21 +27,20 @@ pub fn the_least_refusal_is_given()
         → number_of given ≤ number_of other }
 {}
 
-/// Entries that come later add their touches after those that were there.
+/// Later entries add their touches after the earlier ones.
 pub fn later_touches_come_after()
     ensures { (first later : List EntryOf) (group : GroupOf)
         → touching (first ++ later) group ≡ touching first group ++ touching_after first group later }
 {}
 
-/// The version of a group after the first entries of a history is that after all of them exactly where none of the others touches
-/// the group.
+/// The version of a group after the first entries equals that after all entries if and only if none of the others touches the group.
 pub fn equal_versions_are_untouched()
     ensures { (history : List EntryOf) (first : ℕ) (group : GroupOf)
         → (version_of (take first history) group ≡ version_of history group)
         ↔ ((place : ℕ) (entry : EntryOf) → first ≤ place → slice_get history place ≡ Some entry → touches (take place history) group entry ≡ false) }
 {}
 
-/// An entry that may follow and doesn't touch a group leaves the group's view.
+/// An entry that may follow and doesn't touch a group leaves the group's view unchanged.
 pub fn an_entry_elsewhere_leaves_the_view()
     ensures { (reference : Tables) (history : List EntryOf) (entry : EntryOf) (group : GroupOf)
         → MayFollow reference history entry
@@ -49,8 +48,8 @@ pub fn an_entry_elsewhere_leaves_the_view()
         → group_view reference (history ++ entry ∷ []) group ≡ group_view reference history group }
 {}
 
-/// A firm's notices up to a number, with those from it on, are the whole: those of two stretches, of which the second begins where
-/// the first ends, and those of all entries.
+/// A firm's notices up to a number, followed by those from that number on, are all of its notices. This holds for two batches if the second
+/// begins where the first ends, and for all entries.
 pub fn stretches_join_to_the_whole()
     ensures between { (book : BookState) (firm : FirmOf) (from mid next : ℕ) → from ≤ mid → mid ≤ next
         → notices_between book firm from mid ++ notices_between book firm mid next ≡ notices_between book firm from next }

@@ -1,4 +1,4 @@
-//! What holds of every legal history of its accounts, limits and views.
+//! Laws of accounts, limits and views in every legal history.
 
 ghost use Rattle.std.specs.Prelude.{◌≡◌, ◌<◌, ◌≤◌, ◌++◌, ◌∷◌, [], ℕ, false, length, take, slice_get, List, Some};
 ghost use Rattle.gu_terms.specs.declared.account.AccountId.{AccountId as AccountOf};
@@ -17,14 +17,14 @@ ghost use Rattle.gu_rules.specs.Reports.{reports_of};
 ghost use Rattle.gu_rules.specs.Versions.{touches};
 ghost use Rattle.gu_rules.specs.Views.{group_view};
 
-/// No more lots leave an account, on a side of an instrument, than trades brought it there.
+/// No more lots leave an account, on one side of an instrument, than trades brought to it there.
 pub fn no_more_leaves_an_account_than_it_traded()
     ensures { (reference : Tables) (history : List EntryOf) (side : SideOf) (account : AccountOf) (symbol : SymbolOf)
         → IsLegal reference history
         → moved_out (reports_of history) (standing_of history) side account symbol ≤ traded (reports_of history) side account symbol }
 {}
 
-/// Where an entry makes the use of a key greater, the use is at most the key's limit: nothing is charged above what was set.
+/// If an entry increases the use of a key, that use is at most the key's limit: nothing is charged above the limit.
 pub fn no_more_is_charged_than_a_limit_allows()
     ensures { (reference : Tables) (history : List EntryOf) (entry : EntryOf) (group : GroupOf) (key : KeyOf)
         → IsLegal reference history → length history < 1000000 → MayFollow reference history entry
@@ -32,13 +32,13 @@ pub fn no_more_is_charged_than_a_limit_allows()
         → use_of reference (history ++ entry ∷ []) group key ≤ limit_of (history ++ entry ∷ []) group key }
 {}
 
-/// Over the accounts of the reference, as many lots of each instrument are held long as short.
+/// Over the reference's accounts, as many lots of each instrument are held long as short.
 pub fn as_many_lots_are_held_long_as_short()
     ensures { (reference : Tables) (history : List EntryOf) → IsSound reference → IsLegal reference history
         → LongIsShort (record { reference = reference; history = history }) }
 {}
 
-/// Where no entry from a place on touches a group, the group's view stays.
+/// If no entry from a position on touches a group, the group's view is unchanged.
 pub fn entries_elsewhere_leave_the_view()
     ensures { (reference : Tables) (history : List EntryOf) (first : ℕ) (group : GroupOf)
         → IsLegal reference history

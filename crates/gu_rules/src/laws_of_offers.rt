@@ -1,4 +1,4 @@
-//! What holds of every legal history of its offers.
+//! Laws of offers in every legal history.
 
 ghost use Rattle.std.specs.Prelude.{◌≡◌, ◌≤◌, ◌*◌, true, is_some, length, List, Some};
 ghost use Rattle.gu_terms.specs.declared.account.AccountId.{AccountId as AccountOf};
@@ -17,24 +17,24 @@ ghost use Rattle.gu_rules.specs.Offers.{offers_of, standing_of};
 ghost use Rattle.gu_rules.specs.Orderly.{AreWithin, IsBalanced, IsCovered};
 ghost use Rattle.gu_rules.specs.Reports.{reports_of};
 
-/// No more lots are moved of an offer than it has.
+/// No more lots are moved from an offer than it has.
 pub fn no_more_is_moved_than_an_offer_has()
     ensures { (reference : Tables) (history : List EntryOf) → IsLegal reference history → AreWithin (standing_of history) }
 {}
 
-/// Of no offer more is given back than was taken of it, over all entries and over those since the last opening: so what was moved is
-/// never a difference that is cut off.
+/// No more is given back to an offer than was taken from it, over all entries and over those since the day was opened: so the subtraction
+/// that gives the lots moved never truncates.
 pub fn no_more_is_given_back_than_was_taken()
     ensures { (reference : Tables) (history : List EntryOf) → IsLegal reference history → IsBalanced history }
 {}
 
-/// The offers of a report hold no more lots than it has, and none before it is a side of a trade.
+/// The offers of a report hold no more lots than it has, and none until it is a side of a trade.
 pub fn no_more_is_given_up_than_was_traded()
     ensures { (reference : Tables) (history : List EntryOf) → IsLegal reference history
         → IsCovered (reports_of history) (standing_of history) }
 {}
 
-/// Each offer gives up a report that is a side of a trade, in the group of the report's instrument, by an agreement; and each agreement
+/// Each offer gives up a report that is a side of a trade, in the group of the report's instrument, under an agreement; and each agreement
 /// has its path.
 pub fn each_offer_gives_up_a_trade_by_an_agreement()
     ensures given { (reference : Tables) (history : List EntryOf) → IsLegal reference history → AllGiveUpTrades reference history }
@@ -50,7 +50,7 @@ pub fn a_group_has_few_open_offers()
         → open_count (standing_of history) group ≤ 4096 }
 {}
 
-/// An entry of a legal history makes sixteen offers at most.
+/// An entry of a legal history makes at most sixteen offers.
 pub fn an_entry_makes_few_offers()
     ensures { (reference : Tables) (history : List EntryOf) → IsLegal reference history → length (offers_of history) ≤ 16 * length history }
 {}

@@ -1,4 +1,4 @@
-//! The rule book: what histories of commands and sweeps come to, which of them are legal, and what holds of those.
+//! The rule book: the state that a history of commands and sweeps leads to, which histories are legal, and the laws that hold for those.
 #![tactic(auto)]
 
 mod laws;

@@ -19,14 +19,14 @@ use Rattle.gu_text.proofs.WrittenTakes.{right_again, same_key, same_lots, same_n
 
 -- ---- the first entries of a history
 
--- they are where they were
+-- each is at the same index
 taken_entry : (history : List Entry) (k j : ℕ) → j < k → slice_get (take k history) j ≡ slice_get history j
 taken_entry history zero j less = absurd (omega (arith, less))
 taken_entry [] (suc k) j less = refl
 taken_entry (entry ∷ history) (suc k) zero less = refl
 taken_entry (entry ∷ history) (suc k) (suc j) less = taken_entry history k j (omega (arith, less))
 
--- and are a legal history
+-- they are a legal history
 legal_first : (reference : Tables) (history : List Entry) (k : ℕ) → IsLegal reference history → IsLegal reference (take k history)
 legal_first reference history k legal = record {
   within = omega (arith, length-take k history, legal.within);

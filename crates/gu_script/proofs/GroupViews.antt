@@ -1,4 +1,4 @@
--- The view of a group after a legal history: what holds of every view holds of it, it is nested, and its names and numbers can be written.
+-- The view of a group after a legal history: it has the properties of every view, is nested, and its names and numbers can be written.
 use Rattle.std.proofs.Common.{◌≡◌, ℕ, suc, ◌+◌, ◌*◌, ◌<◌, ◌≤◌, ◌&&◌, ◌++◌, Bool, true, false, not, cond, List, [], ◌∷◌, length, map, filter, nat_lt, Option, Some, None, unwrap_or, refl, sym, ap, ◌∙◌, subst, arith, inl, inr, ◌^◌, length-append}
 use Rattle.std.specs.Prelude.{IsTrue, if◌then◌else◌}
 use Rattle.std.specs.List.{AllByRecursion, cons_option, filter_map, flat_map, list_all}
@@ -68,7 +68,7 @@ use Rattle.gu_text.specs.WrittenSheets.{IsNamed}
 
 -- ---- lots of offers
 
--- the offers that lines make have the lines' lots
+-- offers made from lines have the lines' lots
 line_lots : (firm : FirmId) (report : Id) (group : Group) (lines : List Line) → AllByRecursion (λ (l : Line). IsLots l.lots) lines
     → AllByRecursion (λ (o : GivenUp). IsLots o.lots) (map {B = GivenUp} (λ (l : Line). record { firm = firm; report = report; group = group; account = l.account; lots = l.lots }) lines)
 line_lots firm report group [] h = tt
@@ -82,7 +82,7 @@ offers_lots : (history : List Entry) → AllByRecursion HasLots history → AllB
 offers_lots [] h = tt
 offers_lots (entry ∷ history) h = all-append (λ (o : GivenUp). IsLots o.lots) (lines_by entry) (offers_of history) (made_lots entry h.0) (offers_lots history h.1)
 
--- so offers are sound as they are after a history
+-- so the offers after a history are sound
 rows_sound : (history : List Entry) → IsBalanced history → (n : ℕ) (offers : List GivenUp) → AllByRecursion (λ (o : GivenUp). IsLots o.lots) offers
     → AllByRecursion (λ (r : Row). r.moved ≤ r.offer.lots) (standing_from history n offers) → AllByRecursion IsSoundRow (standing_from history n offers)
 rows_sound history balanced n [] lots within = tt
@@ -99,7 +99,7 @@ chosen : (b : Bool) (given lots : ℕ) → given ≤ 1000000000 → (if b then S
 chosen true given lots low h = let same : given ≡ lots = cc in omega (arith, low, same)
 chosen false given lots low h = cc
 
--- a limit that is set is a thousand million lots at most
+-- a limit that is set has at most 1,000,000,000 lots
 set_most : (reference : Tables) (before : List Entry) (entry : Entry) → length before < 1000000 → MayFollow reference before entry → (group : Group) (key : LimitKey) (lots : ℕ)
     → limit_set_by group key entry ≡ Some lots → lots ≤ 1000000000
 set_most reference before (Asked (SetLimit it) (Accepted LimitSet)) room may group key lots e =
@@ -128,7 +128,7 @@ limits_most reference history legal =
 
 -- ---- keys
 
--- keys that are mentioned first are no more than those that are mentioned
+-- first mentions of keys are no more than all mentions
 filter-fewer : {X : Type 0} (p : X → Bool) (xs : List X) → length (filter p xs) ≤ length xs
 filter-fewer p [] = omega arith
 filter-fewer {X} p (x ∷ xs) = by (p x) (filter-fewer p xs)
@@ -141,7 +141,7 @@ firsts-fewer : (keys : List LimitKey) → length (firsts keys) ≤ length keys
 firsts-fewer [] = omega arith
 firsts-fewer (k ∷ keys) = omega (arith, filter-fewer (λ j. not (key_eq k j)) (firsts keys), firsts-fewer keys)
 
--- a path has five keys at most
+-- a path has at most five keys
 few_keys : (executing : FirmId) (id : AgreementId) (account : AccountId) (carrying : FirmId) (guarantor : Option FirmId) → length (path_through executing id account carrying guarantor) ≤ 5
 few_keys executing id account carrying None = omega arith
 few_keys executing id account carrying (Some firm) = omega arith
@@ -172,7 +172,7 @@ module _ (reference : Tables) (history : List Entry) (group : Group) where
 
 -- ---- names
 
--- a group of a reference has a name
+-- a group of a reference has a valid name
 group_named : (groups : List Group) (group : Group) → AllByRecursion (λ (g : Group). is_name g.name ≡ true) groups → has_group groups group ≡ true → is_name group.name ≡ true
 group_named [] group h e = cc
 group_named (g ∷ groups) group h e =
@@ -181,7 +181,7 @@ group_named (g ∷ groups) group h e =
       | inr miss ↦ group_named groups group h.1 (sym (rw miss refl) ∙ e)
     ]
 
--- a path through names
+-- a path with valid names
 through_named : (executing : FirmId) (id : AgreementId) (account : AccountId) (carrying : FirmId) (guarantor : Option FirmId)
     → is_name executing.name ≡ true → is_name id.name ≡ true → is_name account.name ≡ true → is_name carrying.name ≡ true → ((firm : FirmId) → guarantor ≡ Some firm → is_name firm.name ≡ true)
     → list_all (λ k. is_name (name_of_key k)) (path_through executing id account carrying guarantor) ≡ true
@@ -189,7 +189,7 @@ through_named executing id account carrying None e i a c g = rw (e, i, a, c) ref
 through_named executing id account carrying (Some firm) e i a c g = rw (e, i, a, c, g firm refl) refl
 
 module _ (reference : Tables) (history : List Entry) (typed : AreTyped reference history) where
-  -- a guarantor has a name
+  -- a guarantor has a valid name
   guarantor_named : (firm guarantor : FirmId) → guarantor_of reference firm ≡ Some guarantor → is_name guarantor.name ≡ true
   guarantor_named firm guarantor is = by (guarantor_for reference.guarantors firm) refl is
     where
@@ -201,7 +201,7 @@ module _ (reference : Tables) (history : List Entry) (typed : AreTyped reference
           (all-found (λ (x : Guarantor). is_name x.guarantor.name ≡ true) (λ (x : Guarantor). same_firm x.firm firm) reference.guarantors g
           (recursion_from_All (λ (x : Guarantor). is_name x.guarantor.name ≡ true) reference.guarantors typed.guarantors) e)
 
-  -- and so have the keys on the path of an agreement
+  -- so have the keys on the path of an agreement
   path_named : (id : AgreementId) (path : List LimitKey) → path_of reference id ≡ Some path → list_all (λ k. is_name (name_of_key k)) path ≡ true
   path_named id path is = by (agreement_row reference id) refl is
     where

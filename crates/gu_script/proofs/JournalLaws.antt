@@ -15,12 +15,12 @@ use Rattle.gu_text.proofs.WrittenCommandLemmas.{command_says, remark_is_silent, 
 use Rattle.gu_script.specs.Journals.{IsWritableEntry, command_said, days_apart, entry_rows, entry_said, journal_text, open_after, rows_after, rows_apart, said_after}
 use Rattle.gu_script.specs.Replaying.{SayAll}
 
--- rows are lines, and say this and what later rows say
+-- rows are lines, and say this followed by what later rows say
 record SayFirst (rows : List (List (List ℕ))) (said : Line) : Type 0 where
   are : AllByRecursion AreWords rows
   say : (texts : List (List ℕ)) (others : List Line) → SayAll texts others → SayAll (map joined rows ++ texts) (said ∷ others)
 
--- rows that say nothing are lines, and what later rows say is all that is said
+-- silent rows are lines, and only later rows say anything
 silent_are_lines : (rows : List (List (List ℕ))) → AllByRecursion IsSilentLineOf rows → AllByRecursion AreWords rows
 silent_are_lines [] all = tt
 silent_are_lines (row ∷ rows) all = (all.0.are, silent_are_lines rows all.1)
@@ -30,7 +30,7 @@ silent_say [] all texts others say = say
 silent_say (row ∷ rows) all texts [] say = (all.0.silent, silent_say rows all.1 texts [] say)
 silent_say (row ∷ rows) all texts (said ∷ others) say = inl (all.0.silent, silent_say rows all.1 texts (said ∷ others) say)
 
--- of a command and its days apart
+-- for a command with its two days
 apart_says : (command : Command) (days : Option (Day × Day)) → IsWritableCommand command → SayFirst (rows_apart command days) (command_said command days)
 apart_says command None is =
     let row = command_says command is in

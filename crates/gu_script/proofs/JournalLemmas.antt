@@ -1,4 +1,4 @@
--- A journal that is written entry by entry.
+-- A journal, written entry by entry.
 use Rattle.std.proofs.Common.{◌≡◌, ◌+◌, ◌++◌, ◌∷◌, [], ◌∙◌, ℕ, List, Option, None, Some, take, drop, get_or, refl, sym, ap, subst, append_assoc}
 use Rattle.std.specs.Prelude.{slice_get}
 use Rattle.std.specs.Io.KnownBytes.{Appends}
@@ -38,7 +38,7 @@ pub open_from-append : (today : Option Day) (xs : List Entry) (entry : Entry) �
 open_from-append today [] entry = refl
 open_from-append today (x ∷ xs) entry = open_from-append (open_after today x) xs entry
 
--- the first entries, one more
+-- the first entries and one more
 pub next_taken : (history : List Entry) (place : ℕ) (entry : Entry) → slice_get history place ≡ Some entry → take (place + 1) history ≡ take place history ++ entry ∷ []
 next_taken history place entry is =
     let within = slice_get_within history place entry is in
@@ -46,7 +46,7 @@ next_taken history place entry is =
     let same : get_or history place entry ≡ entry = cc in
     take_more history place entry within ∙ ap (λ (e : Entry). take place history ++ e ∷ []) same
 
--- the text of the first entries is written and held
+-- the text of the first entries is written or held
 pub record IsWrittenTo (history : List Entry) (place : ℕ) (held : List ℕ) (old new : Option (List ℕ)) : Type 0 where
   pub sent : List ℕ
   pub appended : Appends old new sent
@@ -73,7 +73,7 @@ written_to_next history place entry today held more old new there is appended so
       ∙ ap (λ (es : List Entry). text_of None es) (sym (next_taken history place entry there));
 }
 
--- a part of what is held is sent
+-- part of what is held is sent
 pub written_to_sent : (history : List Entry) (place : ℕ) (held sent left : List ℕ) (old mid new : Option (List ℕ))
     → Appends mid new sent → held ≡ sent ++ left → IsWrittenTo history place held old mid → IsWrittenTo history place left old new
 written_to_sent history place held sent left old mid new appended parts so_far = record {
@@ -82,14 +82,14 @@ written_to_sent history place held sent left old mid new appended parts so_far =
   text = append_assoc so_far.sent sent left ∙ ap (λ (t : List ℕ). so_far.sent ++ t) (sym parts) ∙ so_far.text;
 }
 
--- the text of the first entries begins the journal
+-- the text of the first entries is a prefix of the journal
 begins : (history : List Entry) (place : ℕ) → (rest : List ℕ) × (journal_text history ≡ text_of None (take place history) ++ rest)
 begins history place = (
   text_of (open_from None (take place history)) (drop place history),
   ap (λ (es : List Entry). text_of None es) (sym (take-append-drop place history)) ∙ text_of-append None (take place history) (drop place history),
 )
 
--- a part of what was held was written
+-- part of what was held was written
 pub wrote_part : (history : List Entry) (place : ℕ) (held : List ℕ) (old mid new : Option (List ℕ)) → WrotePart held mid new → IsWrittenTo history place held old mid → WrotePart (journal_text history) old new
 wrote_part history place held old mid new part so_far =
     let after = begins history place in
@@ -110,7 +110,7 @@ pub wrote_no_more : (history : List Entry) (place : ℕ) (held : List ℕ) (old 
 wrote_no_more history place held old new so_far =
     wrote_part history place held old new new (record { written = []; appended = Appends-nil new; prefix = record { rest = held; parts = refl } }) so_far
 
--- all was held, and is sent
+-- everything was held, and is sent
 pub wrote_all : (history : List Entry) (place : ℕ) (held : List ℕ) (old mid new : Option (List ℕ)) → take place history ≡ history → Appends mid new held → IsWrittenTo history place held old mid
     → Appends old new (journal_text history)
 wrote_all history place held old mid new whole appended so_far =

@@ -1,4 +1,4 @@
--- Looks of a run: what a worker proposes is a sweep of the group that it looked at.
+-- Looks in a run: a worker proposes a sweep of the group that it looked at.
 use Rattle.std.proofs.Common.{◌≡◌, length, ◌∙◌, ◌⊎◌, ℕ, zero, suc, Bool, true, false, List, [], ◌∷◌, Option, Some, None, replicate, refl, sym, ap, subst, cond, inl, inr}
 use Rattle.std.specs.Prelude.{slice_index_or, slice_set}
 use Rattle.std.specs.Option.{option_map_or}
@@ -17,9 +17,9 @@ use Rattle.gu_world.specs.declared.outcome.Outcome.TheVariants.{Asked, Full, See
 use Rattle.gu_world.specs.declared.step.Step.{Step}
 use Rattle.gu_world.specs.declared.step.Step.TheVariants.{Enter, See, Propose, Commit}
 
--- ---- looks with proposals of their own groups
+-- ---- looks with proposals for their own groups
 
--- a look's proposal is of its group
+-- a look's proposal is for its group
 abbrev pub IsOwn : Option Look → Type 0
 IsOwn held = (look : Look) (sweep : SweepEntry) → held ≡ Some look → look.proposal ≡ Some sweep → sweep.group ≡ look.group
 
@@ -36,7 +36,7 @@ own_unproposed held none look sweep is has =
     let both : None ≡ Some sweep = sym none ∙ ap (λ (h : Option Look). option_map_or (λ (l : Look). l.proposal) h None) is ∙ has in
     cc
 
--- a look with a proposal of its group
+-- a look with a proposal for its group
 own_proposed : (held : Look) (proposed : SweepEntry) → held.proposal ≡ Some proposed → proposed.group ≡ held.group → IsOwn (Some held)
 own_proposed held proposed has own look sweep is same =
     let looks : held ≡ look = ap (λ (h : Option Look). option_map_or (λ (l : Look). l) h held) is in
@@ -44,7 +44,7 @@ own_proposed held proposed has own look sweep is same =
     let sweeps : proposed ≡ sweep = ap (λ (s : Option SweepEntry). option_map_or (λ (x : SweepEntry). x) s proposed) both in
     ap (λ (x : SweepEntry). x.group) (sym sweeps) ∙ own ∙ ap (λ (l : Look). l.group) looks
 
--- at the start there is none
+-- initially there is none
 own_start : (n worker : ℕ) → IsOwn (slice_index_or (replicate {A = Option Look} n None) worker None)
 own_start zero worker = own_none
 own_start (suc n) zero = own_none
@@ -58,9 +58,9 @@ own_set (first ∷ looks) zero held own is (suc worker) = own (suc worker)
 own_set (first ∷ looks) (suc place) held own is zero = own 0
 own_set (first ∷ looks) (suc place) held own is (suc worker) = own_set looks place held (λ v. own (suc v)) is worker
 
--- ---- what became of a step
+-- ---- outcomes of a step
 
--- an outcome and a state are what is determined
+-- an outcome and a state are these
 abbrev IsResult : Outcome → State → Outcome × State → Type 0
 IsResult outcome new result = ◌≡◌ {A = Outcome × State} (outcome, new) result
 
@@ -75,7 +75,7 @@ step_entered old new command outcome leads = along (is_full old) leads.1
     along true is = (inr (ap (λ (p : Outcome × State). p.0) is), ap (λ (p : Outcome × State). p.1.looks) is)
     along false is = (inl (_, ap (λ (p : Outcome × State). p.0) is), ap (λ (p : Outcome × State). p.1.looks) is)
 
--- a worker saw its group, which is known, or it is unknown
+-- a worker saw its group, which is known, or the group is unknown
 pub record IsSeen (old : State) (worker : ℕ) (group : Group) (outcome : Outcome) (new : State) : Type 0 where
   pub known : is_group old.book.reference group ≡ true
   pub outcome_is : (version : ℕ) × (outcome ≡ Seen version)
@@ -140,7 +140,7 @@ pub record IsCommitted (old : State) (worker : ℕ) (outcome : Outcome) : Type 0
 abbrev pub IsUncommitted : Outcome → Type 0
 IsUncommitted outcome = (outcome ≡ Nothing) ⊎ ((outcome ≡ Full) ⊎ ((seen : ℕ) × (now : ℕ) × (outcome ≡ Stale seen now)))
 
--- and its look is gone, or it stays
+-- its look is gone, or it stays
 abbrev pub KeepsLook : State → ℕ → State → Type 0
 KeepsLook old worker new = (new.looks ≡ old.looks) ⊎ (new.looks ≡ slice_set old.looks worker None)
 
@@ -190,6 +190,6 @@ own_run old new [] (o ∷ outcomes) run own = absurd run
 own_run old new (s ∷ steps) [] run own = absurd run
 own_run old new (s ∷ steps) (o ∷ outcomes) run own = own_run run.0 new steps outcomes run.2 (own_step old run.0 s o run.1 own)
 
--- whatever steps led there, each proposal is of the group that its worker looked at
+-- in any course that is reached, each proposal is for the group that its worker looked at
 pub own_reached : (course : Course) → IsReached course → AreOwn course.state.looks
 own_reached course reached = own_run (start course.state.book.reference) course.state reached.steps course.outcomes reached.run (own_start 64)

@@ -1,4 +1,4 @@
--- A script while it is read: the lines that a piece ends, and what waits for more.
+-- A script while it is read: the lines that a piece ends, and the bytes that wait for more.
 use Rattle.std.proofs.Common.{◌≡◌, ◌≢◌, ◌∙◌, ℕ, ◌+◌, ◌<◌, ◌≤◌, Bool, true, false, ◌&&◌, ◌==◌, nat_le, List, [], ◌∷◌, ◌++◌, length, refl, sym, ap, subst, append_assoc, append-nil, length-append, arith, Result, Ok, Err}
 use Rattle.std.specs.Str.Lines.{lines, strip_carriage_return}
 use Rattle.std.specs.Prelude.{IsErrAnd, IsErrOf, OnOk}
@@ -16,7 +16,7 @@ use Rattle.gu_script.proofs.ReplayTexts.{lines_none, lines_then}
 
 -- ---- a piece
 
--- so far the lines that the piece ends are answered: this is the place, and that is left of the piece
+-- so far the lines that the piece ends are answered: the script is at this place, and this is left of the piece
 pub record Taking (old : Place) (piece : List ℕ) (now : Place) (left before after : List ℕ) : Type 0 where
   pub text : List ℕ
   pub appended : after ≡ before ++ text
@@ -33,7 +33,7 @@ taking_none old piece before none = record {
   room = omega arith;
 }
 
--- a line more
+-- one more line
 pub taking_line : (old now new : Place) (piece left part next before after later : List ℕ) → Taking old piece now left before after → IsParted left part next
     → AnswersLines now.course (strip_carriage_return (now.rest ++ part) ∷ []) after new.course later → new.count ≡ now.count + 1 → new.rest ≡ [] → Taking old piece new next before later
 taking_line old now new piece left part next before after later taking is line counted done =
@@ -108,7 +108,7 @@ taking_bad old now piece left part next before after number taking is bad number
       },
     )
 
--- what waits is longer than any good line
+-- the waiting bytes are longer than any valid line
 pub taking_long : (old now : Place) (piece left before after : List ℕ) (number : ℕ) → Taking old piece now left before after → IsTooLong (now.rest ++ left) → number ≡ now.count + 1
     → (text : List ℕ) × (after ≡ before ++ text) × StopsInPiece old piece text number
 taking_long old now piece left before after number taking long number_is =
@@ -126,9 +126,9 @@ taking_long old now piece left before after number taking long number_is =
       },
     )
 
--- ---- what became of a piece, and of the end
+-- ---- results of a piece, and of the end
 
--- where a line was refused
+-- if a line was refused
 pub piece_refused : (result : Result (Unit {0}) TextError) (error : TextError) (old now new : Place) (piece left part next before after later : List ℕ) → IsErrAnd result (λ e. e ≡ error)
     → Taking old piece now left before after → IsParted left part next
     → ((n : ℕ) → error ≡ text_error.BadLine n → (n ≡ now.count + 1) × IsBad (strip_carriage_return (now.rest ++ part)) × (later ≡ after)) → AnswersPiece result old piece before new later
@@ -139,7 +139,7 @@ piece_refused (Err (text_error.BadLine n)) error old now new piece left part nex
     let stops = taking_bad old now piece left part next before after n taking is line.1 line.0 in
     (stops.0, line.2 ∙ stops.1, stops.2)
 
--- where what is left is kept, or too long
+-- if the rest is kept, or too long
 pub piece_kept : (result : Result (Unit {0}) TextError) (old now new : Place) (piece left before after : List ℕ) → Taking old piece now left before after → HasNoLineFeed left
     → OnOk result (new ≡ record now { rest = now.rest ++ left }) → ((n : ℕ) → IsErrOf result (text_error.BadLine n) → (n ≡ now.count + 1) × IsTooLong (now.rest ++ left))
     → AnswersPiece result old piece before new after
@@ -149,7 +149,7 @@ piece_kept (Err (text_error.BadLine n)) old now new piece left before after taki
     let long = bad n refl in
     taking_long old now piece left before after n taking long.1 long.0
 
--- where the last line was refused
+-- if the last line was refused
 pub end_refused : (result : Result (Unit {0}) TextError) (error : TextError) (old : Place) (new : Course) (before : List ℕ) → IsErrAnd result (λ e. e ≡ error)
     → ((n : ℕ) → error ≡ text_error.BadLine n → (n ≡ old.count + 1) × IsBad old.rest) → HasNoLineFeed old.rest → old.rest ≢ [] → AnswersEnd result old before new before
 end_refused (Ok _) error old new before passed bad none some = absurd passed

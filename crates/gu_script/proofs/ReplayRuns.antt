@@ -21,7 +21,7 @@ use Rattle.gu_script.proofs.ReplayTexts.{lines_none, lines_then}
 use Rattle.gu_streams.proofs.Writing.{wrote_all, wrote_then}
 
 module _ (old : Course) where
-  -- so far the ended lines of what was read are answered, and their text was written
+  -- so far the ended lines read are answered, and their text was written
   pub record Playing (place : Place) (input_old input_new output_old output_new : Option (List ℕ)) : Type 0 where
     pub read : List ℕ
     pub ended : List (List ℕ)
@@ -47,7 +47,7 @@ module _ (old : Course) where
     appended = Appends-nil output;
   }
 
-  -- a piece more
+  -- one more piece
   pub playing_more : (mid new : Place) (i j k o p q : Option (List ℕ)) (piece more : List ℕ) → Playing mid i j o p → Consumes j k piece → TakesPiece mid piece more new → Appends p q more → Playing new i k o q
   playing_more mid new i j k o p q piece more run consumed takes sent = let all = takes.answers in record {
     read = run.read ++ piece;
@@ -76,7 +76,7 @@ module _ (old : Course) where
   }
 
 module _ (old : Course) (waits_old waits_new : ℕ) where
-  -- what was read and written between these
+  -- what was read and written in between
   abbrev between : (input_old input_new output_old output_new : Option (List ℕ)) → Streams
   between input_old input_new output_old output_new = record {
     input_old = input_old;
@@ -87,7 +87,7 @@ module _ (old : Course) (waits_old waits_new : ℕ) where
     output_new = output_new;
   }
 
-  -- what is answered is that of the ended lines
+  -- exactly the ended lines are answered
   pub played_so_far : (place : Place) (i j o p : Option (List ℕ)) → Playing old place i j o p → ReplayedSoFar old (between i j o p)
   played_so_far place i j o p run = record {
     read = run.read;
@@ -113,7 +113,7 @@ module _ (old : Course) (waits_old waits_new : ℕ) where
     wrote = wrote_all run.text o p run.appended;
   }
 
-  -- all that was read is answered
+  -- everything read is answered
   pub in_part_now : (place : Place) (i j o p : Option (List ℕ)) → Playing old place i j o p → ReplayedInPart old (between i j o p)
   in_part_now place i j o p run = record {
     read = run.read;
@@ -168,9 +168,9 @@ module _ (old : Course) (waits_old waits_new : ℕ) where
         appended = Appends-trans o p q run.text more run.appended sent;
       }
 
-  -- ---- what was given
+  -- ---- results
 
-  -- an error other than of the reader, with what was written
+  -- an error that isn't the reader's, with what was written
   pub record Stopped (error : ScriptError) (input_old input_new output_old output_new : Option (List ℕ)) : Type 0 where
     pub in_part : ReplayedInPart old (between input_old input_new output_old output_new)
     pub bad_line : (number : ℕ) → error ≡ BadLine number → StopsAtBadLine old number (between input_old input_new output_old output_new)
@@ -200,7 +200,7 @@ module _ (old : Course) (waits_old waits_new : ℕ) where
     not_read = λ same. let both : Memory ≡ Read = sym is ∙ same in absurd (cc);
   }
 
-  -- a piece is answered and given
+  -- a piece is answered and the text written
   gave_piece : (mid new : Place) (answered : Result (Unit {0}) TextError) (given : Unit {0}) (i j k o p q : Option (List ℕ)) (piece after : List ℕ) → Playing old mid i j o p → Consumes j k piece
       → AnswersPiece answered mid piece [] new after → Gives answered (Ok given) after p q → Playing old new i k o q
   gave_piece mid new (Ok _) given i j k o p q piece after run consumed (text, appended, takes) sent =
@@ -208,7 +208,7 @@ module _ (old : Course) (waits_old waits_new : ℕ) where
   gave_piece mid new (Err text_error.Memory) given i j k o p q piece after run consumed answers gives = absurd gives
   gave_piece mid new (Err (text_error.BadLine number)) given i j k o p q piece after run consumed answers gives = absurd gives
 
-  -- or an error is
+  -- or there is an error
   gave_error : (mid new : Place) (answered : Result (Unit {0}) TextError) (error : ScriptError) (i j k o p q : Option (List ℕ)) (piece after : List ℕ) → Playing old mid i j o p → Consumes j k piece
       → AnswersPiece answered mid piece [] new after → Gives answered (Err error) after p q → Stopped error i k o q
   gave_error mid new (Ok _) error i j k o p q piece after run consumed (text, appended, takes) (is, part) =
@@ -227,7 +227,7 @@ module _ (old : Course) (waits_old waits_new : ℕ) where
 
   -- ---- the end
 
-  -- the reader is at its end: all of the lines are those that were ended and the last
+  -- the reader is at its end: the lines are the ended ones and the last
   in_part_of_all : (place : Place) (last : Course) (i j k o p q : Option (List ℕ)) (more : List ℕ) → Playing old place i j o p → Consumes j k [] → IsAtEnd k → IsTextOfLines place.course (lines place.rest) more last
       → WrotePart more p q → ReplayedInPart old (between i k o q)
   in_part_of_all place last i j k o p q more run consumed end of_lines part = record {
@@ -298,7 +298,7 @@ module _ (old : Course) (waits_old waits_new : ℕ) where
       by (Err (text_error.BadLine number)) (bad, nothing) (inr (is, part)) =
           stopped_by_write i k o q error (in_part_with (subst (λ (t : List ℕ). WrotePart t p q) nothing part)) is
 
-  -- ---- what became of a piece, and of the end
+  -- ---- results of a piece, and of the end
 
   -- after a piece
   abbrev pub AfterPiece : Result (Unit {0}) ScriptError → Place → Option (List ℕ) → Option (List ℕ) → Option (List ℕ) → Option (List ℕ) → Type 0
@@ -347,13 +347,13 @@ error_moved {T} {S} a b e =
     let same : a ≡ b = cc in
     subst (λ (x : ScriptError). IsErrOf {T = S} {E = ScriptError} (Err a) x) same refl
 
--- what was given was answered
+-- what was written was answered
 pub given_counted : (P : Type 0) (answered : Result (Unit {0}) TextError) (given : Unit {0}) (text : List ℕ) (p q : Option (List ℕ)) → Gives answered (Ok given) text p q → OnOk answered P → P
 given_counted P (Ok _) given text p q gives h = h
 given_counted P (Err text_error.Memory) given text p q gives h = absurd gives
 given_counted P (Err (text_error.BadLine number)) given text p q gives h = absurd gives
 
--- no more lines than bytes, and 4,096 bytes a read at most
+-- there are at most as many lines as bytes, and at most 4,096 bytes a read
 pub room_more : (count new piece n left next all : ℕ) → count + 4096 * left ≤ all → new ≤ count + piece → piece ≤ n → n ≤ 4096 → next ≡ left - 1 → 0 < left → new + 4096 * next ≤ all
 room_more count new piece n left next all room counted within short next_is some = omega (arith, room, counted, within, short, next_is, some)
 

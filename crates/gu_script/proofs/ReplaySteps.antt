@@ -1,4 +1,4 @@
--- What is appended of steps and of whole sweeps.
+-- The texts appended for steps and for whole sweeps.
 use Rattle.std.proofs.Common.{◌≡◌, ◌∙◌, ℕ, true, false, List, [], ◌∷◌, ◌++◌, Option, Some, None, refl, sym, ap, subst, inl, inr, append-nil, append_assoc}
 use Rattle.std.specs.Prelude.{IsSome, IsTrue, MatchOption}
 use Rattle.gu_terms.specs.declared.entry.Entry.TheVariants.{Swept as SweptEntry}
@@ -26,7 +26,7 @@ use Rattle.gu_script.proofs.ReplayTexts.{line_said, line_silent}
 
 -- ---- one step
 
--- an outcome has one text for the view that is handed back and for the view that is defined
+-- an outcome has the same text with the view returned as with the view defined
 abbrev HasOneText : State → Step → Option GroupView → Outcome → Type 0
 HasOneText old step view outcome = outcome_text view (looked step) outcome ≡ step_text old.book step outcome
 
@@ -114,7 +114,7 @@ three_more all first second last a b c one two three =
     three ∙ ap (λ (os : List Outcome). os ++ c ∷ []) (two ∙ ap (λ (os : List Outcome). os ++ b ∷ []) one)
     ∙ append_assoc (all ++ a ∷ []) (b ∷ []) (c ∷ []) ∙ append_assoc all (a ∷ []) (b ∷ c ∷ [])
 
--- a sweep of a group that is known
+-- a sweep of a known group
 pub line_of_sweep : (old mid new : Course) (group : Group) (before after : List ℕ) → is_group old.state.book.reference group ≡ true → Proposes old group mid → AnswersStep mid (Commit sweeper) before new after
     → AnswersLine old (line.Sweep group) before new after
 line_of_sweep old mid new group before after known proposes answers =
@@ -139,7 +139,7 @@ line_of_sweep old mid new group before after known proposes answers =
       | inr unseen ↦ absurd (let both : true ≡ false = sym known ∙ unseen.unknown in cc)
     ]
 
--- and of one that the reference lacks
+-- a sweep of a group that the reference lacks
 pub line_of_unknown : (old mid new : Course) (group : Group) (before after : List ℕ) → is_group old.state.book.reference group ≡ false → Proposes old group mid → GoesOn mid (Commit sweeper) new
     → after ≡ before ++ outcome_text None None NoGroup → AnswersLine old (line.Sweep group) before new after
 line_of_unknown old mid new group before after unknown proposes last appended =
@@ -160,7 +160,7 @@ line_of_unknown old mid new group before after unknown proposes last appended =
           }
     ]
 
--- what a line says is answered, and where it is silent nothing is
+-- the content of a line is answered; if it is silent, nothing is
 pub said_answered : (old new : Course) (text : List ℕ) (said : Option Line) (before after : List ℕ) → MatchOption said (IsTrue (is_silent text)) (Says text) → AnswersSaid old said before new after
     → AnswersLines old (text ∷ []) before new after
 said_answered old new text None before after silent answers = record {

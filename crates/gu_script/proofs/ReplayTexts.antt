@@ -1,4 +1,4 @@
--- Texts of lines: those of some lines, and then of others.
+-- Texts of lines: those of some lines, followed by those of others.
 use Rattle.std.proofs.Common.{◌∙◌, ℕ, List, [], ◌∷◌, ◌++◌, IsTrue, refl, sym, ap, subst, append_assoc, append-nil, inl, inr}
 use Rattle.gu_world.specs.Runs.{Course}
 use Rattle.gu_text.specs.Lines.{is_silent}
@@ -6,7 +6,7 @@ use Rattle.gu_text.specs.Scripts.{Says}
 use Rattle.gu_text.specs.declared.script_line.Line.{Line}
 use Rattle.gu_script.specs.Replaying.{HasLineText, HasText, IsTextOfLines, SayAll}
 
--- lines say something, and others something more
+-- lines say something, and others say more
 pub SayAll-append : (texts more : List (List ℕ)) (said others : List Line) → SayAll texts said → SayAll more others → SayAll (texts ++ more) (said ++ others)
 SayAll-append [] more [] others first second = second
 SayAll-append [] more (one ∷ said) others first second = absurd first
@@ -15,7 +15,7 @@ SayAll-append (text ∷ texts) more [] (one ∷ others) first second = inl (firs
 SayAll-append (text ∷ texts) more (one ∷ said) others (inl silent) second = inl (silent.0, SayAll-append texts more (one ∷ said) others silent.1 second)
 SayAll-append (text ∷ texts) more (one ∷ said) others (inr says) second = inr (says.0, SayAll-append texts more said others says.1 second)
 
--- what they say is done one after another
+-- what they say is carried out one after another
 pub HasText-append : (old mid new : Course) (said others : List Line) (text more : List ℕ) → HasText old said text mid → HasText mid others more new → HasText old (said ++ others) (text ++ more) new
 HasText-append old mid new [] others text more first second =
     subst (λ (t : List ℕ). HasText old others (t ++ more) new) (sym first.0) (subst (λ (s : Course). HasText s others more new) first.1 second)
@@ -34,7 +34,7 @@ lines_then old mid new texts others text more first second = record {
 pub lines_none : (old : Course) → IsTextOfLines old [] [] old
 lines_none old = record { said = []; all = tt; has_text = (refl, refl) }
 
--- nor has a silent line another
+-- so has a silent line
 pub line_silent : (old : Course) (text : List ℕ) → IsTrue (is_silent text) → IsTextOfLines old (text ∷ []) [] old
 line_silent old text silent = record { said = []; all = (silent, tt); has_text = (refl, refl) }
 

@@ -20,8 +20,8 @@ use Rattle.gu_text.specs.SheetText.{sheet_text}
 use Rattle.gu_text.specs.Sheets.{IsSheet}
 use Rattle.gu_text.specs.WrittenSheets.{cut_of, sheet_of, takes_of}
 
--- a sweep of a view prints a right sheet: its text is a sheet, of this view, a take of each of its offers and the cut in the view's order;
--- what is read of it is OK, with the sweep's lots; and it takes of each offer what the sweep takes, and has the sweep's cut
+-- a sweep of a view prints a right sheet: its text is a sheet of this view, with a take from each of its offers and the cut in the view's
+-- order; read back, it passes the check with the sweep's lots, takes the same lots from each offer as the sweep, and has the sweep's cut
 pub record PrintsRightSheet (view : GroupView) (sweep : SweepEntry) : Type 0 where
   pub sheet : IsSheet (sheet_text view sweep.takes sweep.cut) (sheet_of view sweep.takes sweep.cut)
   pub right : verdict view (takes_of view sweep.takes) (cut_of view sweep.cut) ≡ Ok sweep.lots
@@ -29,20 +29,20 @@ pub record PrintsRightSheet (view : GroupView) (sweep : SweepEntry) : Type 0 whe
   pub keys : (key : LimitKey) → has_key (cut_of view sweep.cut).keys key ≡ has_key sweep.cut.keys key
   pub offers : (number : ℕ) → has_number (cut_of view sweep.cut).offers number ≡ has_number sweep.cut.offers number
 
--- each committed sweep prints one, of its group's view as the book was just before the commit
+-- each committed sweep prints a right sheet of its group's view, as the book was just before the commit
 abbrev pub PrintRightSheets : Tables → List Entry → Type 0
 PrintRightSheets reference history =
     (k : ℕ) (sweep : SweepEntry)
     → slice_get history k ≡ Some (Swept sweep)
     → PrintsRightSheet (group_view reference (take k history) sweep.group) sweep
 
--- the lines of a give-up have 1 to 1,000,000 lots each
+-- if an entry is of a give-up, each of its lines has 1 to 1,000,000 lots
 abbrev pub HasLots : Entry → Type 0
 HasLots (Asked (GiveUp give_up) reply) = AllByRecursion (λ l. IsLots l.lots) give_up.lines
 HasLots entry = Unit {0}
 
--- what the types of a reference and of commands keep, and these tables and lists alone don't: the reference is sound and its names are
--- names, and the lines of a give-up have 1 to 1,000,000 lots each
+-- invariants of the types of references and commands that these tables and lists alone don't have: the reference is sound, its names that
+-- sheets print are valid, and the lines of a give-up have 1 to 1,000,000 lots each
 pub record AreTyped (reference : Tables) (history : List Entry) : Type 0 where
   pub sound : IsSound reference
   pub groups : All (λ g. IsTrue (is_name g.name)) reference.groups

@@ -13,30 +13,30 @@ use Rattle.gu_script.specs.ScriptSteps.{AnswersLines}
 use Rattle.gu_script.specs.declared.error.ScriptError.{ScriptError}
 use Rattle.gu_script.specs.declared.error.ScriptError.TheVariants.{Memory, Write, BadLine}
 
--- how far a script is: the course of its steps, how many lines are done, and the bytes after the last LF
+-- a place in a script: the course of its steps, the number of lines done, and the bytes after the last LF
 pub record Place : Type 0 where
   pub course : Course
   pub count : ℕ
   pub rest : List ℕ
 
--- a line: the bytes that were extended by its last part, or that part where there were none
+-- a line: the bytes extended by its last part, or that part if there were none
 abbrev pub whole_line : List ℕ → List ℕ → List ℕ
 whole_line [] part = part
 whole_line (first ∷ others) part = first ∷ others
 
--- the lines that are ended in bytes are answered, and this is what is left of the bytes
+-- the lines ended in these bytes are answered, and this is what is left of the bytes
 pub record AnswersEnded (old : Place) (bytes text : List ℕ) (new : Place) (left : List ℕ) : Type 0 where
   pub ended : List (List ℕ)
   pub leaves : LeavesOpen bytes ended left
   pub of_lines : IsTextOfLines old.course ended text new.course
   pub count_is : new.count ≡ old.count + length ended
 
--- a piece is taken: the lines that it ends are answered, and what comes after the last LF waits
+-- a piece is taken: the lines that it ends are answered, and the bytes after the last LF wait
 pub record TakesPiece (old : Place) (piece text : List ℕ) (new : Place) : Type 0 where
   pub answers : AnswersEnded old (old.rest ++ piece) text new new.rest
   pub none : HasNoLineFeed new.rest
 
--- whatever comes after these bytes, their first line is bad
+-- given what follows these bytes, their first line is bad
 pub record BeginsBad (left more : List ℕ) : Type 0 where
   pub bad : List ℕ
   pub after : List (List ℕ)
@@ -53,26 +53,26 @@ pub record StopsInPiece (old : Place) (piece text : List ℕ) (number : ℕ) : T
   pub bad : (more : List ℕ) → BeginsBad left more
   pub number_is : number ≡ old.count + length before + 1
 
--- what became of a piece, and of the output
+-- the result for a piece and the output
 abbrev pub AnswersPiece : Result (Unit {0}) TextError → Place → List ℕ → List ℕ → Place → List ℕ → Type 0
 AnswersPiece (Ok _) old piece before new after = (text : List ℕ) × (after ≡ before ++ text) × TakesPiece old piece text new
 AnswersPiece (Err (text_error.BadLine number)) old piece before new after =
     (text : List ℕ) × (after ≡ before ++ text) × StopsInPiece old piece text number
 AnswersPiece (Err text_error.Memory) old piece before new after = Unit {0}
 
--- the last line is bad: it is the rest, and nothing more comes
+-- the last line is bad: it is the rest, and nothing more follows
 pub record EndsBad (old : Place) (number : ℕ) : Type 0 where
   pub line : lines old.rest ≡ old.rest ∷ []
   pub is_bad : IsBad old.rest
   pub number_is : number ≡ old.count + 1
 
--- what became of the end, and of the output
+-- the result for the end and the output
 abbrev pub AnswersEnd : Result (Unit {0}) TextError → Place → List ℕ → Course → List ℕ → Type 0
 AnswersEnd (Ok _) old before new after = AnswersLines old.course (lines old.rest) before new after
 AnswersEnd (Err (text_error.BadLine number)) old before new after = EndsBad old number × (after ≡ before)
 AnswersEnd (Err text_error.Memory) old before new after = Unit {0}
 
--- what was answered is written, and then a bad line is named; where an allocation failed, nothing is written
+-- the answers are written, and then a bad line is reported; if an allocation failed, nothing is written
 abbrev pub Gives : Result (Unit {0}) TextError → Result (Unit {0}) ScriptError → List ℕ → Option (List ℕ) → Option (List ℕ) → Type 0
 Gives (Ok _) (Ok _) text old new = Appends old new text
 Gives (Ok _) (Err error) text old new = (error ≡ Write) × WrotePart text old new
@@ -82,7 +82,7 @@ Gives (Err (text_error.BadLine number)) (Ok _) text old new = ⊥
 Gives (Err (text_error.BadLine number)) (Err error) text old new =
     ((error ≡ BadLine number) × Appends old new text) ⊎ ((error ≡ Write) × WrotePart text old new)
 
--- what came after the last LF is answered, and that was given
+-- the bytes after the last LF are answered, and the answer is written
 pub record Ended (result : Result (Unit {0}) ScriptError) (old : Place) (new : Course)
     (output_old output_new : Option (List ℕ)) : Type 0 where
   pub answered : Result (Unit {0}) TextError

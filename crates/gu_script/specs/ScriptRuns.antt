@@ -9,24 +9,24 @@ use Rattle.gu_text.specs.Scripts.{IsBad}
 use Rattle.gu_script.specs.Replaying.{IsTextOfLines}
 use Rattle.gu_streams.specs.Streams.{Streams}
 
--- all that the reader had is a script that leads from a course to another, with this text
+-- all that the reader had is a script that leads from one course to another, with this text
 pub record IsPlayed (old : Course) (text : List ℕ) (new : Course) (input_old input_new : Option (List ℕ)) : Type 0 where
   pub read : List ℕ
   pub consumed : Consumes input_old input_new read
   pub at_end : IsAtEnd input_new
   pub of_lines : IsTextOfLines old (lines read) text new
 
--- with some text
+-- the same, with some text
 abbrev pub Played : Course → Course → Option (List ℕ) → Option (List ℕ) → Type 0
 Played old new input_old input_new = (text : List ℕ) × IsPlayed old text new input_old input_new
 
--- and exactly its text was written
+-- the same, and exactly its text was written
 pub record Replayed (old new : Course) (streams : Streams) : Type 0 where
   pub text : List ℕ
   pub all : IsPlayed old text new streams.input_old streams.input_new
   pub appended : Appends streams.output_old streams.output_new text
 
--- the lines that were ended in what was read are answered, and exactly their text was written
+-- the lines ended in what was read are answered, and exactly their text was written
 pub record ReplayedSoFar (old : Course) (streams : Streams) : Type 0 where
   pub read : List ℕ
   pub text : List ℕ
@@ -35,7 +35,7 @@ pub record ReplayedSoFar (old : Course) (streams : Streams) : Type 0 where
   pub of_lines : IsTextOfLines old (ended_lines read) text last
   pub appended : Appends streams.output_old streams.output_new text
 
--- a script ends at its first bad line, which has this number, counted from 1: the text is that of the lines before it
+-- a script ends at its first bad line, which has this number, counted from 1; the text is that of the lines before it
 pub record EndsAtBadLine (old : Course) (bytes text : List ℕ) (number : ℕ) : Type 0 where
   pub before : List (List ℕ)
   pub bad : List ℕ
@@ -57,13 +57,13 @@ pub record HasBadLine (old : Course) (text : List ℕ) (number : ℕ) (input_old
   pub consumed : Consumes input_old input_new read
   pub ends : EndsThere old read input_new text number
 
--- and exactly the text of the lines before it was written
+-- the same, and exactly the text of the lines before it was written
 pub record StopsAtBadLine (old : Course) (number : ℕ) (streams : Streams) : Type 0 where
   pub text : List ℕ
   pub has_bad_line : HasBadLine old text number streams.input_old streams.input_new
   pub appended : Appends streams.output_old streams.output_new text
 
--- these are the first of the lines that were ended in what was read; its last line counts too, where it is all that the reader had
+-- these are the first of the lines ended in what was read; its last line counts too if it is all that the reader had
 abbrev pub AreFirstLines : List ℕ → Option (List ℕ) → List (List ℕ) → Type 0
 AreFirstLines read input first =
     (others : List (List ℕ)) × ((ended_lines read ≡ first ++ others) ⊎ (IsAtEnd input × (lines read ≡ first ++ others)))

@@ -5,16 +5,16 @@ use gu_text::TextError;
 use std::alloc::AllocError;
 use thiserror::Error;
 
-/// Why an engine that reads lines stopped. What was written before stays written.
+/// The reason that an engine that reads lines stopped. Text already written stays written.
 #[derive(Debug, Drop, Clone, Copy, PartialEq, Eq, Error)]
 pub enum ScriptError {
     /// An allocation failed.
     #[error("out of memory")]
     Memory,
-    /// The reader failed, or all its reads were made.
+    /// The reader failed, or its reads are used up.
     #[error("read fault")]
     Read,
-    /// The writer failed, or took nothing.
+    /// The writer failed, or accepted nothing.
     #[error("write fault")]
     Write,
     /// This line of the text, counted from 1, is bad.

@@ -14,7 +14,7 @@ use gu_text::{append_command, append_remark, append_sweep};
 use std::alloc::{AllocError, Global};
 use std::io::Write;
 
-/// The bytes that are held at most, but for the lines of one entry.
+/// The most bytes buffered, apart from the lines of one entry.
 const MOST_HELD: usize = 65_536;
 
 /// Returns the day that an entry opened, if it opened one.
@@ -30,7 +30,7 @@ pub fn opened_day(entry: &Entry) -> Option<Day>
     }
 }
 
-/// The days of a report that names another day than the open one: the named and the open.
+/// Returns the day that a report names and the open day, if they differ.
 fn days_apart(today: Option<Day>, command: &Command) -> Option<(Day, Day)>
     ensures { result ≡ days_apart today command.now }
 {
@@ -43,7 +43,7 @@ fn days_apart(today: Option<Day>, command: &Command) -> Option<(Day, Day)>
     }
 }
 
-/// Appends the lines of a command with these days apart.
+/// Appends the lines of a command, given its two days if they differ.
 fn append_asked(
     output: &mut Vec<u8>,
     command: &Command,
@@ -60,7 +60,7 @@ fn append_asked(
     }
 }
 
-/// Appends the lines of an entry in a journal, if this day is open before it.
+/// Appends the lines of an entry in a journal, given the day that is open before it.
 pub fn append_entry(
     output: &mut Vec<u8>,
     today: Option<Day>,
@@ -74,7 +74,7 @@ pub fn append_entry(
     }
 }
 
-/// Sends what is held where it is much. What is sent and what is held then are what was held before.
+/// Writes the buffer out if it is large. The bytes written and those left in it are the bytes that were in it.
 fn send_much<W: Write>(output: &mut Vec<u8>, writer: &mut W) -> Result<(), StreamError>
     ensures ok { OnOk result ((sent : List ℕ) × Appends (W.contents writer.old) (W.contents writer.new) sent
         × (output.old.items ≡ sent ++ output.new.items)) }
@@ -88,7 +88,7 @@ fn send_much<W: Write>(output: &mut Vec<u8>, writer: &mut W) -> Result<(), Strea
     Ok(())
 }
 
-/// Writes the journal of a history: a script that makes the same entries. After an error some prefix of it was written.
+/// Writes the journal of a history: a script that makes the same entries. After an error, some prefix of it was written.
 pub fn write_journal<W: Write>(
     alloc: Global,
     history: &History,

@@ -1,4 +1,4 @@
-//! What holds of every script, and of the sheets of committed sweeps.
+//! Laws of every script, and of the sheets of committed sweeps.
 
 ghost use Rattle.std.specs.Prelude.{List, None};
 ghost use Rattle.std.specs.List.{AllByRecursion};
@@ -12,13 +12,13 @@ ghost use Rattle.gu_script.specs.CommittedSheets.{AreTyped, PrintRightSheets};
 ghost use Rattle.gu_script.specs.Journals.{IsWritableEntry, journal_text, said_after};
 ghost use Rattle.gu_script.specs.Replaying.{SayAll, StepsAreARun};
 
-/// A script is one run of the steps of its lines. So what holds of every run holds of a script.
+/// A script is one run of the steps in its lines. So what holds of every run holds of a script.
 pub fn a_script_is_a_run()
     ensures { StepsAreARun }
 {}
 
 /// Each committed sweep prints a right sheet: the text of its takes and its cut, in the view of its group as the book was just before the
-/// commit, is a sheet, is read back as these takes and this cut, and is OK with the sweep's lots.
+/// commit, is a sheet, is read back as these takes and this cut, and passes the check with the sweep's lots.
 pub fn a_committed_sweep_prints_a_right_sheet()
     ensures legal { (reference : Tables) (history : List EntryOf)
         → AreTyped reference history

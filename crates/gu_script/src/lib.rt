@@ -1,4 +1,4 @@
-//! Scripts: each line is done, and answered by its text.
+//! Scripts: each line is carried out and answered with its text.
 #![tactic(auto)]
 
 mod error;

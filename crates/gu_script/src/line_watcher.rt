@@ -1,15 +1,15 @@
-//! Who watches the lines of a script as they are done.
+//! Watchers of a script's lines.
 
 use gu_world::World;
 use std::alloc::AllocError;
 
-/// Sees each line of a script once it is done.
+/// A watcher sees each line of a script after it is carried out.
 pub trait LineWatcher {
-    /// The line of this number is done: the world is as the line left it.
+    /// Sees the world after the line with this number is carried out.
     fn see(&mut self, number: u64, world: &World) -> Result<(), AllocError>;
 }
 
-/// Nobody watches.
+/// A watcher that does nothing.
 #[derive(Drop)]
 pub struct Unwatched;
 

@@ -1,4 +1,4 @@
-//! Scripts that are read, done and answered.
+//! Reading scripts, carrying them out and answering.
 
 ghost use Rattle.std.specs.Prelude.{◌≡◌, ◌+◌, ◌^◌, ◌<◌, [], List, ℕ, IfOk, IsErrOf};
 ghost use Rattle.gu_streams.specs.Reads.{HasStopped, bytes_left};
@@ -20,7 +20,7 @@ use std::alloc::Global;
 use std::io;
 use std::io::{Read, Write};
 
-/// Writes what was answered, and then names a bad line. Where an allocation failed, nothing is written.
+/// Writes the answers, and then reports a bad line if there is one. If an allocation failed, nothing is written.
 fn give<W: Write>(
     answered: Result<(), TextError>,
     output: &[u8],
@@ -41,7 +41,7 @@ fn give<W: Write>(
     }
 }
 
-/// Answers what came after the last LF, where nothing more comes.
+/// Answers the bytes after the last LF, given that nothing more follows.
 fn answer_end<W: Write, L: LineWatcher>(
     script: &mut Script,
     output: &mut Vec<u8>,
@@ -56,7 +56,7 @@ fn answer_end<W: Write, L: LineWatcher>(
     give(answered, output, writer)
 }
 
-/// Plays the lines of a script that nothing was read of, writes their text, and returns the world that they led to. The whole lines of a
+/// Plays the lines of a script of which nothing was read, writes their text, and returns the world that they lead to. The whole lines of a
 /// read are answered before the next read.
 fn play_from<R: Read, W: Write, L: LineWatcher>(
     alloc: Global,
@@ -73,12 +73,12 @@ fn play_from<R: Read, W: Write, L: LineWatcher>(
     ensures bad_line { (n : ℕ) → IsErrOf result (ScriptError.BadLine n)
         → StopsAtBadLine script.course n (streams_of R.remaining W.contents reads.old reads.new writer.old writer.new) }
 
-    // Where the reader failed, or no read was left, the lines that were ended are answered, and exactly that was written.
+    // If the reader failed or no reads are left, the ended lines are answered, and exactly their text is written.
     ensures answered { IsErrOf result ScriptError.Read
         → ReplayedSoFar script.course (streams_of R.remaining W.contents reads.old reads.new writer.old writer.new) }
     ensures stopped { IsErrOf result ScriptError.Read → HasStopped reads.new }
 
-    // In any case, and so after each error: what was written is a prefix of the text of the first lines.
+    // In every case, and so after each error: what was written is a prefix of the text of the first lines.
     ensures part { ReplayedInPart script.course (streams_of R.remaining W.contents reads.old reads.new writer.old writer.new) }
 {
     let mut script = script;
@@ -100,8 +100,8 @@ fn play_from<R: Read, W: Write, L: LineWatcher>(
     Err(ScriptError::Read)
 }
 
-/// Plays a script from a book without entries, writes the text of its lines, and returns the world that they led to: its book, and the
-/// outcome of each step. The whole lines of a read are answered before the next read.
+/// Plays a script from an empty book, writes the text of its lines, and returns the world that they lead to: its book, and the outcome of
+/// each step. The whole lines of a read are answered before the next read.
 pub fn play<R: Read, W: Write>(
     alloc: Global,
     reference: Reference,
@@ -116,20 +116,19 @@ pub fn play<R: Read, W: Write>(
     ensures bad_line { (n : ℕ) → IsErrOf result (ScriptError.BadLine n)
         → StopsAtBadLine (beginning reference) n (streams_of R.remaining W.contents reads.old reads.new writer.old writer.new) }
 
-    // Where the reader failed, or no read was left, the lines that were ended are answered, and exactly that was written.
+    // If the reader failed or no reads are left, the ended lines are answered, and exactly their text is written.
     ensures answered { IsErrOf result ScriptError.Read
         → ReplayedSoFar (beginning reference) (streams_of R.remaining W.contents reads.old reads.new writer.old writer.new) }
     ensures stopped { IsErrOf result ScriptError.Read → HasStopped reads.new }
 
-    // In any case, and so after each error: what was written is a prefix of the text of the first lines.
+    // In every case, and so after each error: what was written is a prefix of the text of the first lines.
     ensures part { ReplayedInPart (beginning reference) (streams_of R.remaining W.contents reads.old reads.new writer.old writer.new) }
 {
     let script = Script::new(alloc, reference, seed);
     play_from(alloc, script, reads, writer, &mut Unwatched)
 }
 
-/// Plays a script from a book without entries, and returns the world that it led to, with the lines that did nothing of what they say.
-/// Nothing is written.
+/// Plays a script from an empty book, and returns the world that it leads to and the lines that had no effect. Nothing is written.
 pub fn play_opening<R: Read>(
     alloc: Global,
     reference: Reference,

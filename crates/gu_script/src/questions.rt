@@ -1,4 +1,4 @@
-//! What a script asks of the book.
+//! Answers to a script's questions.
 
 ghost use Rattle.std.specs.Prelude.{◌≡◌, ◌++◌, OnOk};
 ghost use Rattle.gu_script.specs.Replaying.{interest_answer, limits_answer, position_answer};
@@ -8,7 +8,7 @@ use gu_terms::{AccountId, Group, Symbol};
 use gu_text::{append_interest, append_limit, append_position, append_unknown};
 use std::alloc::AllocError;
 
-/// Appends what an account holds of an instrument.
+/// Appends an account's position in an instrument.
 pub fn answer_position(
     book: &Book,
     account: AccountId,
@@ -38,7 +38,7 @@ pub fn answer_interest(book: &Book, symbol: Symbol, output: &mut Vec<u8>) -> Res
     }
 }
 
-/// Appends the limits that are set in a group.
+/// Appends the limits set in a group.
 pub fn answer_limits(book: &Book, group: Group, output: &mut Vec<u8>) -> Result<(), AllocError>
     ensures { OnOk result (output.new.items ≡ output.old.items ++ limits_answer book.now group) }
 {

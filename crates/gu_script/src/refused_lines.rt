@@ -1,4 +1,4 @@
-//! The lines of a script that did nothing of what they say.
+//! The lines of a script that had no effect.
 
 use crate::line_watcher::LineWatcher;
 use gu_terms::{Entry, Receipt, RefusalText, Reply};
@@ -6,10 +6,10 @@ use gu_world::{Outcome, World};
 use std::alloc::{AllocError, Global};
 use std::fmt;
 
-/// How many refused lines are kept.
+/// The most refused lines stored.
 const MOST_KEPT: usize = 20;
 
-/// Why a line of a script did nothing.
+/// The reason that a line of a script had no effect.
 #[derive(Clone, Copy, Debug)]
 pub enum LineRefusal {
     /// The command was refused: the number and the text of the refusal.
@@ -21,7 +21,7 @@ pub enum LineRefusal {
 }
 
 impl LineRefusal {
-    /// Returns why the step with this outcome did nothing, if it did nothing.
+    /// Returns the reason that the step with this outcome had no effect, if it had none.
     fn of(outcome: &Outcome) -> Option<Self> {
         match outcome {
             Outcome::Asked(
@@ -44,7 +44,7 @@ impl LineRefusal {
 }
 
 impl fmt::Display for LineRefusal {
-    /// Writes the answer of a replay without its number and its NO: `16 UnknownKey`.
+    /// Writes the replay's answer without its number and its NO: `16 UnknownKey`.
     fn fmt<W: fmt::Write>(&self, f: &mut fmt::Formatter<W>) -> fmt::Result {
         match self {
             LineRefusal::Denied { number, text } => {
@@ -57,25 +57,25 @@ impl fmt::Display for LineRefusal {
     }
 }
 
-/// A line of a script that did nothing.
+/// A line of a script that had no effect.
 #[derive(Clone, Copy, Debug)]
 pub struct RefusedLine {
-    /// The number of the line; the first is line 1.
+    /// The number of the line, counted from 1.
     pub number: u64,
     pub why: LineRefusal,
 }
 
-/// The lines of a script that did nothing of what they say: the first 20 of them, and how many there are.
+/// The lines of a script that had no effect: the first 20 of them, and how many there are.
 #[derive(Drop)]
 pub struct RefusedLines {
     first: Vec<RefusedLine>,
     count: u64,
-    /// How many steps the lines before had.
+    /// The number of steps in the lines so far.
     steps: usize,
 }
 
 impl RefusedLines {
-    /// Creates an empty list.
+    /// Returns an empty list.
     pub(crate) fn new(alloc: Global) -> Self {
         RefusedLines {
             first: Vec::new(alloc),
@@ -89,7 +89,7 @@ impl RefusedLines {
         &self.first
     }
 
-    /// Returns how many there are.
+    /// Returns the number of them.
     pub fn count(&self) -> u64 {
         self.count
     }

@@ -1,4 +1,4 @@
-//! A script that is read piece by piece, and answered line by line.
+//! A script read piece by piece and answered line by line.
 
 ghost use Rattle.std.specs.Prelude.{◌≡◌, ◌+◌, ◌^◌, ◌<◌, ◌≤◌, ◌++◌, ◌∷◌, [], ℕ, length, OnOk, IsErrOf};
 ghost use Rattle.std.specs.Str.Lines.{strip_carriage_return};
@@ -18,7 +18,7 @@ use gu_world::World;
 use std::alloc::{AllocError, Global};
 use std::marker::Model;
 
-/// Does what a line says, and appends its text.
+/// Carries out a line, and appends its text.
 #[inline(always)]
 fn answer_line(world: &mut World, said: &Line, output: &mut Vec<u8>) -> Result<(), AllocError>
     ensures { OnOk result (AnswersLine world.old said.now output.old.items world.new output.new.items) }
@@ -32,7 +32,7 @@ fn answer_line(world: &mut World, said: &Line, output: &mut Vec<u8>) -> Result<(
     }
 }
 
-/// Extends the bytes before a part of a line by the part, where there are some.
+/// Extends the bytes before a part of a line by the part, if there are any.
 fn extend_begun(rest: &mut Vec<u8>, part: &[u8]) -> Result<(), AllocError>
     ensures whole { OnOk result (whole_line rest.new.items part.now ≡ rest.old.items ++ part.now) }
     ensures none { HasNoLineFeed rest.old.items → HasNoLineFeed part.now → HasNoLineFeed rest.new.items }
@@ -43,19 +43,18 @@ fn extend_begun(rest: &mut Vec<u8>, part: &[u8]) -> Result<(), AllocError>
     rest.extend_from_slice(part)
 }
 
-/// A line: the bytes that were extended, or the part where there were none.
+/// Returns the whole line: the extended bytes, or the part if there were none.
 fn whole_line<'a>(rest: &'a [u8], part: &'a [u8]) -> &'a [u8]
     ensures { result.now ≡ whole_line rest.now part.now }
 {
     if rest.is_empty() { part } else { rest }
 }
 
-/// A script that is being read: what its lines led to so far, and what waits for more.
-/// To a contract it is a place in a script.
+/// A script being read: the world that its lines so far led to, and the bytes that wait for more. To a contract it is a place in a script.
 pub struct Script {
     alloc: Global,
     world: World,
-    /// How many lines are done, silent ones too.
+    /// The number of lines done, including silent ones.
     count: u64,
     /// The bytes after the last LF.
     rest: Vec<u8>,
@@ -72,7 +71,7 @@ impl Model for Script {
     ghost invariant = { λ s. HasNoLineFeed s.rest.items };
 }
 
-// By hand, so that a script is dropped by one call.
+// By hand, so that a script is dropped with one call.
 impl Drop for Script {
     fn drop(self) {
         let Script {
@@ -87,7 +86,7 @@ impl Drop for Script {
 }
 
 impl Script {
-    /// Before the first line, with a book without entries, whose tables of ids have this seed. No answer depends on it.
+    /// Returns a script before its first line, with an empty book whose tables of ids use `seed`. The seed affects no answer.
     pub fn new(alloc: Global, reference: Reference, seed: Seed) -> Self
         ensures { result ≡ record { course = beginning reference; count = 0; rest = [] } }
     {
@@ -99,7 +98,7 @@ impl Script {
         }
     }
 
-    /// Does what a line says, which ends the rest, and shows the world to who watches.
+    /// Carries out the content of a line, which empties the rest, and shows the world to the watcher.
     #[inline(always)]
     fn answer<L: LineWatcher>(
         &mut self,
@@ -120,7 +119,7 @@ impl Script {
         watcher.see(self.count, &self.world)
     }
 
-    /// Answers a line that an LF ends: the rest, and what comes before the LF. What it says is read over what the last line said.
+    /// Answers a line ended by an LF: the rest so far, followed by the bytes before the LF. Its content is read over that of the last line.
     fn end_line<L: LineWatcher>(
         &mut self,
         part: &[u8],
@@ -144,7 +143,7 @@ impl Script {
         Ok(())
     }
 
-    /// Keeps what comes after the last LF, unless it is longer than any good line.
+    /// Keeps the bytes after the last LF, unless they are longer than any valid line.
     fn keep(&mut self, bytes: &[u8]) -> Result<(), TextError>
         requires room { self.old.count + 1 < 2 ^ 64 }
         requires none { HasNoLineFeed bytes.now }
@@ -158,7 +157,7 @@ impl Script {
         Ok(())
     }
 
-    /// Answers the lines that a piece ends, and keeps what comes after the last LF.
+    /// Answers the lines that a piece ends, and keeps the bytes after the last LF.
     pub fn take<L: LineWatcher>(
         &mut self,
         piece: &[u8],
@@ -169,7 +168,7 @@ impl Script {
         ensures answered { AnswersPiece result self.old piece.now output.old.items self.new output.new.items }
         ensures counted { OnOk result (self.new.count ≤ self.old.count + length piece.now) }
     {
-        // Shows the prover: how long what waits may be.
+        // Shows the prover: the length of the bytes that wait.
         let _waiting = self.rest.len();
         let mut said = None;
         let mut left = piece;
@@ -180,7 +179,7 @@ impl Script {
         self.keep(left)
     }
 
-    /// Answers what came after the last LF, where nothing more comes.
+    /// Answers the bytes after the last LF, given that nothing more follows.
     pub fn end<L: LineWatcher>(
         &mut self,
         output: &mut Vec<u8>,
@@ -199,7 +198,7 @@ impl Script {
         Ok(())
     }
 
-    /// The world that the lines led to.
+    /// Returns the world that the lines led to.
     pub fn into_world(self) -> World
         ensures { result ≡ self.course }
     {

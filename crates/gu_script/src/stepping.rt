@@ -14,7 +14,7 @@ use gu_text::{append_outcome, append_reply};
 use gu_world::{Answered, Step, Worker, World};
 use std::alloc::AllocError;
 
-/// The group that a step looks at.
+/// Returns the group that a step looks at.
 fn looked(step: &Step) -> Option<Group>
     ensures { result ≡ looked step.now }
 {
@@ -24,14 +24,14 @@ fn looked(step: &Step) -> Option<Group>
     }
 }
 
-/// The worker that sweeps; no line names it.
+/// Returns the worker that sweeps, which no line names.
 fn sweeper() -> Worker
     ensures { result ≡ sweeper }
 {
     Worker::known(63)
 }
 
-/// Takes a step that shows no view, and appends what came of it.
+/// Takes a step that shows no view, and appends its outcome.
 fn answer_step(world: &mut World, step: Step, output: &mut Vec<u8>) -> Result<(), AllocError>
     requires { ShowsFor world.old.state step None }
     ensures { OnOk result (AnswersStep world.old step output.old.items world.new output.new.items) }
@@ -45,7 +45,7 @@ fn answer_step(world: &mut World, step: Step, output: &mut Vec<u8>) -> Result<()
     appended
 }
 
-/// Has a worker commit, and appends what came of it. The sheet of a sweep shows the view that it was proposed for.
+/// Commits a worker's proposal, and appends the outcome. The sheet of a sweep shows the view for which it was proposed.
 fn answer_commit(world: &mut World, worker: Worker, output: &mut Vec<u8>) -> Result<(), AllocError>
     ensures { OnOk result (AnswersStep world.old (Commit worker) output.old.items world.new output.new.items) }
 {
@@ -75,8 +75,8 @@ fn answer_command(
     }
 }
 
-/// Has a worker look at a group, and appends what it saw. (This and `answer_proposal` are functions of their own, so that no other line
-/// pays for the room of their steps.)
+/// Lets a worker look at a group, and appends what it saw. (This and `answer_proposal` are separate functions, so that no other line pays
+/// for the room of their steps.)
 #[inline(never)]
 fn answer_look(
     world: &mut World,
@@ -89,7 +89,7 @@ fn answer_look(
     answer_step(world, Step::See(worker, group), output)
 }
 
-/// Has a worker propose, and appends what came of it.
+/// Makes a worker's proposal, and appends the outcome.
 #[inline(never)]
 fn answer_proposal(
     world: &mut World,
@@ -101,7 +101,7 @@ fn answer_proposal(
     answer_step(world, Step::Propose(worker), output)
 }
 
-/// Takes a borrowed step, and appends what came of it. A command isn't copied.
+/// Takes a borrowed step, and appends its outcome. A command isn't copied.
 pub fn answer_borrowed(
     world: &mut World,
     step: &Step,
@@ -117,7 +117,7 @@ pub fn answer_borrowed(
     }
 }
 
-/// Has the sweeper look at a group and propose for what it saw.
+/// Lets the sweeper look at a group and propose for what it saw.
 fn propose(world: &mut World, group: &Group) -> Result<(), AllocError>
     ensures { OnOk result (Proposes world.old group.now world.new) }
 {
@@ -133,7 +133,7 @@ fn append_unknown_group(output: &mut Vec<u8>) -> Result<(), AllocError>
     append_last_word(output, b"GROUP")
 }
 
-/// Sweeps a group, and appends what came of it.
+/// Sweeps a group, and appends the outcome.
 pub fn answer_sweep(world: &mut World, group: Group, output: &mut Vec<u8>) -> Result<(), AllocError>
     ensures { OnOk result (AnswersLine world.old (line.Sweep group) output.old.items world.new output.new.items) }
 {

@@ -11,7 +11,7 @@ pub enum LostBy<P> {
     Memory,
     /// The lines of an entry were no valid batch; nothing was written after what is kept.
     Length,
-    /// Its file failed: the last batch may be found in it, or a beginning of that batch.
+    /// Its place failed, or is another writer's: the last batch may be found in it, or a beginning of that batch.
     Place(Stopped<P, SinkError>),
 }
 

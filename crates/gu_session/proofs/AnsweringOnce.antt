@@ -1,4 +1,4 @@
--- Each reference is handed out once, and answered once.
+-- Each reference is handed out at most once, and answered at most once.
 use Rattle.std.proofs.Common.{◌≡◌, ◌≤◌, ◌⊎◌, ◌+◌, ◌==◌, inl, inr, ℕ, Bool, true, false, not, cond, List, [], ◌∷◌, ◌++◌, filter, filter_map, option_and_then, Option, None, Some, refl, ap, sym, subst, ◌∙◌, arith}
 use Rattle.std.specs.Option.{option_map_or}
 use Rattle.std.proofs.lemmas.List.Elements.{filter_map-append}
@@ -25,7 +25,7 @@ abbrev pub least_of : Option LoggedOn → ℕ
 least_of None = 1
 least_of (Some at) = at.expected
 
--- it never falls
+-- it never decreases
 pub plan_rises : (s : SessionState) (now : ℕ) (plan : Plan) (over : Bool) (at : Option LoggedOn) → is_over s.next plan ≡ over → s.at ≡ at → Takes at (Go plan) →
     least_of at ≤ least_of (session_after s now (Go plan)).at
 plan_rises s now plan true at over stood takes = rw (over, stood) (omega arith)
@@ -44,12 +44,12 @@ step_rises old new input now given steps =
       | inr other ↦ rw other.leaves (course_rises old now other.course (takes-course old input now other.course other.is_course))
     ]
 
--- from an earlier number on
+-- the same from an earlier number
 pub ascends-lower : (low from : ℕ) (references : List ℕ) → low ≤ from → AscendsFrom from references → AscendsFrom low references
 ascends-lower low from [] below each = tt
 ascends-lower low from (reference ∷ references) below each = (omega (arith, each.0, below), each.1)
 
--- what a step hands out, before what is handed out later
+-- what a step hands out comes before what is handed out later
 pub ascends-next : (old new : Option LoggedOn) (references later : List ℕ) → AreNext old new references → least_of old ≤ least_of new → AscendsFrom (least_of new) later →
     AscendsFrom (least_of old) (references ++ later)
 ascends-next old new [] later next up each = ascends-lower (least_of old) (least_of new) later up each
@@ -71,7 +71,7 @@ run_ascends old new (input ∷ inputs) given (first, later, next, steps, parts, 
 pub references_ascend : ReferencesGoUp
 references_ascend firms given s reached = run_ascends (new_session firms) s reached.inputs given reached.runs
 
--- what was taken out isn't found
+-- a request that was removed isn't found
 pub none_asked : (reference : ℕ) (waiting : List Waiting) → asked_by reference (filter (λ (one : Waiting). not (one.reference == reference)) waiting) ≡ None
 none_asked reference [] = refl
 none_asked reference (one ∷ waiting) =
@@ -88,7 +88,7 @@ pub settled_over : (s : SessionState) (now reference : ℕ) (at : LoggedOn) (mes
 settled_over s now reference at messages true over = rw over (inr (inr refl))
 settled_over s now reference at messages false over = rw over (inr (inl (none_asked reference (s.waiting ++ []))))
 
--- what is done on an answer, by what waits
+-- what the session does on an answer, given the waiting requests
 pub settled_by : (s : SessionState) (now reference : ℕ) (at : LoggedOn) (messages : Option (List Body)) →
     let course = option_map_or (λ (messages : List Body). Go (answers at reference messages)) messages Stay in
     (responses_of s now course ≡ []) ⊎ (asked_by reference (session_after s now course).waiting ≡ None) ⊎ ((session_after s now course).is_closed ≡ true)

@@ -1,4 +1,4 @@
--- What is kept ascends, below the next number.
+-- The numbers of kept messages ascend, below the next number.
 use Rattle.std.proofs.Common.{◌≡◌, ℕ, ◌+◌, ◌<◌, ◌≤◌, max, Bool, cond, true, false, ◌&&◌, nat_lt, nat_le, List, [], ◌∷◌, ◌++◌, filter_map, length, drop, Option, None, Some, suc, zero, refl, subst, arith}
 use Rattle.gu_terms.specs.declared.firm.FirmId.{FirmId}
 use Rattle.gu_msgs.specs.declared.outbound.Body.{Body}
@@ -9,7 +9,7 @@ use Rattle.gu_msgs.specs.declared.outbound.Application.{Application}
 use Rattle.gu_session.specs.declared.sent_ring.Sent.{Sent}
 use Rattle.gu_session.specs.Ascending.{AreWithin}
 
--- from an earlier number on
+-- the same from an earlier number
 pub within-lower : (low from to : ℕ) (kept : List Sent) → low ≤ from → AreWithin from to kept → AreWithin low to kept
 within-lower low from to [] below within = omega (arith, below, within)
 within-lower low from to (sent ∷ later) below (above, within) = (omega (arith, below, above), within)
@@ -19,13 +19,13 @@ pub within-append : (from mid to : ℕ) (xs ys : List Sent) → AreWithin from m
 within-append from mid to [] ys first second = within-lower from mid to ys first second
 within-append from mid to (x ∷ xs) ys (above, first) second = (above, within-append (x.number + 1) mid to xs ys first second)
 
--- without the first of them
+-- without the first ones
 pub within-drop : (n from to : ℕ) (kept : List Sent) → AreWithin from to kept → AreWithin from to (drop n kept)
 within-drop zero from to kept within = within
 within-drop (suc n) from to [] within = within
 within-drop (suc n) from to (sent ∷ later) (above, within) = within-drop n from to later (within-lower from (sent.number + 1) to later (omega (arith, above)) within)
 
--- a new message, if it is one to be kept, before later ones
+-- a new message, if it is to be kept, before later ones
 pub within-first : (firm : FirmId) (now number to : ℕ) (body : Body) (bodies : List Body) (found : Option Application) → application_of body ≡ found → number < to →
     AreWithin (number + 1) to (filter_map sent_in (numbered firm now (number + 1) bodies)) → AreWithin number to (filter_map sent_in (numbered firm now number (body ∷ bodies)))
 within-first firm now number to body bodies None is below rest =

@@ -1,4 +1,4 @@
--- What a closed session gives: nothing.
+-- A closed session gives nothing.
 use Rattle.std.proofs.Common.{◌≡◌, inl, inr, ℕ, true, List, [], ◌∷◌, ap, ◌∙◌, arith}
 use Rattle.gu_session.specs.Encoded.{Response}
 use Rattle.gu_session.specs.Laws.{ClosedForGood}

@@ -1,4 +1,4 @@
--- Messages that are sent again stand for each number once.
+-- Messages sent again cover each number once.
 use Rattle.std.proofs.Common.{◌≡◌, inl, inr, ℕ, ◌+◌, ◌≤◌, Bool, cond, true, false, nat_lt, List, [], ◌∷◌, ◌++◌, refl, sym, subst, is_some, arith}
 use Rattle.std.proofs.lemmas.List.{append-nil}
 use Rattle.gu_terms.specs.declared.firm.FirmId.{FirmId}
@@ -17,19 +17,19 @@ gap_then firm now from mid to messages within rest =
       | false ↦ λ more. let same : from ≡ mid = grind (arith, more, within) in subst (λ (n : ℕ). Covers n to messages) (sym same) rest
     ] refl
 
--- what was kept, with gap fills between
+-- kept messages, with gap fills between them
 pub covers_with_gaps : (firm : FirmId) (now from to : ℕ) (kept : List Sent) → AreWithin from to kept → Covers from to (with_gaps firm now from to kept)
 covers_with_gaps firm now from to [] within = subst (λ (messages : List Outbound). Covers from to messages) (append-nil (gap firm now from to)) (gap_then firm now from to to [] within refl)
 covers_with_gaps firm now from to (sent ∷ later) (above, within) =
     gap_then firm now from sent.number to (again firm now sent ∷ with_gaps firm now (sent.number + 1) to later) above
     (refl, sent.number + 1, inl (refl, refl), covers_with_gaps firm now (sent.number + 1) to later within)
 
--- an application message in front
+-- an application message before others
 pub longest-again : (message : Outbound) (messages : List Outbound) → is_some (application_of message.body) ≡ true → HasLongestRuns messages → HasLongestRuns (message ∷ messages)
 longest-again message [] kind rest = tt
 longest-again message (other ∷ messages) kind rest = (inl kind, rest)
 
--- a gap fill in front of an application message
+-- a gap fill before an application message
 pub longest-gap : (firm : FirmId) (now from to : ℕ) (message : Outbound) (messages : List Outbound) → is_some (application_of message.body) ≡ true →
     HasLongestRuns (message ∷ messages) → HasLongestRuns (gap firm now from to ++ message ∷ messages)
 longest-gap firm now from to message messages kind rest =
@@ -38,7 +38,7 @@ longest-gap firm now from to message messages kind rest =
       | false ↦ rest
     ]
 
--- gap fills are the longest
+-- no two gap fills are adjacent
 pub longest_with_gaps : (firm : FirmId) (now from to : ℕ) (kept : List Sent) → HasLongestRuns (with_gaps firm now from to kept)
 longest_with_gaps firm now from to [] =
     elim (nat_lt from to) as (λ (b : Bool). HasLongestRuns (cond b (gap_fill firm now from to ∷ []) [])) [

@@ -1,4 +1,4 @@
--- The end comes once, and last; before a firm is logged on nothing else comes.
+-- The end comes at most once, and last; before a firm logs on nothing else comes.
 use Rattle.std.proofs.Common.{◌≡◌, ◌⊎◌, inl, inr, ℕ, Bool, true, false, List, [], ◌∷◌, ◌++◌, map, Option, Some, None, refl, ap, sym, subst, ◌∙◌}
 use Rattle.gu_msgs.specs.declared.outbound.Outbound.{Outbound}
 use Rattle.gu_session.specs.Encoded.{Response, Sends, Hands, Closes}
@@ -26,7 +26,7 @@ pub record EndsWell (new : SessionState) (given : List Response) : Type 0 where
   pub last : EndsLast given
   pub ended : HasNoEnd given ⊎ (new.is_closed ≡ true)
 
--- messages before others are no end
+-- messages before other responses are no end
 pub last-sends : (messages : List Outbound) (given : List Response) → EndsLast given → EndsLast (map Sends messages ++ given)
 last-sends [] given last = last
 last-sends (message ∷ messages) given last = last-sends messages given last
@@ -35,7 +35,7 @@ pub none-sends : (messages : List Outbound) (given : List Response) → HasNoEnd
 none-sends [] given none = none
 none-sends (message ∷ messages) given none = none-sends messages given none
 
--- what comes after the messages of a plan
+-- the responses after a plan's messages
 pub last-ending : (handed : Option Handed) (ends : Bool) → EndsLast (ending_of handed ends)
 last-ending None true = refl
 last-ending None false = tt
@@ -60,7 +60,7 @@ course_ends_well s now Stay = record { last = tt; ended = inl tt }
 course_ends_well s now Leave = record { last = refl; ended = inr refl }
 course_ends_well s now (Go plan) = plan_ends_well s now plan (is_over s.next plan) refl
 
--- over a step
+-- in a step
 pub step_ends_well : (old new : SessionState) (input : Input) (now : ℕ) (given : List Response) → Steps old input now given new → EndsWell new given
 step_ends_well old new input now given steps =
     elim steps as (λ _. EndsWell new given) [
@@ -68,21 +68,21 @@ step_ends_well old new input now given steps =
       | inr other ↦ rw (other.gives, other.leaves) (course_ends_well old now other.course)
     ]
 
--- without an end the others go on
+-- if there is no end, the others follow
 pub last-append : (first later : List Response) → HasNoEnd first → EndsLast later → EndsLast (first ++ later)
 last-append [] later none last = last
 last-append (Sends message ∷ first) later none last = last-append first later none last
 last-append (Hands asked ∷ first) later none last = last-append first later none last
 last-append (Closes ∷ first) later none last = absurd none
 
--- with nothing after it what ends last still does
+-- if nothing follows, what ended last still does
 pub last-nothing : (first later : List Response) → later ≡ [] → EndsLast first → EndsLast (first ++ later)
 last-nothing [] later nothing last = rw nothing tt
 last-nothing (Sends message ∷ first) later nothing last = last-nothing first later nothing last
 last-nothing (Hands asked ∷ first) later nothing last = last-nothing first later nothing last
 last-nothing (Closes ∷ first) later nothing last = rw (last, nothing) refl
 
--- over a run
+-- in a run
 pub run_ends_last : (old new : SessionState) (inputs : List (Input × ℕ)) (given : List Response) → Runs old inputs given new → EndsLast given
 run_ends_last old new [] given runs = rw runs.0 tt
 run_ends_last old new (input ∷ inputs) given (first, later, next, steps, parts, rest) =
@@ -95,7 +95,7 @@ run_ends_last old new (input ∷ inputs) given (first, later, next, steps, parts
 pub close_is_last : CloseIsLast
 close_is_last firms given s reached = run_ends_last (new_session firms) s reached.inputs given reached.runs
 
--- where no firm is logged on after a step none was before, and nothing is given but the end
+-- if no firm is logged on after a step, none was before, and nothing is given but the end
 pub plan_is_silent : (s : SessionState) (now : ℕ) (plan : Plan) (over : Bool) → is_over s.next plan ≡ over → (session_after s now (Go plan)).at ≡ None →
     (s.at ≡ None) × IsSilent (responses_of s now (Go plan))
 plan_is_silent s now plan true over none = rw over ((rw over at none), inr refl)

@@ -1,4 +1,4 @@
--- What is new in a step, and over a run: its numbers. No rule is looked at.
+-- New messages in a step, and over a run: their numbers. No rule is used.
 use Rattle.std.proofs.Common.{◌≡◌, inl, inr, ℕ, ◌+◌, ◌≤◌, Bool, true, false, nat_lt, List, [], ◌∷◌, ◌++◌, map, filter_map, length, Option, Some, None, refl, ap, sym, subst, ◌∙◌, arith, suc}
 use Rattle.std.proofs.lemmas.List.{append-nil, length-append, map-append}
 use Rattle.std.proofs.lemmas.List.Elements.{filter_map-append}
@@ -21,7 +21,7 @@ use Rattle.gu_session.specs.declared.plan.Course.TheVariants.{Stay, Leave, Go}
 use Rattle.gu_session.specs.declared.plan.Handed.{Handed}
 use Rattle.gu_session.specs.declared.plan.Plan.{Plan}
 
--- messages that are sent for the first time are all new
+-- messages sent for the first time are all new
 pub new_messages-numbered : (firm : FirmId) (now number : ℕ) (bodies : List Body) →
     filter_map new_message (map Sends (numbered firm now number bodies)) ≡ numbered firm now number bodies
 new_messages-numbered firm now number [] = refl
@@ -29,7 +29,7 @@ new_messages-numbered firm now number (body ∷ bodies) =
     ap (λ (messages : List Outbound). record { firm = firm; msg_seq_num = number; sending_time = now; orig_sending_time = None; body = body } ∷ messages)
     (new_messages-numbered firm now (number + 1) bodies)
 
--- a gap fill is not new
+-- a gap fill isn't new
 pub new_messages-gap : (firm : FirmId) (now from to : ℕ) (rest : List Outbound) →
     filter_map new_message (map Sends (gap firm now from to ++ rest)) ≡ filter_map new_message (map Sends rest)
 new_messages-gap firm now from to rest =
@@ -38,7 +38,7 @@ new_messages-gap firm now from to rest =
       | false ↦ λ more. rw more refl
     ] refl
 
--- nothing that is sent again is
+-- no message sent again is new
 pub new_messages-gaps : (firm : FirmId) (now from to : ℕ) (kept : List Sent) → filter_map new_message (map Sends (with_gaps firm now from to kept)) ≡ []
 new_messages-gaps firm now from to [] =
     ap (λ (messages : List Outbound). filter_map new_message (map Sends messages)) (sym (append-nil (gap firm now from to))) ∙ new_messages-gap firm now from to []
@@ -52,7 +52,7 @@ new_messages-repeats s now None plan is = rw is refl
 new_messages-repeats s now (Some request) plan is =
     rw is (new_messages-gaps plan.after.firm now request.begin_seq_no (behind_last s.next request.end_seq_no) (sent_within request.begin_seq_no (behind_last s.next request.end_seq_no) s.kept))
 
--- what is handed out and the end aren't
+-- a request handed out and the end aren't messages
 pub new_messages-ending : (handed : Option Handed) (ends : Bool) → filter_map new_message (ending_of handed ends) ≡ []
 new_messages-ending None true = refl
 new_messages-ending None false = refl
@@ -73,7 +73,7 @@ new_messages-plan s now plan =
     ∙ ap (λ (messages : List Outbound). messages ++ filter_map new_message (map Sends new)) (new_messages-repeats s now plan.again plan refl)
     ∙ new_messages-numbered plan.after.firm now s.next plan.messages
 
--- numbers from one on, of so many messages
+-- consecutive numbers, starting at one, for this many messages
 pub counts-numbered : (firm : FirmId) (now number : ℕ) (bodies : List Body) → CountsFrom number (numbered firm now number bodies)
 counts-numbered firm now number [] = tt
 counts-numbered firm now number (body ∷ bodies) = (refl, counts-numbered firm now (number + 1) bodies)
@@ -82,22 +82,22 @@ pub length-numbered : (firm : FirmId) (now number : ℕ) (bodies : List Body) �
 length-numbered firm now number [] = refl
 length-numbered firm now number (body ∷ bodies) = ap (λ (n : ℕ). suc n) (length-numbered firm now (number + 1) bodies)
 
--- numbers go on
+-- numbers continue
 pub counts-append : (number : ℕ) (xs ys : List Outbound) → CountsFrom number xs → CountsFrom (number + length xs) ys → CountsFrom number (xs ++ ys)
 counts-append number [] ys first second = subst (λ (n : ℕ). CountsFrom n ys) (omega arith) second
 counts-append number (x ∷ xs) ys first second = (first.0, counts-append (number + 1) xs ys first.1 (subst (λ (n : ℕ). CountsFrom n ys) (omega arith) second))
 
--- a session goes on from its next number
+-- a session continues from its next number
 pub record GoesOn (old new : SessionState) (messages : List Outbound) : Type 0 where
   pub counts : CountsFrom old.next messages
   pub next : new.next ≡ old.next + length messages
   pub most : old.next ≤ greatest + 1 → new.next ≤ greatest + 1
 
--- with nothing new it stays there
+-- without new messages it stays there
 pub nothing_goes_on : (old new : SessionState) → new.next ≡ old.next → GoesOn old new []
 nothing_goes_on old new same = record { counts = tt; next = omega (arith, same); most = λ most. omega (arith, same, most) }
 
--- with a plan that isn't over
+-- with a plan that doesn't exceed the greatest number
 pub plan_goes_on : (s : SessionState) (now : ℕ) (plan : Plan) → is_over s.next plan ≡ false → GoesOn s (behind s now plan) (filter_map new_message (given_by s now plan))
 plan_goes_on s now plan within =
     let messages = new_messages-plan s now plan in
@@ -120,7 +120,7 @@ course_goes_on s now Stay = nothing_goes_on s s refl
 course_goes_on s now Leave = nothing_goes_on s (record s { is_closed = true }) refl
 course_goes_on s now (Go plan) = plan_or_end_goes_on s now plan (is_over s.next plan) refl
 
--- over a step
+-- in a step
 pub step_goes_on : (old new : SessionState) (input : Input) (now : ℕ) (given : List Response) → Steps old input now given new → GoesOn old new (filter_map new_message given)
 step_goes_on old new input now given steps =
     elim steps as (λ _. GoesOn old new (filter_map new_message given)) [
@@ -128,7 +128,7 @@ step_goes_on old new input now given steps =
       | inr other ↦ rw (other.gives, other.leaves) (course_goes_on old now other.course)
     ]
 
--- over a run
+-- in a run
 pub run_goes_on : (old new : SessionState) (inputs : List (Input × ℕ)) (given : List Response) → Runs old inputs given new → GoesOn old new (filter_map new_message given)
 run_goes_on old new [] given runs = rw (runs.0, runs.1) (nothing_goes_on old old refl)
 run_goes_on old new (input ∷ inputs) given (first, later, next, steps, parts, rest) =

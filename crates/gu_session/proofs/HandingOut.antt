@@ -1,4 +1,4 @@
--- What a step hands out: the message whose number was expected.
+-- What a step hands out: the request in the message with the expected number.
 use Rattle.std.proofs.Common.{◌≡◌, ◌≤◌, ◌==◌, ◌&&◌, inl, inr, ℕ, Bool, true, false, not, cond, List, [], ◌∷◌, ◌++◌, map, filter_map, Option, None, Some, option_and_then, refl, ap, sym, subst, ◌∙◌, arith}
 use Rattle.std.specs.Option.{option_map_or}
 use Rattle.gu_terms.specs.declared.firm.FirmId.{FirmId}
@@ -30,14 +30,14 @@ use Rattle.gu_session.specs.declared.logged_on.LoggedOn.{LoggedOn}
 use Rattle.gu_session.specs.declared.logged_on.Waiting.{Waiting}
 use Rattle.gu_session.proofs.InOrder.{HandsNext, IsInOrder, frame_in_order}
 
--- what is done where a session stands so: nothing is handed out before a firm is logged on, and then in order
+-- the course of a session in this state: nothing is handed out before a firm logs on, and afterwards in order
 abbrev pub Takes : Option LoggedOn → Course → Type 0
 Takes at Stay = Unit {0}
 Takes at Leave = Unit {0}
 Takes None (Go plan) = (plan.handed ≡ None) × (1 ≤ plan.after.expected)
 Takes (Some at) (Go plan) = IsInOrder at.expected plan
 
--- a choice of courses
+-- a choice between courses
 pub takes-if : (at : Option LoggedOn) (test : Bool) (x y : Course) → Takes at x → Takes at y → Takes at (cond test x y)
 takes-if at true x y first second = first
 takes-if at false x y first second = second
@@ -68,7 +68,7 @@ takes-tick (Some at) sent_at now =
     (takes-if (Some at) (have_passed 2 at at.heard_at now && not at.is_tested) (Go (says (record at { is_tested = true }) (body.TestRequest ∷ []))) _ (record { hands = tt; on = omega arith })
     (takes-if (Some at) (have_passed 1 at sent_at now) (Go (says at (body.Heartbeat None ∷ []))) Stay (record { hands = tt; on = omega arith }) tt)))
 
--- the house closes
+-- the house closing
 pub takes-close : (at : Option LoggedOn) → Takes at (option_map_or (λ (at : LoggedOn). on_close at) at Leave)
 takes-close None = tt
 takes-close (Some at) = record { hands = tt; on = omega arith }
@@ -92,7 +92,7 @@ takes-frame firms (Some at) heard now =
     let frame = frame_in_order (at_frame at now) heard in
     record { hands = frame.hands; on = frame.on }
 
--- whatever comes
+-- any input
 pub takes-course : (s : SessionState) (given : Input) (now : ℕ) (course : Course) → IsCourse s given now course → Takes s.at course
 takes-course s (input.Frame bytes) now course is = rw is.course_is (takes-frame s.firms s.at is.heard now)
 takes-course s (input.Notice notice) now course is = rw is (takes-notice s.at notice)
@@ -101,12 +101,12 @@ takes-course s input.Tick now course is = rw is (takes-tick s.at s.sent_at now)
 takes-course s input.End now course is = rw is tt
 takes-course s input.Close now course is = rw is (takes-close s.at)
 
--- messages are not handed out
+-- messages aren't handed out
 pub no_references-sends : (messages : List Outbound) (given : List Response) → filter_map handed_reference (map Sends messages ++ given) ≡ filter_map handed_reference given
 no_references-sends [] given = refl
 no_references-sends (message ∷ messages) given = no_references-sends messages given
 
--- where a session stood so, what is handed out is the next one
+-- for a session in this state, the request handed out has the next number
 pub next-one : (old : Option LoggedOn) (after : LoggedOn) (handed : Option Handed) (ends : Bool) (at : LoggedOn) → old ≡ Some at → HandsNext at.expected handed after →
     AreNext old (Some after) (filter_map handed_reference (ending_of handed ends))
 next-one old after None true at stood hands = tt
@@ -116,7 +116,7 @@ next-one old after (Some handed) true at stood hands =
 next-one old after (Some handed) false at stood hands =
     (record { at = at; after = after; stood = stood; stands = refl; expected = hands.0; used = hands.1 }, refl)
 
--- before a firm is logged on there is none
+-- before a firm logs on there is none
 pub next-none : (after : LoggedOn) (handed : Option Handed) (ends : Bool) → handed ≡ None → AreNext None (Some after) (filter_map handed_reference (ending_of handed ends))
 next-none after None true none = tt
 next-none after None false none = tt
@@ -144,7 +144,7 @@ in_order old new given_input now given steps =
       | inr other ↦ rw (other.gives, other.leaves) (course_next old now other.course (takes-course old given_input now other.course other.is_course))
     ]
 
--- the number that is expected after a plan
+-- the expected number after a plan
 pub plan_on : (s : SessionState) (now : ℕ) (plan : Plan) (over : Bool) (at after : LoggedOn) → is_over s.next plan ≡ over → s.at ≡ Some at → IsInOrder at.expected plan →
     (session_after s now (Go plan)).at ≡ Some after → at.expected ≤ after.expected
 plan_on s now plan true at after over stood takes stands =

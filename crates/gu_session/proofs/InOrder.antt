@@ -1,4 +1,4 @@
--- What the rules hand out: the message whose number was expected.
+-- What the rules hand out: the request in the message with the expected number.
 use Rattle.std.proofs.Common.{◌≡◌, ◌≤◌, ◌+◌, ℕ, Bool, true, false, cond, nat_le, nat_lt, [], ◌∷◌, Option, None, Some, Result, Ok, Err, codes, refl, arith}
 use Rattle.std.specs.Option.{option_map_or}
 use Rattle.gu_msgs.specs.Asking.{asked_on}
@@ -18,23 +18,23 @@ use Rattle.gu_session.specs.declared.plan.Handed.{Handed}
 use Rattle.gu_session.specs.declared.plan.Plan.{Plan}
 use Rattle.gu_session.specs.declared.logged_on.LoggedOn.{LoggedOn}
 
--- what is handed out has this number, and the next one is expected after it
+-- the request handed out has this number, and the next one is expected after it
 abbrev pub HandsNext : ℕ → Option Handed → LoggedOn → Type 0
 HandsNext expected None after = Unit {0}
 HandsNext expected (Some handed) after = (expected ≡ handed.reference) × (after.expected ≡ handed.reference + 1)
 
--- a plan where this number was expected: it hands out nothing else, and never goes back
+-- a plan when this number was expected: it hands out nothing else, and never goes back
 pub record IsInOrder (expected : ℕ) (plan : Plan) : Type 0 where
   pub hands : HandsNext expected plan.handed plan.after
   pub on : expected ≤ plan.after.expected
 
--- a choice
+-- a choice between plans
 pub in_order-if : (expected : ℕ) (test : Bool) (x y : Plan) → (test ≡ true → IsInOrder expected x) → (test ≡ false → IsInOrder expected y) →
     IsInOrder expected (cond test x y)
 in_order-if expected true x y first second = first refl
 in_order-if expected false x y first second = second refl
 
--- what an option gives
+-- the plan from an optional value
 pub in_order-option : {A : Type 0} (expected : ℕ) (rule : A → Plan) (found : Option A) (other : Plan) → ((a : A) → IsInOrder expected (rule a)) → IsInOrder expected other →
     IsInOrder expected (option_map_or rule found other)
 in_order-option expected rule None other some none = none
@@ -83,7 +83,7 @@ low_in_order at heading =
     in_order-if at.expected heading.is_poss_dup (quiet at) (leaves at (body.Logout (Some SeqTooLow) ∷ []))
     (λ is. record { hands = tt; on = omega arith }) (λ is. record { hands = tt; on = omega arith })
 
--- the number that was expected is the frame's own where it is neither above nor below
+-- the expected number is the frame's own if that is neither above nor below
 pub met_in_order : (at : LoggedOn) (heard : Heard) (number : ℕ) → at.expected ≡ number → IsInOrder at.expected (as_expected (record at { expected = number + 1 }) heard number)
 met_in_order at heard number met = rw met (expected_in_order (record at { expected = number + 1 }) heard number refl)
 

@@ -1,4 +1,4 @@
--- What is kept over a run: the last of what was sent. No rule is looked at.
+-- Kept messages over a run: the last ones sent. No rule is used.
 use Rattle.std.proofs.Common.{◌≡◌, inl, inr, ℕ, ◌-◌, Bool, true, false, List, [], ◌∷◌, ◌++◌, filter_map, length, drop, refl, ap, sym, ◌∙◌, append_assoc, arith}
 use Rattle.std.proofs.lemmas.List.{append-nil, length-append, length-drop, drop-append-le, drop-drop}
 use Rattle.std.proofs.lemmas.List.Elements.{filter_map-append}
@@ -17,7 +17,7 @@ use Rattle.gu_session.specs.declared.plan.Course.TheVariants.{Stay, Leave, Go}
 use Rattle.gu_session.specs.declared.plan.Plan.{Plan}
 use Rattle.gu_session.proofs.GoingOn.{new_messages-plan}
 
--- the last so many of the last so many and of others are those of all
+-- keeping the last of those kept and of others is keeping the last of all
 pub keep_last-append : (n : ℕ) (xs ys : List Sent) → keep_last n (keep_last n xs ++ ys) ≡ keep_last n (xs ++ ys)
 keep_last-append n xs ys =
     let k = length xs - n in
@@ -26,11 +26,11 @@ keep_last-append n xs ys =
     ap (keep_last n) same ∙ ap (λ (m : ℕ). drop (m - n) (drop k whole)) (length-drop k whole) ∙ drop-drop ((length whole - k) - n) k whole
     ∙ ap (λ (m : ℕ). drop m whole) (omega (arith, length-append xs ys))
 
--- a session keeps the last of what it kept and of what is sent
+-- a session keeps the last of those kept and those sent
 abbrev pub KeepsOn : SessionState → SessionState → List Outbound → Type 0
 KeepsOn old new messages = (all : List Sent) → old.kept ≡ keep_last 4096 all → new.kept ≡ keep_last 4096 (all ++ filter_map sent_in messages)
 
--- with nothing new it keeps what it kept
+-- without new messages it keeps the same ones
 pub nothing_keeps_on : (old new : SessionState) → new.kept ≡ old.kept → KeepsOn old new []
 nothing_keeps_on old new same all before = same ∙ before ∙ ap (keep_last 4096) (sym (append-nil all))
 
@@ -50,7 +50,7 @@ course_keeps_on s now Stay = nothing_keeps_on s s refl
 course_keeps_on s now Leave = nothing_keeps_on s (record s { is_closed = true }) refl
 course_keeps_on s now (Go plan) = plan_or_end_keeps_on s now plan (is_over s.next plan) refl
 
--- over a step
+-- in a step
 pub step_keeps_on : (old new : SessionState) (input : Input) (now : ℕ) (given : List Response) → Steps old input now given new → KeepsOn old new (filter_map new_message given)
 step_keeps_on old new input now given steps =
     elim steps as (λ _. KeepsOn old new (filter_map new_message given)) [
@@ -58,7 +58,7 @@ step_keeps_on old new input now given steps =
       | inr other ↦ rw (other.gives, other.leaves) (course_keeps_on old now other.course)
     ]
 
--- over a run
+-- in a run
 pub run_keeps_on : (old new : SessionState) (inputs : List (Input × ℕ)) (given : List Response) → Runs old inputs given new → KeepsOn old new (filter_map new_message given)
 run_keeps_on old new [] given runs = rw (runs.0, runs.1) (nothing_keeps_on old old refl)
 run_keeps_on old new (input ∷ inputs) given (first, later, next, steps, parts, rest) = λ all before.

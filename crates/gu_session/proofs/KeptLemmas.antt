@@ -1,4 +1,4 @@
--- What is kept after new messages.
+-- Kept messages after new ones.
 use Rattle.std.proofs.Common.{◌≡◌, ℕ, ◌+◌, ◌-◌, ◌≤◌, ◌<◌, List, [], ◌∷◌, ◌++◌, Option, None, Some, length, take, drop, slice_get, get_or, refl, ap, sym, ◌∙◌, append_assoc, add-one, arith}
 use Rattle.std.specs.List.{filter_map}
 use Rattle.std.specs.Option.{option_map_or, option_to_list}
@@ -22,7 +22,7 @@ use Rattle.gu_session.proofs.Ascending.{within-append, within-drop, within-numbe
 use Rattle.gu_session.proofs.KeepingOn.{keep_last-append}
 use Rattle.gu_session.proofs.NumberLemmas.{length-numbered}
 
--- the first so many and the one at their end
+-- the first messages, and the one after them
 pub take-more : (messages : List Outbound) (place : ℕ) (message : Outbound) → slice_get messages place ≡ Some message →
     take (place + 1) messages ≡ take place messages ++ message ∷ []
 take-more messages place message here =
@@ -30,7 +30,7 @@ take-more messages place message here =
     let there : get_or messages place message ≡ message = get_or_from_slice_get messages place message message here in
     rw (add-one, take-suc messages place message, there) refl
 
--- with nothing more
+-- with no more
 pub extended-none : (kept : Buffer Sent) → length kept.items ≤ kept.capacity → extended kept [] ≡ kept
 extended-none kept few =
     let none : length kept.items - kept.capacity ≡ 0 = omega (arith, few) in
@@ -47,12 +47,12 @@ extended-twice kept xs ys =
 pub extended-few : (kept : Buffer Sent) (xs : List Sent) → length (extended kept xs).items ≤ (extended kept xs).capacity
 extended-few kept xs = omega (arith, length-drop (length (kept.items ++ xs) - kept.capacity) (kept.items ++ xs))
 
--- what is to be kept of one message
+-- the kept form of one message
 pub filter_map-one : (message : Outbound) (found : Option Sent) → sent_in message ≡ found → filter_map sent_in (message ∷ []) ≡ option_to_list (sent_in message)
 filter_map-one message None is = rw is refl
 filter_map-one message (Some one) is = rw is refl
 
--- one message more is kept
+-- one more message is kept
 pub extended-more : (before kept : Buffer Sent) (messages : List Outbound) (place : ℕ) (message : Outbound) → slice_get messages place ≡ Some message →
     kept ≡ extended before (filter_map sent_in (take place messages)) →
     extended kept (option_to_list (sent_in message)) ≡ extended before (filter_map sent_in (take (place + 1) messages))
@@ -64,14 +64,14 @@ extended-more before kept messages place message here so_far =
     ∙ ap (extended before) (sym (filter_map-append sent_in (take place messages) (message ∷ [])))
     ∙ ap (λ (ms : List Outbound). extended before (filter_map sent_in ms)) (sym (take-more messages place message here))
 
--- in the room that there is once a firm is logged on
+-- in the room that exists after a firm logs on
 pub kept_in_room : (at : Option LoggedOn) (kept : Buffer Sent) (room : Option (Buffer Sent)) (sent : List Sent) → HasRoom at kept →
     room ≡ (if is_some at then None else Some (buffer [] 4096)) →
     extended (option_map_or (λ (room : Buffer Sent). room) room kept) sent ≡ buffer (keep_last 4096 (kept.items ++ sent)) 4096
 kept_in_room None kept room sent has is = rw (is, has) refl
 kept_in_room (Some at) kept room sent has is = rw (is, has) refl
 
--- as many messages as are ready are those that a plan sends
+-- the messages prepared are those that a plan sends
 pub committed_sent : (s : SessionState) (now : ℕ) (plan : Plan) (ready : Ready) → IsReady s now plan ready →
     length ready.again.items + length plan.messages ≡ length (sent_by s now plan)
 committed_sent s now plan ready is =

@@ -5,7 +5,7 @@ use Rattle.gu_msgs.specs.declared.outbound.Body.{Body}
 use Rattle.gu_session.specs.Sending.{numbered}
 use Rattle.gu_session.specs.Walks.{new_message}
 
--- the new message at a place
+-- the new message at an index
 pub numbered-get : (firm : FirmId) (now number : ℕ) (bodies : List Body) (place : ℕ) (body : Body) → slice_get bodies place ≡ Some body →
     slice_get (numbered firm now number bodies) place ≡ Some (new_message firm now (number + place) body)
 numbered-get firm now number [] place body here = absurd (cc)

@@ -1,4 +1,4 @@
--- Messages after a text.
+-- Messages appended to a text.
 use Rattle.std.proofs.Common.{◌≡◌, inr, ◌<◌, ◌+◌, ◌^◌, ◌||◌, ℕ, Bool, true, false, List, [], ◌∷◌, ◌++◌, Option, None, Some, Result, Ok, Err, Vec, map, length, take, slice_get, refl, ap, sym, ◌∙◌, append_assoc, arith}
 use Rattle.std.specs.Prelude.{OnErr}
 use Rattle.std.specs.List.{filter_map, flat_map, list_any}
@@ -30,22 +30,22 @@ use Rattle.gu_session.specs.declared.ready.Ready.{Ready}
 use Rattle.gu_session.proofs.NumberLemmas.{length-numbered}
 use Rattle.gu_session.proofs.OutputLemmas.{AreOutputs-append, buffer_of, ending_is_given, one_more}
 
--- a fact that holds whatever came of a call
+-- a property that holds whatever the result of a call
 pub on_err_from : {T E P : Type 0} (r : Result T E) → P → OnErr r P
 on_err_from (Ok value) here = tt
 on_err_from (Err error) here = here
 
--- how many messages a plan that is ready sends
+-- the number of messages that a prepared plan sends
 pub length-sent_with : (plan : Plan) (ready : Ready) (first now : ℕ) → length (sent_with plan ready first now) ≡ length ready.again.items + length plan.messages
 length-sent_with plan ready first now =
     length-append ready.again.items (numbered plan.after.firm now first plan.messages)
     ∙ ap (λ (n : ℕ). length ready.again.items + n) (length-numbered plan.after.firm now first plan.messages)
 
--- no message follows at first
+-- initially no message is appended
 pub follow-none : (text : List ℕ) → FollowText [] text text
 follow-none text = record { outputs = []; are_outputs = tt; text = sym (append-nil text) }
 
--- one message more follows
+-- one more message is appended
 pub follow-more : (v : Vec ℕ Global) (messages : List Outbound) (place : ℕ) (message : Outbound) (before mid : List ℕ) → slice_get messages place ≡ Some message →
     FollowText (take place messages) before mid → FollowsText message mid v.items → FollowText (take (place + 1) messages) before v.items
 follow-more v messages place message before mid here so_far one =
@@ -68,7 +68,7 @@ none_handed (message ∷ messages) (Send bytes ∷ outputs) (one, rest) = none_h
 none_handed (message ∷ messages) (Hand asked ∷ outputs) (one, rest) = absurd one
 none_handed (message ∷ messages) (Close ∷ outputs) (one, rest) = absurd one
 
--- nor do they close
+-- nor do they end the session
 pub none_closes : (messages : List Outbound) (outputs : List Output) → AreOutputs (map Sends messages) outputs → list_any is_close outputs ≡ false
 none_closes [] [] are = refl
 none_closes [] (output ∷ outputs) are = absurd are
@@ -77,7 +77,7 @@ none_closes (message ∷ messages) (Send bytes ∷ outputs) (one, rest) = none_c
 none_closes (message ∷ messages) (Hand asked ∷ outputs) (one, rest) = absurd one
 none_closes (message ∷ messages) (Close ∷ outputs) (one, rest) = absurd one
 
--- what follows the messages has no bytes
+-- the responses after the messages have no bytes
 pub ending_bytes : (handed : Option Asked) (ends : Bool) → flat_map bytes_in (handed_outputs handed ++ end_outputs ends) ≡ []
 ending_bytes None true = refl
 ending_bytes None false = refl
@@ -114,7 +114,7 @@ plan_given old new now plan ready outputs taken is suffice are handed ends behin
   leaves = rw suffice behind_is;
 }
 
--- a plan is carried out, with its messages after a text
+-- a plan is carried out, with its messages appended to a text
 pub plan_followed : (old new : SessionState) (now : ℕ) (plan : Plan) (ready : Ready) (before after : List ℕ) (taken : Taken) → IsReady old now plan ready →
     is_over old.next plan ≡ false → FollowText (sent_with plan ready old.next now) before after →
     taken.handed ≡ asked_in plan.handed → taken.is_closed ≡ plan.ends →
@@ -135,7 +135,7 @@ plan_followed old new now plan ready before after taken is suffice follow handed
           ∙ ending_closes taken.handed taken.is_closed);
     }
 
--- a session that leaves closes, and no bytes follow
+-- a session that leaves ends, and no bytes are appended
 pub leaving_followed : (old new : SessionState) (course : Course) (now : ℕ) (text : List ℕ) (taken : Taken) → responses_of old now course ≡ Closes ∷ [] →
     session_after old now course ≡ closed old → new ≡ closed old → taken.handed ≡ None → taken.is_closed ≡ true → FollowsOnto old course now text text taken new
 leaving_followed old new course now text taken gives after leaves handed close = record {

@@ -1,4 +1,4 @@
--- How what a session gives is given, part by part.
+-- Outputs for responses, part by part.
 use Rattle.std.proofs.Common.{◌≡◌, ◌<◌, ◌+◌, ◌^◌, ℕ, Bool, true, false, List, [], ◌∷◌, ◌++◌, Option, None, Some, Vec, map, length, take, get_or, slice_get, refl, arith}
 use Rattle.std.proofs.lemmas.List.{map_more}
 use Rattle.std.proofs.lemmas.Option.{get_or_from_slice_get, slice_get_within}
@@ -19,14 +19,14 @@ AreOutputs-append (response ∷ responses) more [] others first second = absurd 
 AreOutputs-append (response ∷ responses) more (output ∷ outputs) others first second =
     (first.0, AreOutputs-append responses more outputs others first.1 second)
 
--- what is handed out and the end
+-- the request handed out and the end
 pub ending_is_given : (handed : Option Handed) (ends : Bool) → AreOutputs (ending_of handed ends) (handed_outputs (asked_in handed) ++ end_outputs ends)
 ending_is_given None true = (tt, tt)
 ending_is_given None false = tt
 ending_is_given (Some handed) true = (refl, (tt, tt))
 ending_is_given (Some handed) false = (refl, tt)
 
--- one message more
+-- one more message
 pub one_more : (messages : List Outbound) (place : ℕ) (message : Outbound) (outputs : List Output) (output : Output) → slice_get messages place ≡ Some message →
     AreOutputs (map Sends (take place messages)) outputs → AreOutputs (Sends message ∷ []) (output ∷ []) →
     AreOutputs (map Sends (take (place + 1) messages)) (outputs ++ output ∷ [])
@@ -35,7 +35,7 @@ one_more messages place message outputs output here so_far is =
     let there : get_or messages place message ≡ message = get_or_from_slice_get messages place message message here in
     rw (map_more Sends messages place message within, there) (AreOutputs-append (map Sends (take place messages)) (Sends message ∷ []) outputs (output ∷ []) so_far is)
 
--- bytes in a buffer of their own
+-- bytes in a separate buffer
 abbrev pub buffer_of : Vec ℕ Global → (bytes : List ℕ) → length bytes < 2 ^ 63 → Vec ℕ Global
 buffer_of v bytes short =
     record { ptr = v.ptr; len = length bytes; cap = length bytes; alloc = v.alloc; items = bytes; ok = (refl, omega arith); small = short }

@@ -6,7 +6,7 @@ use Rattle.gu_session.specs.Ascending.{AreBelow, AreFrom, AreWithin}
 use Rattle.gu_session.specs.Resending.{sent_within}
 use Rattle.gu_session.specs.declared.sent_ring.Sent.{Sent}
 
--- a message that is there has a number of the range
+-- a message in the list has a number in the range
 pub within-get : (from to : ℕ) (kept : List Sent) (place : ℕ) (sent : Sent) → AreWithin from to kept → slice_get kept place ≡ Some sent → from ≤ sent.number
 within-get from to [] place sent within here = absurd (cc)
 within-get from to (first ∷ later) zero sent (above, rest) here =
@@ -14,7 +14,7 @@ within-get from to (first ∷ later) zero sent (above, rest) here =
 within-get from to (first ∷ later) (suc place) sent (above, rest) here =
     let next : first.number + 1 ≤ sent.number = within-get (first.number + 1) to later place sent rest here in omega (arith, above, next)
 
--- all up to a message below a number are below it
+-- all messages up to one below a number are below it
 pub below-take : (number from to : ℕ) (kept : List Sent) (place : ℕ) (sent : Sent) → AreWithin from to kept → slice_get kept place ≡ Some sent → sent.number < number →
     AreBelow number (take (suc place) kept)
 below-take number from to [] place sent within here less = absurd (cc)
@@ -24,7 +24,7 @@ below-take number from to (first ∷ later) (suc place) sent (above, rest) here 
     let next : first.number + 1 ≤ sent.number = within-get (first.number + 1) to later place sent rest here in
     (omega (arith, less, next), below-take number (first.number + 1) to later place sent rest here less)
 
--- none of a range is below a number before it
+-- none in a range is below a number before it
 pub from-within : (number from to : ℕ) (kept : List Sent) → AreWithin from to kept → number ≤ from → AreFrom number kept
 from-within number from to [] within before = tt
 from-within number from to (first ∷ later) (above, rest) before =
@@ -40,27 +40,27 @@ from-drop-at number from to (first ∷ later) zero sent (above, rest) here more 
     (reach, from-within number (first.number + 1) to later rest (omega (arith, reach)))
 from-drop-at number from to (first ∷ later) (suc place) sent (above, rest) here more = from-drop-at number (first.number + 1) to later place sent rest here more
 
--- there is none where there is no message
+-- if there is no message, none follows
 pub from-drop-none : (number : ℕ) (kept : List Sent) (place : ℕ) → slice_get kept place ≡ None → AreFrom number (drop place kept)
 from-drop-none number [] zero none = tt
 from-drop-none number [] (suc place) none = tt
 from-drop-none number (first ∷ later) zero none = absurd (cc)
 from-drop-none number (first ∷ later) (suc place) none = from-drop-none number later place none
 
--- without the first of them
+-- without the first ones
 pub from-drop : (number n : ℕ) (kept : List Sent) → AreFrom number kept → AreFrom number (drop n kept)
 from-drop number zero kept all = all
 from-drop number (suc n) [] all = tt
 from-drop number (suc n) (first ∷ later) (one, rest) = from-drop number n later rest
 
--- from a later place on
+-- from a later index on
 pub from-past : (number place later : ℕ) (kept : List Sent) → AreFrom number (drop place kept) → place ≤ later → AreFrom number (drop later kept)
 from-past number zero later kept all past = from-drop number later kept all
 from-past number (suc place) zero kept all past = absurd (omega (arith, past))
 from-past number (suc place) (suc later) [] all past = tt
 from-past number (suc place) (suc later) (first ∷ rest) all past = from-past number place later rest all (omega (arith, past))
 
--- nothing below the first number is asked for
+-- nothing below the first number is requested
 pub none_below : (from to : ℕ) (kept : List Sent) → AreBelow from kept → sent_within from to kept ≡ []
 none_below from to [] below = refl
 none_below from to (first ∷ later) (less, rest) =
@@ -74,7 +74,7 @@ none_above from to (first ∷ later) (more, rest) =
     let out : (nat_le from first.number && nat_lt first.number to) ≡ false = grind (arith, more) in
     rw out (none_above from to later rest)
 
--- what is asked for is after those below it
+-- requested messages come after those below them
 pub past_below : (from to place : ℕ) (kept : List Sent) → AreBelow from (take place kept) → sent_within from to (drop place kept) ≡ sent_within from to kept
 past_below from to place kept below =
     let asked : Sent → Bool = λ (sent : Sent). nat_le from sent.number && nat_lt sent.number to in

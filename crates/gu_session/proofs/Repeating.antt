@@ -35,22 +35,22 @@ application_is (body.SequenceReset to) message is = absurd (cc)
 application_is (body.Logout reason) message is = absurd (cc)
 application_is (body.Application known) message is = cc
 
--- what is kept of a message
+-- the kept form of a message
 pub record IsKeptOf (sent : Sent) (message : Outbound) : Type 0 where
   pub number : sent.number ≡ message.msg_seq_num
   pub time : sent.time ≡ message.sending_time
   pub content : body.Application sent.message ≡ message.body
 
--- of each of these one message is kept
+-- each of these is the kept form of one message
 abbrev pub AreKeptOf : List Outbound → List Sent → Type 0
 AreKeptOf messages kept = AllByRecursion (λ sent. IsAmong (IsKeptOf sent) messages) kept
 
--- with one message more
+-- with one more message
 pub kept-more : (message : Outbound) (messages : List Outbound) (kept : List Sent) → AreKeptOf messages kept → AreKeptOf (message ∷ messages) kept
 kept-more message messages [] each = tt
 kept-more message messages (sent ∷ later) each = (inr each.0, kept-more message messages later each.1)
 
--- what is kept of all
+-- the kept form of all
 pub kept-one : (message : Outbound) (messages : List Outbound) (found : Option Application) → application_of message.body ≡ found →
     AreKeptOf messages (filter_map sent_in messages) → AreKeptOf (message ∷ messages) (filter_map sent_in (message ∷ messages))
 kept-one message messages None is rest = rw is (kept-more message messages (filter_map sent_in messages) rest)
@@ -61,7 +61,7 @@ pub kept-all : (messages : List Outbound) → AreKeptOf messages (filter_map sen
 kept-all [] = tt
 kept-all (message ∷ messages) = kept-one message messages (application_of message.body) refl (kept-all messages)
 
--- the last of them, and those of a range
+-- the last of them, and those in a range
 pub kept-drop : (n : ℕ) (messages : List Outbound) (kept : List Sent) → AreKeptOf messages kept → AreKeptOf messages (drop n kept)
 kept-drop zero messages kept each = each
 kept-drop (suc n) messages [] each = tt
@@ -75,7 +75,7 @@ kept-filter test messages (sent ∷ later) each =
       | false ↦ kept-filter test messages later each.1
     ]
 
--- what is kept of a message is that message once more
+-- the kept form of a message gives that message again
 pub among-again : (firm : FirmId) (now : ℕ) (sent : Sent) (messages : List Outbound) → IsAmong (IsKeptOf sent) messages → IsAmong (IsOnceMore (again firm now sent)) messages
 among-again firm now sent [] among = among
 among-again firm now sent (message ∷ messages) (inl here) = inl (record { number = here.number; time = ap (λ (n : ℕ). Some n) here.time; content = here.content })
@@ -95,7 +95,7 @@ sent-gaps before firm now from to (sent ∷ later) each =
     sent-gap before firm now from sent.number (again firm now sent ∷ with_gaps firm now (sent.number + 1) to later)
     (inl (among-again firm now sent before each.0), sent-gaps before firm now (sent.number + 1) to later each.1)
 
--- what is seen of a message that was sent, before others
+-- a message that was sent, before others
 pub one_seen : (before : List Outbound) (message : Outbound) (time : Option ℕ) (others : List Outbound) → WasSent before message → AllByRecursion (WasSent before) others →
     AllByRecursion (WasSent before) (cons_option (if_again message time) others)
 one_seen before message None others was rest = rest
@@ -116,7 +116,7 @@ none_repeated-ending None false = refl
 none_repeated-ending (Some one) true = refl
 none_repeated-ending (Some one) false = refl
 
--- what a plan repeats
+-- the messages that a plan repeats
 pub repeated-plan : (s : SessionState) (now : ℕ) (plan : Plan) → filter_map repeated_message (given_by s now plan) ≡ filter_map repeated_message (map Sends (repeats_of s now plan))
 repeated-plan s now plan =
     let repeats = repeats_of s now plan in

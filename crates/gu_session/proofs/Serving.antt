@@ -1,4 +1,4 @@
--- A request is served by messages that stand for each number once.
+-- A request is served with messages that cover each number once.
 use Rattle.std.proofs.Common.{◌≡◌, inl, inr, ℕ, ◌+◌, ◌-◌, ◌≤◌, min, Bool, cond, true, false, ◌&&◌, ◌==◌, nat_lt, nat_le, List, [], ◌∷◌, ◌++◌, filter_map, length, refl, ap, ◌∙◌, arith}
 use Rattle.gu_terms.specs.declared.firm.FirmId.{FirmId}
 use Rattle.gu_msgs.specs.declared.inbound.ResendRequest.{ResendRequest}
@@ -18,11 +18,11 @@ use Rattle.gu_session.proofs.Ascending.{within-append, within-drop, within-numbe
 use Rattle.gu_session.proofs.Covering.{covers_with_gaps, longest_with_gaps}
 use Rattle.gu_session.specs.Ascending.{AreWithin}
 
--- what is kept ascends below the next number
+-- the numbers of kept messages ascend below the next number
 abbrev pub IsAscending : SessionState → Type 0
 IsAscending s = AreWithin 1 s.next s.kept
 
--- a plan keeps it so
+-- a plan preserves this
 pub plan_ascends : (s : SessionState) (now : ℕ) (plan : Plan) → IsAscending s → IsAscending (behind s now plan)
 plan_ascends s now plan before =
     let sent = filter_map sent_in (new_of s now plan) in
@@ -38,7 +38,7 @@ course_ascends s now Stay before = before
 course_ascends s now Leave before = before
 course_ascends s now (Go plan) before = plan_or_end_ascends s now plan (is_over s.next plan) refl before
 
--- over a step
+-- in a step
 pub step_ascends : (old new : SessionState) (input : Input) (now : ℕ) (given : List Response) → Steps old input now given new → IsAscending old → IsAscending new
 step_ascends old new input now given steps before =
     elim steps as (λ _. IsAscending new) [
@@ -46,20 +46,20 @@ step_ascends old new input now given steps before =
       | inr other ↦ rw other.leaves (course_ascends old now other.course before)
     ]
 
--- over a run
+-- in a run
 pub run_ascends : (old new : SessionState) (inputs : List (Input × ℕ)) (given : List Response) → Runs old inputs given new → IsAscending old → IsAscending new
 run_ascends old new [] given runs before = rw runs.1 before
 run_ascends old new (input ∷ inputs) given (first, later, next, steps, parts, rest) before =
     run_ascends next new inputs later rest (step_ascends old next input.0 input.1 first steps before)
 
--- none of an empty range
+-- there is none in an empty range
 pub none_within : (kept : List Sent) (from to : ℕ) → to ≤ from → sent_within from to kept ≡ []
 none_within [] from to below = refl
 none_within (sent ∷ later) from to below =
     let out : (nat_le from sent.number && nat_lt sent.number to) ≡ false = grind (arith, below) in
     ap (λ (b : Bool). cond b (sent ∷ sent_within from to later) (sent_within from to later)) out ∙ none_within later from to below
 
--- no number that wasn't sent is asked for
+-- no number that wasn't sent is requested
 pub behind_last-most : (next last : ℕ) → behind_last next last ≤ next
 behind_last-most next last =
     elim (last == 0) as (λ (b : Bool). cond b next (min (last + 1) next) ≤ next) [
@@ -67,7 +67,7 @@ behind_last-most next last =
       | false ↦ omega arith
     ]
 
--- a request for none is served by nothing
+-- a request for none is served with nothing
 pub none_resent : (firm : FirmId) (kept : List Sent) (next now : ℕ) (request : ResendRequest) → next ≤ request.begin_seq_no → resent firm kept next now request ≡ []
 none_resent firm kept next now request above =
     let to = behind_last next request.end_seq_no in

@@ -1,4 +1,4 @@
--- There is one step.
+-- There is at most one step.
 use Rattle.std.proofs.Common.{◌≡◌, inl, inr, ℕ, Bool, List, Option, None, Some, Result, Ok, Err, refl, ap, sym, subst, ◌∙◌, arith}
 use Rattle.gu_terms.specs.declared.firm.FirmId.{FirmId}
 use Rattle.gu_fix.specs.TagValue.{TagValue}
@@ -54,7 +54,7 @@ one_content None fields (Ok message) (Err fault) is too = absurd (no_fault field
 one_content None fields (Err fault) (Ok message) is too = absurd (no_fault fields message fault too is)
 one_content None fields (Err fault) (Err other) is too = ap (λ (f : Fault). Err f) (one_fault fields fault other is too)
 
--- bytes say one thing
+-- bytes have one content
 pub one_hearing : (bytes : List ℕ) (heard other : Heard) → Hears bytes heard → Hears bytes other → heard ≡ other
 one_hearing bytes heard other is too =
     let same = one_reading bytes too.fields is.fields too.fault is.fault too.has_fields is.has_fields in
@@ -64,7 +64,7 @@ one_hearing bytes heard other is too =
     ap (λ (x : Heading). record heard { heading = x }) (one_heading is.fields heard.heading other.heading is.heading heading)
     ∙ ap (λ (x : Result Inbound Fault). record other { content = x }) (one_content is.fault is.fields heard.content other.content is.content content)
 
--- one thing is done
+-- there is one course
 pub one_course : (s : SessionState) (given : Input) (now : ℕ) (course other : Course) → IsCourse s given now course → IsCourse s given now other → course ≡ other
 one_course s (input.Frame bytes) now course other is too =
     is.course_is ∙ ap (λ (heard : Heard). frame_course s.firms s.at heard now) (one_hearing bytes is.heard too.heard is.hears too.hears) ∙ sym too.course_is

@@ -1,4 +1,4 @@
--- What is sent again, message by message.
+-- Messages sent again, one by one.
 use Rattle.std.proofs.Common.{◌≡◌, ℕ, ◌+◌, Bool, cond, true, false, ◌&&◌, nat_le, nat_lt, List, [], ◌∷◌, ◌++◌, None, Some, slice_get, drop, refl, ap, sym, ◌∙◌, append_assoc, zero, suc, arith}
 use Rattle.gu_terms.specs.declared.firm.FirmId.{FirmId}
 use Rattle.gu_msgs.specs.declared.outbound.Outbound.{Outbound}
@@ -6,20 +6,20 @@ use Rattle.gu_session.specs.Resending.{again, gap, sent_within, with_gaps}
 use Rattle.gu_session.specs.Walks.{asked_now, at_after}
 use Rattle.gu_session.specs.declared.sent_ring.Sent.{Sent}
 
--- the message at a place is the first of those from there on
+-- the message at an index is the first of those from there on
 pub drop-at : (items : List Sent) (place : ℕ) (sent : Sent) → slice_get items place ≡ Some sent → drop place items ≡ sent ∷ drop (suc place) items
 drop-at [] place sent here = absurd (cc)
 drop-at (first ∷ later) zero sent here = let same : first ≡ sent = cc in ap (λ (x : Sent). x ∷ later) same
 drop-at (first ∷ later) (suc place) sent here = drop-at later place sent here
 
--- where there is no message at a place there is none after it
+-- if there is no message at an index, there is none after it
 pub drop-past : (items : List Sent) (place : ℕ) → slice_get items place ≡ None → drop (suc place) items ≡ drop place items
 drop-past [] zero none = refl
 drop-past [] (suc place) none = refl
 drop-past (first ∷ later) zero none = absurd (cc)
 drop-past (first ∷ later) (suc place) none = drop-past later place none
 
--- a message adds what it does, and the others go on from there
+-- a message adds its part, and the others continue from there
 pub with_gaps-more : (firm : FirmId) (now from to at : ℕ) (sent : Sent) (later : List Sent) →
     asked_now firm now from to at sent ++ with_gaps firm now (at_after from to at sent) to (sent_within from to later)
     ≡ with_gaps firm now at to (sent_within from to (sent ∷ later))
@@ -31,7 +31,7 @@ with_gaps-more firm now from to at sent later =
       | false ↦ refl
     ]
 
--- one place more of a walk
+-- one more index of a walk
 pub walk_on : (firm : FirmId) (now from to at : ℕ) (items : List Sent) (place : ℕ) (sent : Sent) (messages all : List Outbound) → slice_get items place ≡ Some sent →
     messages ++ with_gaps firm now at to (sent_within from to (drop place items)) ≡ all →
     (messages ++ asked_now firm now from to at sent) ++ with_gaps firm now (at_after from to at sent) to (sent_within from to (drop (place + 1) items)) ≡ all
@@ -43,7 +43,7 @@ walk_on firm now from to at items place sent messages all here so_far =
     ∙ ap (λ (kept : List Sent). messages ++ with_gaps firm now at to (sent_within from to kept)) (sym (drop-at items place sent here))
     ∙ so_far
 
--- a place after them adds nothing
+-- an index past the end adds nothing
 pub walk_past : (firm : FirmId) (now from to at : ℕ) (items : List Sent) (place : ℕ) (messages all : List Outbound) → slice_get items place ≡ None →
     messages ++ with_gaps firm now at to (sent_within from to (drop place items)) ≡ all →
     messages ++ with_gaps firm now at to (sent_within from to (drop (place + 1) items)) ≡ all

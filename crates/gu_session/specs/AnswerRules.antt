@@ -1,4 +1,4 @@
--- What a session does on the answer to what it handed out, and on a notice.
+-- What a session does on the answer to a request that it handed out, and on a notice.
 use Rattle.std.specs.Prelude.{ℕ, ◌==◌, List, [], ◌∷◌, Option, None, Some, find, option_and_then, if◌then◌else◌}
 use Rattle.std.specs.Option.{option_map, option_map_or, option_to_list}
 use Rattle.gu_terms.specs.declared.notice.Notice.{Notice}
@@ -18,7 +18,7 @@ use Rattle.gu_session.specs.declared.plan.Course.TheVariants.{Stay, Go}
 use Rattle.gu_session.specs.declared.logged_on.LoggedOn.{LoggedOn}
 use Rattle.gu_session.specs.declared.logged_on.Waiting.{Waiting}
 
--- what became of a command: it was done, or why not; none where the outcome isn't of the kind that was asked for
+-- the result of a command: accepted, or why not; none if the outcome isn't of the kind asked for
 abbrev pub entered : Question → Outcome → Option (Option Rejection)
 entered question (Replied (Accepted done)) = if is_done question done then Some None else None
 entered question (Replied (Denied refusal)) = Some (Some (rejection.Refused refusal))
@@ -26,22 +26,22 @@ entered question (Failed Memory) = Some (Some rejection.Memory)
 entered question (Failed Full) = Some (Some rejection.Full)
 entered question (Positions rows) = None
 
--- the answer to a command that the message with this number asked for
+-- the answer to the command in the message with this number; none if the outcome isn't of its kind
 abbrev pub command_messages : Question → ℕ → Outcome → Option (List Body)
 command_messages question number outcome =
     option_map (λ (why : Option Rejection). option_to_list (command_answer question number why)) (entered question outcome)
 
--- the answer to what the message with this number asked for; none where the outcome isn't of its kind
+-- the answer to the request in the message with this number; none if the outcome isn't of its kind
 abbrev pub answer_messages : Question → ℕ → Outcome → Option (List Body)
 answer_messages (question.Positions m) number (Positions rows) = Some (positions_answer m rows)
 answer_messages (question.Positions m) number _ = None
 answer_messages question number outcome = command_messages question number outcome
 
--- the question with this reference that waits for its answer
+-- the waiting question with this reference
 abbrev pub asked_by : ℕ → List Waiting → Option Waiting
 asked_by reference waiting = find (λ (one : Waiting). one.reference == reference) waiting
 
--- an answer of its kind to a question that waits is sent, and any other gives nothing
+-- an answer of the right kind to a waiting question is sent, and any other gives nothing
 abbrev pub on_answer : LoggedOn → List Waiting → ℕ → Outcome → Course
 on_answer at waiting reference outcome =
     option_map_or (λ messages. Go (answers at reference messages))

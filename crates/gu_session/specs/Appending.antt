@@ -1,4 +1,4 @@
--- Machinery: messages after a text. No other crate names this file.
+-- Machinery: appending messages to a text. No other crate names this file.
 use Rattle.std.specs.Prelude.{◌≡◌, ◌++◌, ℕ, List, map}
 use Rattle.std.specs.List.{flat_map}
 use Rattle.gu_msgs.specs.declared.outbound.Outbound.{Outbound}

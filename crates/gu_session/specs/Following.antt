@@ -1,4 +1,4 @@
--- Machinery: a course that is followed. No other crate names this file.
+-- Machinery: carrying out a course. No other crate names this file.
 use Rattle.std.specs.Prelude.{◌≡◌, ◌++◌, ℕ, List}
 use Rattle.std.specs.List.{filter_map, flat_map, list_any}
 use Rattle.std.specs.Option.{option_to_list}
@@ -10,12 +10,12 @@ use Rattle.gu_session.specs.declared.output.Output.{Output}
 use Rattle.gu_session.specs.declared.output.Taken.{Taken}
 use Rattle.gu_session.specs.declared.plan.Course.{Course}
 
--- a course is followed: all that it gives is given
+-- a course is carried out: all its responses are given
 pub record Follows (old : SessionState) (course : Course) (now : ℕ) (outputs : List Output) (new : SessionState) : Type 0 where
   pub are_outputs : AreOutputs (responses_of old now course) outputs
   pub leaves : new ≡ session_after old now course
 
--- a course is followed: all bytes that it gives follow a text, in order; what it hands out, and whether it closes, is taken
+-- a course is carried out: its messages' bytes are appended to a text, in order; its request, and whether it ends the session, are returned
 pub record FollowsOnto (old : SessionState) (course : Course) (now : ℕ) (before after : List ℕ) (taken : Taken) (new : SessionState) : Type 0 where
   pub outputs : List Output
   pub are_outputs : AreOutputs (responses_of old now course) outputs

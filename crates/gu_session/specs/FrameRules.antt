@@ -1,4 +1,4 @@
--- What a session does on a frame once a firm is logged on (FIXT 1.1, Message Recovery and Rejects).
+-- What a session does on a frame after a firm logs on (FIXT 1.1, Message Recovery and Rejects).
 use Rattle.std.specs.Prelude.{◌+◌, ℕ, Bool, false, not, nat_le, nat_lt, [], ◌∷◌, Option, None, Some, Result, Ok, Err, codes, if◌then◌else◌}
 use Rattle.std.specs.Option.{option_map_or}
 use Rattle.std.specs.Str.{bytes_eq}
@@ -24,35 +24,35 @@ use Rattle.gu_session.specs.declared.heard.Heard.{Heard}
 use Rattle.gu_session.specs.declared.plan.Plan.{Plan}
 use Rattle.gu_session.specs.declared.logged_on.LoggedOn.{LoggedOn}
 
--- a Reject of the message with this header and number: the tag at fault, and why
+-- a Reject for the message with this header and number: the tag at fault and the reason
 abbrev pub reject : Heading → ℕ → ℕ → SessionRejectReason → Body
 reject heading number tag reason =
     body.Reject (record { ref_seq_num = number; ref_tag_id = tag; ref_msg_type = heading.msg_type; reason = reason })
 
--- the number that a sound SequenceReset sets whatever its own number is: one that is no gap fill
+-- the number in a sound SequenceReset that isn't a gap fill, which applies whatever its own number is
 abbrev pub reset_to : Result Inbound Fault → Option ℕ
 reset_to (Ok (inbound.SequenceReset m)) = if m.is_gap_fill then None else Some m.new_seq_no
 reset_to _ = None
 
--- a reset sets the number that is expected; one below it is rejected, and nothing changes
+-- a reset sets the expected number; one that lowers it is rejected, and nothing changes
 abbrev pub on_reset : LoggedOn → Heading → ℕ → ℕ → Plan
 on_reset at heading number to =
     if nat_le at.expected to then quiet (record at { expected = to })
     else says at (reject heading number NEW_SEQ_NO ValueIsIncorrect ∷ [])
 
--- what a sound ResendRequest asks for
+-- the ResendRequest in a sound message, if it is one
 abbrev pub again_in : Result Inbound Fault → Option ResendRequest
 again_in (Ok (inbound.ResendRequest m)) = Some m
 again_in _ = None
 
--- the number is too high: messages are missing, and are asked for each time; a ResendRequest is served first, and a Logout, sound or
--- not, ends the session
+-- the number is too high: messages are missing, and are requested each time; a ResendRequest is served first, and a Logout, sound or not,
+-- ends the session
 abbrev pub too_high : LoggedOn → Heard → Plan
 too_high at heard =
     if is_given (codes "5") heard.heading.msg_type then leaves at (body.Logout None ∷ [])
     else repeats at (again_in heard.content) (body.ResendRequest at.expected ∷ [])
 
--- the number is too low: a message that is marked as sent again gives nothing, any other ends the session
+-- the number is too low: a message marked PossDup is ignored, and any other ends the session
 abbrev pub too_low : LoggedOn → Heading → Plan
 too_low at heading = if heading.is_poss_dup then quiet at else leaves at (body.Logout (Some logout.SeqTooLow) ∷ [])
 
@@ -60,19 +60,19 @@ too_low at heading = if heading.is_poss_dup then quiet at else leaves at (body.L
 abbrev pub is_sender : FirmId → Option FirmId → Bool
 is_sender firm sender = option_map_or (λ (named : FirmId). bytes_eq named.name firm.name) sender false
 
--- the tag of the first party that is wrong: the sender isn't the firm, or the target isn't the house
+-- the tag of the first wrong party: the sender isn't the firm, or the target isn't the house
 abbrev pub wrong_party : FirmId → Heading → Option ℕ
 wrong_party firm heading =
     if not (is_sender firm heading.sender) then Some SENDER_COMP_ID
     else (if heading.is_to_house then None else Some TARGET_COMP_ID)
 
--- a gap fill sets the number that is expected, to one above its own
+-- a gap fill sets the expected number, which must be above its own
 abbrev pub on_gap_fill : LoggedOn → Heading → ℕ → ℕ → Plan
 on_gap_fill at heading number to =
     if nat_lt number to then quiet (record at { expected = to })
     else says at (reject heading number NEW_SEQ_NO ValueIsIncorrect ∷ [])
 
--- a sound message with the number that was expected: what it asks of the house is handed out, and all else is the session's own
+-- a sound message with the expected number: its request to the house is handed out, and everything else concerns the session itself
 abbrev pub on_message : LoggedOn → Heading → ℕ → Inbound → Plan
 on_message at heading number inbound.Heartbeat = quiet at
 on_message at heading number inbound.Reject = quiet at
@@ -88,7 +88,7 @@ on_message at heading number (inbound.AllocationInstruction m) = hands at number
 on_message at heading number (inbound.AllocationReportAck m) = option_map_or (hands at number) (asked_on m.alloc_report_id m.alloc_status) (quiet at)
 on_message at heading number (inbound.RequestForPositions m) = hands at number (asking.Positions m)
 
--- a message of the right parties, or its fault
+-- a message with the right parties, or its fault
 abbrev pub on_content : LoggedOn → Heading → ℕ → Result Inbound Fault → Plan
 on_content at heading number (Err fault) = says at (reject heading number fault.tag fault.reason ∷ [])
 on_content at heading number (Ok message) = on_message at heading number message
@@ -97,22 +97,22 @@ on_content at heading number (Ok message) = on_message at heading number message
 abbrev pub on_wrong_party : LoggedOn → Heading → ℕ → ℕ → Plan
 on_wrong_party at heading number tag = leaves at (reject heading number tag CompIdProblem ∷ body.Logout (Some logout.CompId) ∷ [])
 
--- the number was expected: the parties come first, then the message
+-- the number was expected: the parties are tested first, then the message
 abbrev pub as_expected : LoggedOn → Heard → ℕ → Plan
 as_expected at heard number =
     option_map_or (on_wrong_party at heard.heading number) (wrong_party at.firm heard.heading) (on_content at heard.heading number heard.content)
 
--- by the number that is expected; one that is met is used up before anything else
+-- compared with the expected number; if they are equal, the number is used up before anything else
 abbrev pub by_number : LoggedOn → Heard → ℕ → Plan
 by_number at heard number =
     if nat_lt at.expected number then too_high at heard
     else (if nat_lt number at.expected then too_low at heard.heading
     else as_expected (record at { expected = number + 1 }) heard number)
 
--- a reset comes before any rule on numbers
+-- a reset comes before any rule about numbers
 abbrev pub on_number : LoggedOn → Heard → ℕ → Plan
 on_number at heard number = option_map_or (on_reset at heard.heading number) (reset_to heard.content) (by_number at heard number)
 
--- a frame without a number that can be one ends the session
+-- a frame without a valid number ends the session
 abbrev pub frame_plan : LoggedOn → Heard → Plan
 frame_plan at heard = option_map_or (on_number at heard) heard.heading.number (leaves at (body.Logout (Some logout.BadSeqNum) ∷ []))

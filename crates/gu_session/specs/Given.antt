@@ -1,4 +1,4 @@
--- Machinery: what a session gives besides its messages. No other crate names this file.
+-- Machinery: a session's outputs apart from its messages. No other crate names this file.
 use Rattle.std.specs.Prelude.{Bool, List, [], ◌∷◌, Option, None, Some, if◌then◌else◌}
 use Rattle.std.specs.Option.{option_map}
 use Rattle.gu_session.specs.Sending.{asked_of}
@@ -7,15 +7,15 @@ use Rattle.gu_session.specs.declared.output.Output.{Output}
 use Rattle.gu_session.specs.declared.output.Output.TheVariants.{Hand, Close}
 use Rattle.gu_session.specs.declared.plan.Handed.{Handed}
 
--- what is asked of the house
+-- the request to the house, if there is one
 abbrev pub asked_in : Option Handed → Option Asked
 asked_in handed = option_map asked_of handed
 
--- what is handed out
+-- the request handed out, as an output
 abbrev pub handed_outputs : Option Asked → List Output
 handed_outputs None = []
 handed_outputs (Some asked) = Hand asked ∷ []
 
--- the end, if it is reached
+-- the end, if it is reached, as an output
 abbrev pub end_outputs : Bool → List Output
 end_outputs ends = if ends then Close ∷ [] else []

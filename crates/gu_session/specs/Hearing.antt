@@ -1,4 +1,4 @@
--- What a frame says to a session (FIXT 1.1, Standard Header).
+-- The content of a frame, as a session reads it (FIXT 1.1, Standard Header).
 use Rattle.std.specs.Prelude.{◌≡◌, ℕ, Bool, false, List, Option, None, Some, Result, Ok, Err, codes, if◌then◌else◌, option_and_then}
 use Rattle.std.specs.Option.{option_map_or}
 use Rattle.std.specs.Str.{bytes_eq}
@@ -22,19 +22,19 @@ use Rattle.gu_session.specs.SeqNums.{greatest}
 use Rattle.gu_session.specs.declared.heard.Heading.{Heading}
 use Rattle.gu_session.specs.declared.heard.Heard.{Heard}
 
--- the number of a message, where its text writes one from 1 to the greatest
+-- the number in a text, if it is from 1 to the greatest
 abbrev pub IsNumberIn : Option (List ℕ) → Option ℕ → Type 0
 IsNumberIn None number = number ≡ None
 IsNumberIn (Some text) None = ¬ IsNumberWithin 1 greatest text
 IsNumberIn (Some text) (Some number) = IsNumberWithin 1 greatest text × (digits_value 10 text ≡ number)
 
--- the firm with this name, where it is one
+-- the firm with this name, if it is a valid name
 abbrev pub IsFirmIn : Option (List ℕ) → Option FirmId → Type 0
 IsFirmIn None firm = firm ≡ None
 IsFirmIn (Some name) None = ¬ IsName name
 IsFirmIn (Some name) (Some firm) = IsName name × (firm.name ≡ name)
 
--- the code of a type, where it has the form of one
+-- the code of a type, if the text has the form of one
 abbrev pub code_in : List ℕ → Option (List ℕ)
 code_in text = if is_type_text text then Some text else None
 
@@ -42,7 +42,7 @@ code_in text = if is_type_text text then Some text else None
 abbrev pub is_given : List ℕ → Option (List ℕ) → Bool
 is_given text value = option_map_or (bytes_eq text) value false
 
--- what the header says: the type is that of the first MsgType, and each other part is the value of a tag that is there once
+-- the header: the type is the first MsgType, and each other part is the value of a tag that occurs exactly once
 pub record IsHeading (fields : List TagValue) (heading : Heading) : Type 0 where
   pub number : IsNumberIn (only_value MSG_SEQ_NUM fields) heading.number
   pub msg_type : heading.msg_type ≡ option_and_then code_in (first_value MSG_TYPE fields)
@@ -50,13 +50,13 @@ pub record IsHeading (fields : List TagValue) (heading : Heading) : Type 0 where
   pub to_house : heading.is_to_house ≡ is_given (codes "GIVEUP") (only_value TARGET_COMP_ID fields)
   pub poss_dup : heading.is_poss_dup ≡ is_given (codes "Y") (only_value POSS_DUP_FLAG fields)
 
--- a malformed field comes first; fields without one say a message or have a first fault
+-- a malformed field comes first; fields without one are a message or have a first fault
 abbrev pub IsContent : Option FieldFault → List TagValue → Result Inbound Fault → Type 0
 IsContent (Some fault) fields content = content ≡ Err (record { tag = fault.tag; reason = reason_of_field fault.reason })
 IsContent None fields (Ok message) = Says fields message
 IsContent None fields (Err fault) = IsFaultOf fields fault
 
--- what the bytes of a frame say; the well-formed fields after a malformed one count for the header too
+-- the content of a frame's bytes; the well-formed fields after a malformed one also count for the header
 pub record Hears (bytes : List ℕ) (heard : Heard) : Type 0 where
   pub fields : List TagValue
   pub fault : Option FieldFault

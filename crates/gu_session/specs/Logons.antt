@@ -15,31 +15,31 @@ use Rattle.gu_session.specs.declared.plan.Course.TheVariants.{Leave, Go}
 use Rattle.gu_session.specs.declared.plan.Plan.{Plan}
 use Rattle.gu_session.specs.declared.logged_on.LoggedOn.{LoggedOn}
 
--- a session that a firm begins, where this number is expected next
+-- the session that a firm begins, with this expected number
 abbrev pub begun : FirmId → Logon → ℕ → ℕ → LoggedOn
 begun firm m now expected =
     record { firm = firm; heart_bt_int = m.heart_bt_int; expected = expected; heard_at = now; is_tested = false }
 
--- a Logon is answered by one; what a number above 1 leaves out is asked for from 1 on, the Logon's own number too
+-- a Logon is answered with one; if its number is above 1, messages are requested from 1 on, including the Logon's own number
 abbrev pub logged_on : FirmId → ℕ → Logon → ℕ → Plan
 logged_on firm number m now =
     if number == 1 then says (begun firm m now 2) (body.Logon m.heart_bt_int m.resets_seq_num ∷ [])
     else says (begun firm m now 1) (body.Logon m.heart_bt_int m.resets_seq_num ∷ body.ResendRequest 1 ∷ [])
 
--- a sound Logon
+-- the Logon in a sound message, if it is one
 abbrev pub logon_in : Result Inbound Fault → Option Logon
 logon_in (Ok (inbound.Logon m)) = Some m
 logon_in _ = None
 
--- the firm that sends a frame to the house, where it is one of these
+-- the firm that sends a frame to the house, if it is one of these
 abbrev pub caller : List FirmId → Heading → Option FirmId
 caller firms heading = if heading.is_to_house then find (λ (firm : FirmId). is_sender firm heading.sender) firms else None
 
--- a frame with a number, of a firm that may log on, with a sound Logon
+-- a frame with a number, from a firm that may log on, with a sound Logon, logs the firm on; anything else ends the session silently
 abbrev pub on_logon : ℕ → Option ℕ → Option FirmId → Option Logon → Course
 on_logon now (Some number) (Some firm) (Some m) = Go (logged_on firm number m now)
 on_logon now _ _ _ = Leave
 
--- any other frame ends the session without a byte
+-- what a session does on a frame before a firm is logged on
 abbrev pub logon_course : List FirmId → Heard → ℕ → Course
 logon_course firms heard now = on_logon now heard.heading.number (caller firms heard.heading) (logon_in heard.content)

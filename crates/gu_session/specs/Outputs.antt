@@ -1,4 +1,4 @@
--- What is seen of what a session gives, and a step whose messages are appended to a text.
+-- What is seen of a session's outputs, and a step whose messages are appended to a text.
 use Rattle.std.specs.Prelude.{◌≡◌, ◌++◌, ℕ, Bool, true, false, List, [], Option, None, Some}
 use Rattle.std.specs.List.{filter_map, flat_map, list_any}
 use Rattle.std.specs.Option.{option_to_list}
@@ -14,29 +14,29 @@ use Rattle.gu_session.specs.declared.output.Output.{Output}
 use Rattle.gu_session.specs.declared.output.Output.TheVariants.{Send, Hand, Close}
 use Rattle.gu_session.specs.declared.output.Taken.{Taken}
 
--- the bytes that a session gives to be sent
+-- the bytes in an output
 abbrev pub bytes_in : Output → List ℕ
 bytes_in (Send bytes) = bytes.items
 bytes_in (Hand asked) = []
 bytes_in Close = []
 
--- what it hands out
+-- the request in an output
 abbrev pub handed_in : Output → Option Asked
 handed_in (Send bytes) = None
 handed_in (Hand asked) = Some asked
 handed_in Close = None
 
--- the firm asks this
+-- this is a request of the firm
 abbrev pub IsAskedBy : FirmId → Request → Type 0
 IsAskedBy firm request = (asking : Asking) × (request ≡ request_of firm asking)
 
--- the close
+-- the output is the end
 abbrev pub is_close : Output → Bool
 is_close (Send bytes) = false
 is_close (Hand asked) = false
 is_close Close = true
 
--- a step of which all bytes follow a text, in order; what it hands out, and whether it closes, is taken
+-- a step whose bytes are appended to a text, in order; the request that it hands out, and whether it ends the session, are returned
 pub record StepsOnto (old : SessionState) (input : Input) (now : ℕ) (before after : List ℕ) (taken : Taken) (new : SessionState) : Type 0 where
   pub outputs : List Output
   pub steps : StepsWith old input now outputs new

@@ -1,4 +1,4 @@
--- What a step does, before numbers are given.
+-- What a step does, before numbers are assigned.
 use Rattle.std.specs.Prelude.{true, false, ℕ, List, [], Option, None, Some}
 use Rattle.gu_msgs.specs.declared.asking.Asking.{Asking}
 use Rattle.gu_msgs.specs.declared.inbound.ResendRequest.{ResendRequest}
@@ -10,19 +10,19 @@ use Rattle.gu_session.specs.declared.logged_on.LoggedOn.{LoggedOn}
 abbrev pub quiet : LoggedOn → Plan
 quiet at = record { after = at; again = None; messages = []; handed = None; answered = None; ends = false }
 
--- new messages
+-- new messages are sent
 abbrev pub says : LoggedOn → List Body → Plan
 says at messages = record { after = at; again = None; messages = messages; handed = None; answered = None; ends = false }
 
--- new messages, and the end
+-- new messages are sent, and the session ends
 abbrev pub leaves : LoggedOn → List Body → Plan
 leaves at messages = record { after = at; again = None; messages = messages; handed = None; answered = None; ends = true }
 
--- what was asked for again, then new messages
+-- requested messages are sent again, then new ones
 abbrev pub repeats : LoggedOn → Option ResendRequest → List Body → Plan
 repeats at again messages = record { after = at; again = again; messages = messages; handed = None; answered = None; ends = false }
 
--- what a message of this number asks for is handed out
+-- the request in the message with this number is handed out
 abbrev pub hands : LoggedOn → ℕ → Asking → Plan
 hands at number asking = record {
   after = at;
@@ -33,6 +33,6 @@ hands at number asking = record {
   ends = false;
 }
 
--- the messages that answer a question
+-- the messages that answer a question are sent
 abbrev pub answers : LoggedOn → ℕ → List Body → Plan
 answers at reference messages = record { after = at; again = None; messages = messages; handed = None; answered = Some reference; ends = false }

@@ -6,7 +6,7 @@ use Rattle.gu_session.specs.States.{SessionState}
 use Rattle.gu_session.specs.Steps.{Steps}
 use Rattle.gu_session.specs.declared.input.Input.{Input}
 
--- inputs one after another, each with its moment, and all that is given for them
+-- inputs one after another, each with its moment, and everything given for them
 abbrev pub Runs : SessionState → List (Input × ℕ) → List Response → SessionState → Type 0
 Runs old [] given new = (given ≡ []) × (new ≡ old)
 Runs old (input ∷ inputs) given new =
@@ -35,13 +35,13 @@ repeated_message (Sends message) = if_again message message.orig_sending_time
 repeated_message (Hands asked) = None
 repeated_message Closes = None
 
--- the reference of what is handed out
+-- the reference of the request handed out
 abbrev pub handed_reference : Response → Option ℕ
 handed_reference (Sends message) = None
 handed_reference (Hands asked) = Some asked.reference
 handed_reference Closes = None
 
--- numbers go up by one, from this one on
+-- numbers go up by one, starting at this one
 abbrev pub CountsFrom : ℕ → List Outbound → Type 0
 CountsFrom number [] = ⊤
 CountsFrom number (message ∷ messages) = (message.msg_seq_num ≡ number) × CountsFrom (number + 1) messages

@@ -1,7 +1,7 @@
--- The numbers of messages: MsgSeqNum, tag 34 (FIXT 1.1, Standard Header).
+-- Message numbers: MsgSeqNum, tag 34 (FIXT 1.1, Standard Header).
 use Rattle.std.specs.Prelude.{ℕ, ◌≤◌}
 
--- the greatest number of a message
+-- the greatest message number
 abbrev pub greatest : ℕ
 greatest = 1000000000
 

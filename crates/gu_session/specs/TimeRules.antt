@@ -7,11 +7,11 @@ use Rattle.gu_session.specs.declared.plan.Course.{Course}
 use Rattle.gu_session.specs.declared.plan.Course.TheVariants.{Stay, Go}
 use Rattle.gu_session.specs.declared.logged_on.LoggedOn.{LoggedOn}
 
--- so many intervals of a session have passed from one moment to another, in milliseconds; none has where a clock goes back
+-- at least this many heartbeat intervals have passed between two moments in milliseconds; a clock that goes back counts as no time
 abbrev pub have_passed : ℕ → LoggedOn → ℕ → ℕ → Bool
 have_passed count at from now = nat_le (count * (1000 * at.heart_bt_int)) (now - from)
 
--- three intervals of silence end the session; after two a TestRequest is sent once; and a Heartbeat where nothing was sent for one
+-- after three intervals of silence the session ends; after two a TestRequest is sent once; after one in which nothing was sent, a Heartbeat
 abbrev pub on_tick : LoggedOn → ℕ → ℕ → Course
 on_tick at sent_at now =
     if at.heart_bt_int == 0 then Stay

@@ -1,4 +1,4 @@
-//! Answers to what was handed out.
+//! Answers to requests handed out.
 
 ghost use Rattle.std.specs.Prelude.{◌≡◌, IfOk};
 ghost use Rattle.std.specs.Option.{option_copied};
@@ -14,7 +14,7 @@ use gu_msgs::{Question, Rejection, positions_answer};
 use gu_terms::Reply;
 use std::alloc::{AllocError, Global};
 
-/// What became of a command, by the reply to it.
+/// Returns the result of a command, given the reply to it.
 fn replied(question: &Question, reply: Reply) -> Option<Option<Rejection>>
     ensures { result ≡ entered question.now (Replied reply) }
 {
@@ -30,7 +30,7 @@ fn replied(question: &Question, reply: Reply) -> Option<Option<Rejection>>
     }
 }
 
-/// What became of a command.
+/// Returns the result of a command, given its outcome.
 fn entered(question: &Question, outcome: &Outcome) -> Option<Option<Rejection>>
     ensures { result ≡ entered question.now outcome.now }
 {
@@ -42,7 +42,7 @@ fn entered(question: &Question, outcome: &Outcome) -> Option<Option<Rejection>>
     }
 }
 
-/// The answer to a command that the message with this number asked for.
+/// Returns the answer to the command in the message with this number.
 fn command_messages(
     alloc: Global,
     question: &Question,
@@ -57,7 +57,7 @@ fn command_messages(
     Ok(Some(Messages::of_option(alloc, question.answer(number, why))?))
 }
 
-/// The answer to what the message with this number asked for, where the outcome is of its kind.
+/// Returns the answer to the request in the message with this number, if the outcome is of its kind.
 fn answer_messages(
     alloc: Global,
     question: &Question,
@@ -77,7 +77,7 @@ fn answer_messages(
     }
 }
 
-/// The question with this reference.
+/// Returns the waiting question with this reference.
 fn asked_by(reference: AskRef, waiting: &[Waiting]) -> Option<&Waiting>
     ensures { option_copied result ≡ asked_by reference waiting.now }
 {
@@ -89,7 +89,7 @@ fn asked_by(reference: AskRef, waiting: &[Waiting]) -> Option<&Waiting>
     None
 }
 
-/// What is done on an answer.
+/// Returns what the session does on an answer.
 pub fn on_answer(
     alloc: Global,
     at: &LoggedOn,

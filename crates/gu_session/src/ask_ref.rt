@@ -1,11 +1,11 @@
-//! What an answer names the message by that asked for it.
+//! References from answers to the messages that asked.
 
 ghost use Rattle.std.specs.Prelude.{◌≡◌};
 
 use crate::seq_num::SeqNum;
 use std::marker::Model;
 
-/// The reference of what a session handed out, by which it is answered. To a contract it is the number of the message that asked.
+/// The reference of a request that a session handed out, by which it is answered. To a contract it is the number of the message that asked.
 #[derive(Clone, Copy, Debug, PartialEq, Eq)]
 pub struct AskRef {
     number: SeqNum,
@@ -22,14 +22,14 @@ impl Model for AskRef {
 }
 
 impl AskRef {
-    /// The reference of a message with this number.
+    /// Returns the reference for the message with this number.
     pub(crate) fn new(number: SeqNum) -> Self
         ensures { result ≡ number }
     {
         AskRef { number }
     }
 
-    /// The number of the message.
+    /// Returns the number of the message.
     pub fn get(self) -> u64
         ensures { result ≡ self }
     {

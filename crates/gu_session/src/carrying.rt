@@ -1,4 +1,4 @@
-//! What a plan leaves.
+//! The effects of a plan.
 
 ghost use Rattle.std.specs.Prelude.{◌≡◌, ◌≤◌, ◌<◌, ◌+◌, ◌++◌, [], Some, None, is_some, length, vec_len, vec_capacity, if◌then◌else◌, IfOk};
 ghost use Rattle.std.specs.List.{filter_map};
@@ -21,7 +21,7 @@ use gu_msgs::inbound::ResendRequest;
 use gu_terms::{FirmId, Moment};
 use std::alloc::{AllocError, Global};
 
-/// Whether a plan needs a number above the greatest, where this number is the next.
+/// Returns whether a plan needs a number above the greatest, given the next number.
 pub fn is_over(next: u64, plan: &Plan<'_>) -> bool
     requires { next ≤ 1000000001 }
     ensures { result ≡ is_over next plan.now }
@@ -30,7 +30,7 @@ pub fn is_over(next: u64, plan: &Plan<'_>) -> bool
     left < plan.messages.len() as u64
 }
 
-/// What is sent again, where anything is asked for.
+/// Returns the messages sent again, if any are requested.
 pub fn repeats(
     alloc: Global,
     firm: &FirmId,
@@ -48,7 +48,7 @@ pub fn repeats(
     }
 }
 
-/// Room for what is to be kept, where a firm logs on.
+/// Returns room for the messages to keep, if a firm logs on.
 pub fn room_for(alloc: Global, at: &Option<LoggedOn>) -> Result<Option<SentRing>, AllocError>
     ensures { IfOk result (λ room. room ≡ (if is_some at.now then None else Some (buffer [] 4096))) }
 {
@@ -58,7 +58,7 @@ pub fn room_for(alloc: Global, at: &Option<LoggedOn>) -> Result<Option<SentRing>
     }
 }
 
-/// Moves to new room, where there is some.
+/// Moves to new room, if there is some.
 pub fn move_to(kept: &mut SentRing, room: Option<SentRing>)
     ensures { kept.new ≡ option_map_or (λ room. room) room kept.old }
 {
@@ -67,7 +67,7 @@ pub fn move_to(kept: &mut SentRing, room: Option<SentRing>)
     }
 }
 
-/// Keeps the new messages of a plan after the others; the first of them has this number.
+/// Keeps the new messages of a plan, the first of which has this number.
 pub fn keep(kept: &mut SentRing, plan: &Plan<'_>, first: u64, now: Moment)
     requires some { 1 ≤ first }
     requires most { first + length plan.now.messages ≤ 1000000001 }
@@ -79,7 +79,7 @@ pub fn keep(kept: &mut SentRing, plan: &Plan<'_>, first: u64, now: Moment)
     }
 }
 
-/// Takes out what was answered.
+/// Removes what was answered.
 fn forget(waiting: &mut Vec<Waiting>, answered: Option<AskRef>)
     ensures { waiting.new.items ≡ unanswered answered waiting.old.items }
 {
@@ -88,7 +88,7 @@ fn forget(waiting: &mut Vec<Waiting>, answered: Option<AskRef>)
     }
 }
 
-/// Adds what was handed out, and takes out what was answered.
+/// Adds what was handed out, and removes what was answered.
 pub fn settle(waiting: &mut Vec<Waiting>, handed: &Option<Handed>, answered: Option<AskRef>)
     requires { vec_len waiting.old < vec_capacity waiting.old }
     ensures { waiting.new.items ≡ unanswered answered (waiting.old.items ++ option_to_list (option_map waiting_for handed.now)) }
@@ -103,7 +103,7 @@ pub fn settle(waiting: &mut Vec<Waiting>, handed: &Option<Handed>, answered: Opt
     forget(waiting, answered);
 }
 
-/// The moment of the last sending, once so many messages were sent.
+/// Returns the time of the last sending after this many messages are sent.
 pub fn sent_at_after(before: Moment, now: Moment, count: usize) -> Moment
     ensures { result ≡ sent_at_after before now count }
 {

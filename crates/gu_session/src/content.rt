@@ -1,4 +1,4 @@
-//! Frames whose number was expected, by what they say.
+//! Messages whose number was expected, by content.
 
 ghost use Rattle.std.specs.Prelude.{◌≡◌, IfOk};
 ghost use Rattle.gu_msgs.specs.declared.coded_values.BusinessRejectReason.TheVariants.{UnsupportedMessageType};
@@ -20,7 +20,7 @@ use gu_msgs::{
 use gu_terms::FirmId;
 use std::alloc::{AllocError, Global};
 
-/// Whether this firm is the sender.
+/// Returns whether this firm is the sender.
 pub fn is_sender(firm: &FirmId, sender: &Option<FirmId>) -> bool
     ensures { result ≡ is_sender firm.now sender.now }
 {
@@ -30,7 +30,7 @@ pub fn is_sender(firm: &FirmId, sender: &Option<FirmId>) -> bool
     }
 }
 
-/// The tag of the first party that is wrong.
+/// Returns the tag of the first wrong party, if there is one.
 fn wrong_party(firm: &FirmId, heading: &Heading) -> Option<u32>
     ensures { result ≡ wrong_party firm.now heading.now }
 {
@@ -44,7 +44,7 @@ fn wrong_party(firm: &FirmId, heading: &Heading) -> Option<u32>
     }
 }
 
-/// A gap fill up to a number.
+/// Returns the plan for a gap fill up to a number.
 fn on_gap_fill(
     alloc: Global,
     at: &LoggedOn,
@@ -65,7 +65,7 @@ fn on_gap_fill(
     Plan::says(alloc, at, reject(heading, number, NEW_SEQ_NO, reason))
 }
 
-/// The answer to a message of a type that isn't read.
+/// Returns the answer to a message of a type that isn't read.
 fn unsupported(number: SeqNum, code: TypeCode) -> Body
     ensures { result ≡ body.Application (application.BusinessMessageReject (record { ref_seq_num = number; reason = UnsupportedMessageType code })) }
 {
@@ -75,7 +75,7 @@ fn unsupported(number: SeqNum, code: TypeCode) -> Body
     }))
 }
 
-/// A sound message.
+/// Returns the plan for a sound message.
 fn on_message(
     alloc: Global,
     at: &LoggedOn,
@@ -105,7 +105,7 @@ fn on_message(
     }
 }
 
-/// A party is wrong, which this tag names.
+/// Returns the plan for a message in which the party with this tag is wrong.
 fn on_wrong_party(
     alloc: Global,
     at: &LoggedOn,
@@ -121,7 +121,7 @@ fn on_wrong_party(
     Ok(Plan::leaves(at, messages))
 }
 
-/// What is done on a frame whose number was expected.
+/// Returns the plan for a message whose number was expected.
 pub fn as_expected(
     alloc: Global,
     at: &LoggedOn,

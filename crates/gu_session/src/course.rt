@@ -1,4 +1,4 @@
-//! What is done on an input.
+//! What a session does on an input.
 
 ghost use Rattle.std.specs.Prelude.{◌≡◌, IfOk};
 ghost use Rattle.std.specs.Option.{option_map_or};
@@ -27,7 +27,7 @@ use gu_terms::{FirmId, Moment};
 use std::alloc::{AllocError, Global};
 use std::slice;
 
-/// A session once a frame came.
+/// Returns the session's state after a frame arrives.
 fn at_frame(at: &LoggedOn, now: Moment) -> LoggedOn
     ensures { result ≡ at_frame at.now now }
 {
@@ -38,7 +38,7 @@ fn at_frame(at: &LoggedOn, now: Moment) -> LoggedOn
     }
 }
 
-/// What is done on a frame that says this.
+/// Returns what the session does on a frame with this content.
 fn heard_course(
     alloc: Global,
     firms: &[FirmId],
@@ -54,7 +54,7 @@ fn heard_course(
     }
 }
 
-/// What is done on a frame.
+/// Returns what the session does on a frame.
 pub fn frame_course(
     alloc: Global,
     firms: &[FirmId],
@@ -69,7 +69,7 @@ pub fn frame_course(
     heard_course(alloc, firms, at, heard, now)
 }
 
-/// What is done on what is sent as this message.
+/// Returns what the session does to send this message.
 pub fn message_course<'a>(at: &Option<LoggedOn>, body: &'a Body) -> Course<'a>
     ensures { result ≡ option_map_or (λ (at : LoggedOnOf). message_course at body.now) at.now Stay }
 {
@@ -79,7 +79,7 @@ pub fn message_course<'a>(at: &Option<LoggedOn>, body: &'a Body) -> Course<'a>
     }
 }
 
-/// What is done on an answer.
+/// Returns what the session does on an answer.
 pub fn answer_course(
     alloc: Global,
     at: &Option<LoggedOn>,
@@ -95,7 +95,7 @@ pub fn answer_course(
     }
 }
 
-/// What is done as time passes.
+/// Returns what the session does on a tick.
 pub fn tick_course(
     alloc: Global,
     at: &Option<LoggedOn>,
@@ -110,7 +110,7 @@ pub fn tick_course(
     }
 }
 
-/// What is done as the house closes.
+/// Returns what the session does when the house closes.
 pub fn close_course(alloc: Global, at: &Option<LoggedOn>) -> Result<Course<'static>, AllocError>
     ensures { IfOk result (λ course. course ≡ option_map_or (λ (at : LoggedOnOf). on_close at) at.now Leave) }
 {

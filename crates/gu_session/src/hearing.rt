@@ -1,4 +1,4 @@
-//! What frames say.
+//! Reading frames.
 
 ghost use Rattle.std.specs.Prelude.{◌≡◌, codes, IfOk, List, option_and_then, Some};
 ghost use Rattle.std.specs.Option.{option_map};
@@ -19,7 +19,7 @@ use std::alloc::{AllocError, Global};
 /// The house's name as a target.
 const HOUSE: &[u8] = b"GIVEUP";
 
-/// The number that a text writes, where a message can have it.
+/// Returns the number in a text, if a message can have it.
 fn number_in(text: Option<&[u8]>) -> Option<SeqNum>
     ensures { IsNumberIn (option_map (λ bytes. bytes.now) text.entry) result }
 {
@@ -35,7 +35,7 @@ fn number_in(text: Option<&[u8]>) -> Option<SeqNum>
     }
 }
 
-/// The firm with this name.
+/// Returns the firm with this name.
 fn firm_in(name: Option<&[u8]>) -> Option<FirmId>
     ensures { IsFirmIn (option_map (λ bytes. bytes.now) name.entry) result }
 {
@@ -45,7 +45,7 @@ fn firm_in(name: Option<&[u8]>) -> Option<FirmId>
     }
 }
 
-/// The code of a type, where it has the form of one.
+/// Returns the code of a type, if the text has the form of one.
 fn code_in(text: Option<&[u8]>) -> Option<TypeCode>
     ensures { result ≡ option_and_then code_in (option_map (λ bytes. bytes.now) text.entry) }
 {
@@ -55,7 +55,7 @@ fn code_in(text: Option<&[u8]>) -> Option<TypeCode>
     }
 }
 
-/// Whether a value is given and is the house's name.
+/// Returns whether a value is given and is the house's name.
 fn is_house(value: Option<&[u8]>) -> bool
     ensures { result ≡ is_given (codes "GIVEUP") (option_map (λ bytes. bytes.now) value.entry) }
 {
@@ -65,7 +65,7 @@ fn is_house(value: Option<&[u8]>) -> bool
     }
 }
 
-/// Whether a value is given and is yes.
+/// Returns whether a value is given and is `Y`.
 fn is_yes(value: Option<&[u8]>) -> bool
     ensures { result ≡ is_given (codes "Y") (option_map (λ bytes. bytes.now) value.entry) }
 {
@@ -75,7 +75,7 @@ fn is_yes(value: Option<&[u8]>) -> bool
     }
 }
 
-/// What a header says, which is that of these fields.
+/// Returns the heading for this header, which is that of these fields.
 fn heading_of(header: &HeaderRef<'_>) -> Heading
     ensures { (fields : List TagValue) → IsHeaderIn fields header.now → IsHeading fields result }
 {
@@ -88,7 +88,7 @@ fn heading_of(header: &HeaderRef<'_>) -> Heading
     }
 }
 
-/// What fields say of which one is malformed.
+/// Returns the content of fields with a malformed one.
 fn malformed(fields: &Fields, fault: FieldFault) -> Heard
     ensures heading { IsHeading fields.now result.heading }
     ensures content { IsContent (Some fault) fields.now result.content }
@@ -103,7 +103,7 @@ fn malformed(fields: &Fields, fault: FieldFault) -> Heard
     }
 }
 
-/// What these fields say: their header, and their message or what is wrong with it; a malformed field comes first.
+/// Returns the content of these fields: their header, and their message or first fault; a malformed field comes first.
 pub fn hear(alloc: Global, fields: &Fields, fault: Option<FieldFault>) -> Result<Heard, AllocError>
     ensures heading { IfOk result (λ heard. IsHeading fields.now heard.heading) }
     ensures content { IfOk result (λ heard. IsContent fault fields.now heard.content) }

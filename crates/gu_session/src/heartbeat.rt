@@ -1,4 +1,4 @@
-//! Heartbeats, and silence.
+//! Heartbeats, and silence of the firm.
 
 ghost use Rattle.std.specs.Prelude.{◌≡◌, ◌≢◌, ◌<◌, ◌≤◌, ℕ, false, true, IfOk, IfSome};
 ghost use Rattle.gu_terms.specs.Numbers.{IsMoment};
@@ -12,10 +12,10 @@ use gu_msgs::outbound::Body;
 use gu_terms::Moment;
 use std::alloc::{AllocError, Global};
 
-/// The milliseconds of a second.
+/// The milliseconds in a second.
 const SECOND: u64 = 1000;
 
-/// Whether so many intervals have passed.
+/// Returns whether at least this many intervals have passed.
 fn have_passed(count: u64, at: &LoggedOn, from: Moment, now: Moment) -> bool
     requires { count ≤ 3 }
     ensures { result ≡ have_passed count at.now from now }
@@ -27,7 +27,7 @@ fn have_passed(count: u64, at: &LoggedOn, from: Moment, now: Moment) -> bool
     }
 }
 
-/// What is done as time passes.
+/// Returns what the session does on a tick.
 pub fn on_tick(
     alloc: Global,
     at: &LoggedOn,
@@ -56,7 +56,7 @@ pub fn on_tick(
     Ok(Course::Stay)
 }
 
-/// Returns the number of the first moment at which so many intervals have passed; it may be above that of the last moment.
+/// Returns the first moment, as a number, at which this many intervals have passed; it may be after the last moment.
 fn after(at: &LoggedOn, count: u64, from: Moment) -> u64
     requires some { 0 < count }
     requires few { count ≤ 3 }
@@ -70,7 +70,7 @@ fn after(at: &LoggedOn, count: u64, from: Moment) -> u64
     }
 }
 
-/// Returns the number of the first moment at which time does something, where there are heartbeats.
+/// Returns the first moment, as a number, at which a tick does something, given that there are heartbeats.
 fn due_number(at: &LoggedOn, sent_at: Moment) -> u64
     requires { 0 < at.now.heart_bt_int }
     ensures rests { (now : ℕ) → now < result → on_tick at.now sent_at now ≡ Stay }
@@ -86,7 +86,7 @@ fn due_number(at: &LoggedOn, sent_at: Moment) -> u64
     }
 }
 
-/// Returns the first moment at which time does something, if it ever does.
+/// Returns the first moment at which a tick does something, if it ever does.
 pub fn due_at(at: &LoggedOn, sent_at: Moment) -> Option<Moment>
     ensures rests { (now : ℕ) → IsMoment now → IfSome result (λ due. now < due) → on_tick at.now sent_at now ≡ Stay }
     ensures acts { IfSome result (λ due. on_tick at.now sent_at due ≢ Stay) }

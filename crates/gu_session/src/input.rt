@@ -1,42 +1,42 @@
-//! What comes to a session.
+//! Inputs of a session.
 
 use crate::ask_ref::AskRef;
 use gu_fix::Frame;
 use gu_terms::{Notice, PositionRows, Reply};
 
-/// Why nothing was entered.
+/// The reason that nothing was entered.
 #[derive(Clone, Copy, Debug)]
 pub enum Failure {
-    /// There was no memory for it.
+    /// An allocation failed.
     Memory,
     /// The book is full.
     Full,
 }
 
-/// What became of what a session handed out.
+/// The outcome of a request that a session handed out.
 #[derive(Drop)]
 pub enum Outcome {
     /// The reply to a command.
     Replied(Reply),
-    /// What is told of positions: none where the account isn't the firm's.
+    /// The positions: None if the account isn't the firm's.
     Positions(Option<PositionRows>),
     /// A command wasn't entered.
     Failed(Failure),
 }
 
-/// What comes to a session.
+/// An input of a session.
 #[derive(Drop)]
 pub enum Input {
     /// A whole message.
     Frame(Frame),
     /// A notice to the firm.
     Notice(Notice),
-    /// The answer to what was handed out with this reference.
+    /// The answer to the request with this reference.
     Answer(AskRef, Outcome),
-    /// Time passes.
+    /// Time has passed.
     Tick,
-    /// Nothing more comes.
+    /// No more input follows.
     End,
-    /// The house closes.
+    /// The house is closing.
     Close,
 }

@@ -1,4 +1,4 @@
-//! The session of a firm with the house: what it hears, what it sends, and what it hands out.
+//! A firm's session with the house: what it receives, what it sends, and what it hands out.
 #![tactic(auto)]
 
 mod answers;

@@ -18,7 +18,7 @@ use gu_msgs::{Fault, Inbound};
 use gu_terms::{FirmId, Moment};
 use std::alloc::{AllocError, Global};
 
-/// The Logon that a frame is.
+/// Returns the Logon in a frame, if it is one.
 fn logon_in(content: &Result<Inbound, Fault>) -> Option<Logon>
     ensures { result ≡ logon_in content.now }
 {
@@ -28,7 +28,7 @@ fn logon_in(content: &Result<Inbound, Fault>) -> Option<Logon>
     }
 }
 
-/// The firm with the sender's name.
+/// Returns the firm with the sender's name.
 fn find_firm(firms: &[FirmId], sender: &Option<FirmId>) -> Option<FirmId>
     ensures { result ≡ find (λ (firm : FirmOf). is_sender firm sender.now) firms.now }
 {
@@ -40,7 +40,7 @@ fn find_firm(firms: &[FirmId], sender: &Option<FirmId>) -> Option<FirmId>
     None
 }
 
-/// The firm that sends a frame to the house.
+/// Returns the firm that sends a frame to the house.
 fn caller(firms: &[FirmId], heading: &Heading) -> Option<FirmId>
     ensures { result ≡ caller firms.now heading.now }
 {
@@ -51,7 +51,7 @@ fn caller(firms: &[FirmId], heading: &Heading) -> Option<FirmId>
     }
 }
 
-/// The answer to a Logon.
+/// Returns the Logon that answers this one.
 fn answer(logon: &Logon) -> Body
     ensures { result ≡ body.Logon logon.now.heart_bt_int logon.now.resets_seq_num }
 {
@@ -61,7 +61,7 @@ fn answer(logon: &Logon) -> Body
     }
 }
 
-/// A firm logs on.
+/// Returns the plan for a firm that logs on.
 fn logged_on(
     alloc: Global,
     firm: FirmId,
@@ -86,7 +86,7 @@ fn logged_on(
     Ok(Plan::repeats(&after, None, messages))
 }
 
-/// What is done on a frame before a firm is logged on.
+/// Returns what the session does on a frame before a firm is logged on.
 pub fn logon_course(
     alloc: Global,
     firms: &[FirmId],

@@ -1,4 +1,4 @@
-//! Messages in order.
+//! Lists of messages.
 
 ghost use Rattle.std.specs.Prelude.{◌≡◌, ◌<◌, ◌^◌, ◌∷◌, [], length, slice_get, Some, IfOk};
 ghost use Rattle.std.specs.Option.{option_to_list};
@@ -9,7 +9,7 @@ use std::borrow::CowSlice;
 use std::marker::Model;
 use std::slice;
 
-/// Messages, in the order in which they are to be sent: borrowed, or in a list of their own. To a contract they are their list.
+/// A list of messages, in the order in which they are to be sent, borrowed or owned. To a contract they are their list.
 #[derive(Drop)]
 pub struct Messages<'a> {
     bodies: CowSlice<'a, Body>,
@@ -26,14 +26,14 @@ impl<'a> Model for Messages<'a> {
 }
 
 impl<'a> Messages<'a> {
-    /// No messages.
+    /// Returns no messages.
     pub fn none() -> Self
         ensures { result ≡ [] }
     {
         Messages::borrowed(&[])
     }
 
-    /// These messages.
+    /// Returns these messages, borrowed.
     pub fn borrowed(bodies: &'a [Body]) -> Self
         ensures { result ≡ bodies.now }
     {
@@ -42,7 +42,7 @@ impl<'a> Messages<'a> {
         }
     }
 
-    /// One message of its own.
+    /// Returns one owned message.
     pub fn one(alloc: Global, body: Body) -> Result<Self, AllocError>
         ensures { IfOk result (λ messages. messages ≡ body ∷ []) }
     {
@@ -53,7 +53,7 @@ impl<'a> Messages<'a> {
         })
     }
 
-    /// The message as its own, if there is one.
+    /// Returns the message, owned, if there is one.
     pub fn of_option(alloc: Global, body: Option<Body>) -> Result<Self, AllocError>
         ensures { IfOk result (λ messages. messages ≡ option_to_list body) }
     {
@@ -63,7 +63,7 @@ impl<'a> Messages<'a> {
         }
     }
 
-    /// These messages as its own.
+    /// Returns these messages, owned.
     pub fn of(bodies: Vec<Body>) -> Self
         ensures { result ≡ bodies.items }
     {
@@ -72,7 +72,7 @@ impl<'a> Messages<'a> {
         }
     }
 
-    /// Two messages of its own.
+    /// Returns two owned messages.
     pub fn two(alloc: Global, first: Body, second: Body) -> Result<Self, AllocError>
         ensures { IfOk result (λ messages. messages ≡ first ∷ second ∷ []) }
     {
@@ -84,7 +84,7 @@ impl<'a> Messages<'a> {
         })
     }
 
-    /// How many there are.
+    /// Returns the number of messages.
     pub fn len(&self) -> usize
         ensures len { result ≡ length self.now }
         ensures few { result < 2 ^ 63 }
@@ -92,7 +92,7 @@ impl<'a> Messages<'a> {
         self.bodies.as_slice().len()
     }
 
-    /// The message at a place.
+    /// Returns the message at an index.
     pub fn get(&self, place: usize) -> &Body
         requires { place < length self.now }
         ensures { slice_get self.now place ≡ Some result.now }

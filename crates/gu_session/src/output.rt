@@ -1,41 +1,41 @@
-//! What a session gives.
+//! Outputs of a session.
 
 ghost use Rattle.std.specs.Prelude.{◌≡◌, None, true, false};
 
 use crate::ask_ref::AskRef;
 use crate::plan::BoxedRequest;
 
-/// What a session hands out.
+/// A request that a session hands out.
 #[derive(Drop)]
 pub struct Asked {
     /// A command to enter, or a question.
     pub what: BoxedRequest,
-    /// What to name in the answer.
+    /// The reference to give with the answer.
     pub reference: AskRef,
 }
 
-/// What a session gives.
+/// An output of a session.
 #[derive(Drop)]
 pub enum Output {
-    /// Bytes to be sent: a whole message.
+    /// Bytes to send: a whole message.
     Send(Vec<u8>),
-    /// What is asked of the house.
+    /// A request to the house.
     Hand(Asked),
     /// The end. Nothing follows it.
     Close,
 }
 
-/// What a step gives besides its messages.
+/// The outputs of a step apart from its messages.
 #[derive(Drop)]
 pub struct Taken {
-    /// What is asked of the house.
+    /// The request to the house, if there is one.
     pub handed: Option<Asked>,
-    /// Whether the session has come to its end.
+    /// Whether the session has ended.
     pub is_closed: bool,
 }
 
 impl Taken {
-    /// Nothing.
+    /// Returns no output.
     pub fn nothing() -> Self
         ensures handed { result.handed ≡ None }
         ensures close { result.is_closed ≡ false }
@@ -46,7 +46,7 @@ impl Taken {
         }
     }
 
-    /// The end.
+    /// Returns the end alone.
     pub fn end() -> Self
         ensures handed { result.handed ≡ None }
         ensures close { result.is_closed ≡ true }

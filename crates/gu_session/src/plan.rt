@@ -1,4 +1,4 @@
-//! What a step does, before numbers are given.
+//! What a step does, before numbers are assigned.
 
 ghost use Rattle.std.specs.Prelude.{◌≡◌, ◌+◌, ◌<◌, ◌≤◌, ◌∷◌, [], length, slice_get, Some, IfOk};
 ghost use Rattle.gu_msgs.specs.Written.{outbound_of};
@@ -18,17 +18,17 @@ use gu_terms::{FirmId, Moment};
 use std::alloc::{AllocError, Global};
 use std::marker::Model;
 
-/// What is handed out.
+/// A request to hand out.
 #[derive(Drop)]
 pub struct Handed {
-    /// Who asks.
+    /// The firm that asks.
     pub firm: FirmId,
     pub reference: AskRef,
     pub asking: Asking,
 }
 
 impl Handed {
-    /// What is asked of the house.
+    /// Returns it as a request to the house.
     pub fn into_asked(self) -> Asked
         ensures { result ≡ asked_of self }
     {
@@ -42,7 +42,7 @@ impl Handed {
     }
 }
 
-/// A request as it was read: its parts stay in their box. To a contract it is the request.
+/// A request as read, with its parts still boxed. To a contract it is the request.
 #[derive(Drop)]
 pub struct BoxedRequest {
     firm: FirmId,
@@ -66,7 +66,7 @@ impl BoxedRequest {
         self.firm
     }
 
-    /// The request, taken out.
+    /// Returns the request, taken out of its box.
     pub fn into_inner(self) -> Request
         ensures { result ≡ self }
     {
@@ -74,36 +74,36 @@ impl BoxedRequest {
     }
 }
 
-/// What is done in a step of a session in which a firm is logged on.
+/// A plan: what a step does in a session with a firm logged on.
 #[derive(Drop)]
 pub struct Plan<'a> {
-    /// How the session comes after it.
+    /// The state of the session after it.
     pub after: LoggedOn,
-    /// What is sent again first.
+    /// The messages to send again first.
     pub again: Option<ResendRequest>,
-    /// New messages, which get the next numbers.
+    /// The new messages, which get the next numbers.
     pub messages: Messages<'a>,
-    /// What is handed out then.
+    /// The request to hand out after that.
     pub handed: Option<Handed>,
-    /// What is answered by it.
+    /// The request that it answers.
     pub answered: Option<AskRef>,
     /// Whether the session ends.
     pub ends: bool,
 }
 
-/// What a step does.
+/// A course: what a step does.
 #[derive(Drop)]
 pub enum Course<'a> {
-    /// Nothing.
+    /// Nothing happens.
     Stay,
-    /// The session ends without a byte.
+    /// The session ends silently.
     Leave,
     /// A plan is carried out.
     Go(Plan<'a>),
 }
 
 impl<'a> Plan<'a> {
-    /// Nothing is sent.
+    /// Returns a plan that sends nothing.
     pub fn quiet(at: &LoggedOn) -> Self
         ensures { result ≡ quiet at.now }
     {
@@ -117,7 +117,7 @@ impl<'a> Plan<'a> {
         }
     }
 
-    /// New messages.
+    /// Returns a plan with new messages.
     pub fn sends(at: &LoggedOn, messages: Messages<'a>) -> Self
         ensures { result ≡ says at.now messages.entry }
     {
@@ -131,7 +131,7 @@ impl<'a> Plan<'a> {
         }
     }
 
-    /// A new message.
+    /// Returns a plan with one new message.
     pub fn says(alloc: Global, at: &LoggedOn, body: Body) -> Result<Self, AllocError>
         ensures { IfOk result (λ plan. plan ≡ says at.now (body ∷ [])) }
     {
@@ -139,7 +139,7 @@ impl<'a> Plan<'a> {
         Ok(Plan::sends(at, messages))
     }
 
-    /// New messages, and the end.
+    /// Returns a plan with new messages that ends the session.
     pub fn leaves(at: &LoggedOn, messages: Messages<'a>) -> Self
         ensures { result ≡ leaves at.now messages.entry }
     {
@@ -153,7 +153,7 @@ impl<'a> Plan<'a> {
         }
     }
 
-    /// A Logout or the like, and the end.
+    /// Returns a plan with one message, such as a Logout, that ends the session.
     pub fn leaves_with(alloc: Global, at: &LoggedOn, body: Body) -> Result<Self, AllocError>
         ensures { IfOk result (λ plan. plan ≡ leaves at.now (body ∷ [])) }
     {
@@ -161,7 +161,7 @@ impl<'a> Plan<'a> {
         Ok(Plan::leaves(at, messages))
     }
 
-    /// What was asked for again, then new messages.
+    /// Returns a plan that sends the requested messages again, and then new ones.
     pub fn repeats(at: &LoggedOn, again: Option<ResendRequest>, messages: Messages<'a>) -> Self
         ensures { result ≡ repeats at.now again messages.entry }
     {
@@ -175,7 +175,7 @@ impl<'a> Plan<'a> {
         }
     }
 
-    /// What a message of this number asks for is handed out.
+    /// Returns a plan that hands out the request in the message with this number.
     pub fn hands(at: &LoggedOn, number: SeqNum, asking: Asking) -> Self
         ensures { result ≡ hands at.now number asking }
     {
@@ -194,7 +194,7 @@ impl<'a> Plan<'a> {
         }
     }
 
-    /// The messages that answer a question.
+    /// Returns a plan with the messages that answer a question.
     pub fn answers(at: &LoggedOn, reference: AskRef, messages: Messages<'a>) -> Self
         ensures { result ≡ answers at.now reference messages.entry }
     {
@@ -208,7 +208,7 @@ impl<'a> Plan<'a> {
         }
     }
 
-    /// The new message at a place, where the first of them has this number.
+    /// Returns the new message at an index, given the number of the first.
     pub fn new_message(&self, first: u64, now: Moment, place: usize) -> OutboundRef<'_>
         requires place { place < length self.now.messages }
         requires most { first + length self.now.messages ≤ 1000000001 }

@@ -1,4 +1,4 @@
-//! What it takes memory to carry out a plan.
+//! Preparation of a plan: everything that allocates.
 
 ghost use Rattle.std.specs.Prelude.{◌≡◌, ◌+◌, ◌<◌, ◌≤◌, length, slice_get, Some};
 ghost use Rattle.gu_msgs.specs.Written.{outbound_of};
@@ -9,24 +9,24 @@ use crate::sent_ring::SentRing;
 use gu_msgs::{Outbound, OutboundRef};
 use gu_terms::Moment;
 
-/// All that takes memory to carry out a plan.
+/// Everything in carrying out a plan that allocates.
 #[derive(Drop)]
 pub struct Ready {
-    /// What is sent again.
+    /// The messages to send again.
     pub again: Vec<Outbound>,
-    /// Room for what is to be kept, where a firm logs on.
+    /// Room for the messages to keep, if a firm logs on.
     pub room: Option<SentRing>,
 }
 
 impl Ready {
-    /// How many messages are sent.
+    /// Returns the number of messages sent.
     pub fn len(&self, plan: &Plan<'_>) -> usize
         ensures { result ≡ length self.now.again.items + length plan.now.messages }
     {
         self.again.len() + plan.messages.len()
     }
 
-    /// The message at a place of all that are sent, where the first new one has this number.
+    /// Returns the message at an index among all that are sent, given the number of the first new one.
     pub fn message<'a>(
         &'a self,
         plan: &'a Plan<'a>,

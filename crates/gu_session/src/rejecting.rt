@@ -8,7 +8,7 @@ use crate::seq_num::SeqNum;
 use gu_msgs::SessionRejectReason;
 use gu_msgs::outbound::{Body, Reject};
 
-/// A Reject of the message with this header and number.
+/// Returns a Reject for the message with this header and number.
 pub fn reject(heading: &Heading, number: SeqNum, tag: u32, reason: SessionRejectReason) -> Body
     ensures { result ≡ reject heading.now number tag reason }
 {

@@ -1,4 +1,4 @@
-//! What is sent again.
+//! Sending messages again.
 
 ghost use Rattle.std.specs.Prelude.{◌≡◌, ◌+◌, ◌&&◌, ◌++◌, ◌∷◌, [], nat_le, nat_lt, OnOk, IfOk};
 ghost use Rattle.gu_session.specs.Ascending.{IsAscending};
@@ -12,7 +12,7 @@ use gu_msgs::outbound::Body;
 use gu_terms::{FirmId, Moment};
 use std::alloc::{AllocError, Global};
 
-/// A message that was kept, once more.
+/// Returns a kept message to send again.
 fn again(firm: FirmId, now: Moment, sent: &Sent) -> Outbound
     ensures { result ≡ again firm now sent.now }
 {
@@ -25,7 +25,7 @@ fn again(firm: FirmId, now: Moment, sent: &Sent) -> Outbound
     }
 }
 
-/// What takes the place of a run of numbers.
+/// Returns a gap fill for the numbers from one up to another.
 fn gap_fill(firm: FirmId, now: Moment, from: u64, to: u64) -> Outbound
     ensures { result ≡ gap_fill firm now from to }
 {
@@ -39,7 +39,7 @@ fn gap_fill(firm: FirmId, now: Moment, from: u64, to: u64) -> Outbound
     }
 }
 
-/// Appends what takes the place of the numbers from one up to another.
+/// Appends a gap fill for the numbers from one up to another, if there are any.
 fn push_gap(
     messages: &mut Vec<Outbound>,
     firm: &FirmId,
@@ -55,7 +55,7 @@ fn push_gap(
     Ok(())
 }
 
-/// Appends a message that was kept, and what takes the place of the numbers before it; returns the number after it.
+/// Appends a kept message, after a gap fill for the numbers before it; returns the number after it.
 fn push_again(
     messages: &mut Vec<Outbound>,
     firm: &FirmId,
@@ -71,7 +71,7 @@ fn push_again(
     Ok(sent.number.get() + 1)
 }
 
-/// The number after the last that is asked for.
+/// Returns the number after the last requested one.
 fn behind_last(next: u64, last: u64) -> u64
     ensures { result ≡ behind_last next last }
 {
@@ -82,21 +82,21 @@ fn behind_last(next: u64, last: u64) -> u64
     }
 }
 
-/// Whether a message has a number from one up to another.
+/// Returns whether a message has a number from one up to another.
 fn is_within(sent: &Sent, from: u64, to: u64) -> bool
     ensures { result ≡ (nat_le from sent.now.number && nat_lt sent.now.number to) }
 {
     from <= sent.number.get() && sent.number.get() < to
 }
 
-/// Numbers from one up to another.
+/// A range of numbers from one up to another.
 #[derive(Drop)]
 struct Range {
     from: u64,
     to: u64,
 }
 
-/// Appends a message that was kept as `push_again` does, if it is one of those that are asked for.
+/// Appends a kept message as `push_again` does, if it is in the requested range.
 fn push_asked(
     messages: &mut Vec<Outbound>,
     firm: &FirmId,
@@ -115,7 +115,7 @@ fn push_asked(
     }
 }
 
-/// What is sent again for a request. Numbers ascend, so only the messages that are asked for are looked at.
+/// Returns the messages sent again for a request. Numbers ascend, so only the requested messages are looked at.
 pub fn resent(
     alloc: Global,
     firm: &FirmId,

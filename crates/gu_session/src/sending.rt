@@ -1,4 +1,4 @@
-//! What a session gives.
+//! Writing a session's outputs.
 
 ghost use Rattle.std.specs.Prelude.{◌≡◌, ◌+◌, ◌≤◌, ◌∷◌, ◌++◌, [], List, ℕ, length, map, vec_len, vec_capacity, IfOk, OnOk, OnErr};
 ghost use Rattle.gu_msgs.specs.Written.{outbound_of};
@@ -16,7 +16,7 @@ use gu_msgs::{Draft, OutboundRef, Stamp, write_over};
 use gu_terms::Moment;
 use std::alloc::{AllocError, Global};
 
-/// Writes messages, all in the same room for their fields. The moment's text is made once for all messages of a moment.
+/// A writer of messages, which reuses memory for their fields. It makes a moment's text once for all messages at that moment.
 pub struct Pen {
     alloc: Global,
     draft: Draft,
@@ -35,7 +35,7 @@ impl Drop for Pen {
 }
 
 impl Pen {
-    /// A pen without room as yet.
+    /// Returns a pen without capacity.
     pub fn new(alloc: Global) -> Self {
         Pen {
             alloc,
@@ -44,7 +44,7 @@ impl Pen {
         }
     }
 
-    /// Has the text of a moment from now on.
+    /// Uses the text of this moment from now on.
     fn set_moment(&mut self, moment: Moment)
         ensures { self.new.stamp ≡ moment }
     {
@@ -63,7 +63,7 @@ impl Pen {
         encode_onto(output, self.draft.fields())
     }
 
-    /// Appends all messages of a plan that is ready, where the first new one has this number, or the first of them.
+    /// Appends all messages of a prepared plan, given the number of the first new one; if an allocation fails, perhaps only some.
     fn push_all<'a>(
         &mut self,
         output: &mut Vec<u8>,
@@ -82,7 +82,7 @@ impl Pen {
         Ok(())
     }
 
-    /// Appends all messages of a plan that is ready, where the first new one has this number, or nothing.
+    /// Appends all messages of a prepared plan, given the number of the first new one, or nothing.
     pub fn append<'a>(
         &mut self,
         output: &mut Vec<u8>,
@@ -103,7 +103,7 @@ impl Pen {
         pushed
     }
 
-    /// A message as an output.
+    /// Returns a message as an output.
     fn output(&mut self, message: &OutboundRef<'_>) -> Result<Output, AllocError>
         ensures { IfOk result (λ output. AreOutputs (Sends (outbound_of message.now) ∷ []) (output ∷ [])) }
     {
@@ -112,7 +112,7 @@ impl Pen {
         Ok(Output::Send(bytes))
     }
 
-    /// All messages of a plan that is ready as outputs, where the first new one has this number, with room for two outputs more.
+    /// Returns all messages of a prepared plan as outputs, given the number of the first new one, with room for two more outputs.
     pub fn outputs<'a>(
         &mut self,
         plan: &'a Plan<'a>,
@@ -134,7 +134,7 @@ impl Pen {
     }
 }
 
-/// Appends what a step gives besides its messages, in the room that is there.
+/// Appends a step's outputs apart from its messages. There is room for them.
 pub fn push_taken(outputs: &mut Vec<Output>, taken: Taken)
     requires { vec_len outputs.old + 2 ≤ vec_capacity outputs.old }
     ensures { outputs.new.items ≡ (outputs.old.items ++ handed_outputs taken.handed) ++ end_outputs taken.is_closed }
@@ -148,7 +148,7 @@ pub fn push_taken(outputs: &mut Vec<Output>, taken: Taken)
     }
 }
 
-/// The end alone.
+/// Returns the end alone.
 pub fn close(alloc: Global) -> Result<Vec<Output>, AllocError>
     ensures { IfOk result (λ outputs. AreOutputs (Closes ∷ []) outputs.items) }
 {

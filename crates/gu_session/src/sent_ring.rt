@@ -1,4 +1,4 @@
-//! What is kept of what was sent.
+//! The messages kept for resending.
 
 ghost use Rattle.std.specs.Prelude.{◌≡◌, ◌≤◌, [], ◌∷◌, length, slice_get, take, drop, IfOk};
 ghost use Rattle.std.specs.Option.{option_copied, option_to_list};
@@ -18,10 +18,10 @@ use std::alloc::{AllocError, Global};
 use std::marker::Model;
 use std::slice;
 
-/// How many messages are kept.
+/// The most messages kept.
 const MOST_KEPT: usize = 4096;
 
-/// An application message as it was sent first.
+/// An application message as first sent.
 #[derive(Clone, Copy)]
 pub struct Sent {
     pub number: SeqNum,
@@ -29,7 +29,7 @@ pub struct Sent {
     pub message: Application,
 }
 
-/// The last messages that were sent, with room for 4,096 of them or for none.
+/// The last messages sent, with room for 4,096 of them or for none.
 pub struct SentRing {
     ring: Option<HeapCircularBuffer<Sent>>,
 }
@@ -53,14 +53,14 @@ impl Model for SentRing {
 }
 
 impl SentRing {
-    /// Room for none.
+    /// Returns an empty ring without room.
     pub fn new() -> Self
         ensures { result ≡ buffer [] 0 }
     {
         SentRing { ring: None }
     }
 
-    /// Room for all that are to be kept, and none as yet.
+    /// Returns an empty ring with room for all messages to keep.
     pub fn with_room(alloc: Global) -> Result<Self, AllocError>
         ensures { IfOk result (λ kept. kept ≡ buffer [] 4096) }
     {
@@ -68,7 +68,7 @@ impl SentRing {
         Ok(SentRing { ring: Some(ring) })
     }
 
-    /// How many there are.
+    /// Returns the number of messages.
     pub fn len(&self) -> usize
         ensures { result ≡ length self.now.items }
     {
@@ -78,7 +78,7 @@ impl SentRing {
         }
     }
 
-    /// The message at a place, the oldest at 0.
+    /// Returns the message at an index, the oldest at 0.
     pub fn get(&self, place: usize) -> Option<&Sent>
         ensures { option_copied result ≡ slice_get self.now.items place }
     {
@@ -88,7 +88,7 @@ impl SentRing {
         }
     }
 
-    /// How many messages have a number below this one. Numbers ascend.
+    /// Returns the number of messages numbered below this one. Numbers ascend.
     pub fn place_of(&self, number: u64) -> usize
         requires { IsAscending self.now.items }
         ensures below { AreBelow number (take result self.now.items) }
@@ -106,7 +106,7 @@ impl SentRing {
         low
     }
 
-    /// Keeps a message after the others. Where there is no room the first of them goes.
+    /// Keeps a message after the others. If there is no room, the oldest is dropped.
     fn push(&mut self, sent: &Sent)
         ensures { self.new ≡ extended self.old (sent.now ∷ []) }
     {
@@ -115,7 +115,7 @@ impl SentRing {
         }
     }
 
-    /// Keeps what is to be kept of a message that is sent.
+    /// Keeps a message that is sent, if it is an application message.
     pub fn keep(&mut self, message: &OutboundRef<'_>)
         requires number { IsSeqNum message.now.msg_seq_num }
         requires few { length self.old.items ≤ self.old.capacity }
@@ -127,7 +127,7 @@ impl SentRing {
     }
 }
 
-/// A message as it is kept.
+/// Returns the form in which a message is kept, if it is an application message.
 fn sent_in(message: &OutboundRef<'_>) -> Option<Sent>
     requires { IsSeqNum message.now.msg_seq_num }
     ensures { result ≡ sent_in (outbound_of message.now) }

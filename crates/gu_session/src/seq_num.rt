@@ -1,14 +1,14 @@
-//! The numbers of messages.
+//! Message sequence numbers.
 
 ghost use Rattle.std.specs.Prelude.{◌≡◌, ◌↔◌, IsSome, IfSome};
 ghost use Rattle.gu_session.specs.SeqNums.{IsSeqNum};
 
 use std::marker::Model;
 
-/// The greatest number of a message.
+/// The greatest message number.
 pub const GREATEST: u64 = 1_000_000_000;
 
-/// The number of a message (FIX: MsgSeqNum, tag 34): 1 to 1,000,000,000. To a contract it is the number.
+/// A message number (FIX: MsgSeqNum, tag 34): 1 to 1,000,000,000. To a contract it is the number.
 #[derive(Clone, Copy, Debug, PartialEq, Eq)]
 pub struct SeqNum {
     number: u64,
@@ -28,7 +28,7 @@ impl Model for SeqNum {
 }
 
 impl SeqNum {
-    /// The number of a message with this number.
+    /// Returns the message number with this value.
     pub fn new(number: u64) -> Option<Self>
         ensures sound { IsSome result ↔ IsSeqNum number }
         ensures same { IfSome result (λ it. it ≡ number) }
@@ -40,7 +40,7 @@ impl SeqNum {
         }
     }
 
-    /// The number.
+    /// Returns the number.
     pub fn get(self) -> u64
         ensures number { result ≡ self }
         ensures sound { IsSeqNum self }

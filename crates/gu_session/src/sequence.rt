@@ -1,4 +1,4 @@
-//! Frames by their numbers.
+//! Frames by number: expected, too high or too low.
 
 ghost use Rattle.std.specs.Prelude.{◌≡◌, ◌+◌, codes, IfOk};
 ghost use Rattle.gu_session.specs.FrameRules.{again_in, by_number, frame_plan, on_number, on_reset, reject, reset_to, too_high, too_low};
@@ -16,7 +16,7 @@ use gu_msgs::outbound::Body;
 use gu_msgs::{Fault, Inbound, LogoutReason, NEW_SEQ_NO, SessionRejectReason, TypeCode};
 use std::alloc::{AllocError, Global};
 
-/// Whether this is the type of a Logout.
+/// Returns whether the type is Logout.
 fn is_logout(msg_type: &Option<TypeCode>) -> bool
     ensures { result ≡ is_given (codes "5") msg_type.now }
 {
@@ -26,7 +26,7 @@ fn is_logout(msg_type: &Option<TypeCode>) -> bool
     }
 }
 
-/// The number that a reset sets.
+/// Returns the number in a reset that is no gap fill.
 fn reset_to(content: &Result<Inbound, Fault>) -> Option<u64>
     ensures { result ≡ reset_to content.now }
 {
@@ -36,7 +36,7 @@ fn reset_to(content: &Result<Inbound, Fault>) -> Option<u64>
     }
 }
 
-/// What a ResendRequest asks for.
+/// Returns the ResendRequest in a message, if it is one.
 fn again_in(content: &Result<Inbound, Fault>) -> Option<ResendRequest>
     ensures { result ≡ again_in content.now }
 {
@@ -46,7 +46,7 @@ fn again_in(content: &Result<Inbound, Fault>) -> Option<ResendRequest>
     }
 }
 
-/// A reset to a number.
+/// Returns the plan for a reset to a number.
 fn on_reset(
     alloc: Global,
     at: &LoggedOn,
@@ -67,7 +67,7 @@ fn on_reset(
     Plan::says(alloc, at, reject(heading, number, NEW_SEQ_NO, reason))
 }
 
-/// Messages are missing before this frame.
+/// Returns the plan for a frame before which messages are missing.
 fn too_high(alloc: Global, at: &LoggedOn, heard: &Heard) -> Result<Plan<'static>, AllocError>
     ensures { IfOk result (λ plan. plan ≡ too_high at.now heard.now) }
 {
@@ -78,7 +78,7 @@ fn too_high(alloc: Global, at: &LoggedOn, heard: &Heard) -> Result<Plan<'static>
     Ok(Plan::repeats(at, again_in(&heard.content), messages))
 }
 
-/// The number was used already.
+/// Returns the plan for a frame whose number was already used.
 fn too_low(alloc: Global, at: &LoggedOn, heading: &Heading) -> Result<Plan<'static>, AllocError>
     ensures { IfOk result (λ plan. plan ≡ too_low at.now heading.now) }
 {
@@ -88,7 +88,7 @@ fn too_low(alloc: Global, at: &LoggedOn, heading: &Heading) -> Result<Plan<'stat
     Plan::leaves_with(alloc, at, Body::Logout(Some(LogoutReason::SeqTooLow)))
 }
 
-/// A frame that is no reset.
+/// Returns the plan for a frame that isn't a reset.
 fn by_number(
     alloc: Global,
     at: &LoggedOn,
@@ -111,7 +111,7 @@ fn by_number(
     as_expected(alloc, &after, heard, number)
 }
 
-/// A frame with a number.
+/// Returns the plan for a frame with a number.
 fn on_number(
     alloc: Global,
     at: &LoggedOn,
@@ -126,7 +126,7 @@ fn on_number(
     }
 }
 
-/// What is done on a frame.
+/// Returns the plan for a frame.
 pub fn frame_plan(alloc: Global, at: &LoggedOn, heard: Heard) -> Result<Plan<'static>, AllocError>
     ensures { IfOk result (λ plan. plan ≡ frame_plan at.now heard) }
 {

@@ -27,7 +27,7 @@ use gu_terms::{FirmId, Moment, Notice};
 use std::alloc::{AllocError, Global};
 use std::marker::Model;
 
-/// The session of a firm with the house. To a contract it is its state.
+/// A firm's session with the house. To a contract it is its state.
 pub struct Session {
     alloc: Global,
     state: State,
@@ -59,7 +59,7 @@ impl Model for Session {
 }
 
 impl Session {
-    /// A session in which one of these firms may log on.
+    /// Returns a session in which one of these firms may log on.
     pub fn new(alloc: Global, firms: Vec<FirmId>) -> Self
         ensures { result ≡ new_session firms.items }
     {
@@ -70,7 +70,7 @@ impl Session {
         }
     }
 
-    /// The firm that logged on.
+    /// Returns the firm that logged on.
     pub fn firm(&self) -> Option<FirmId>
         ensures { result ≡ option_map (λ (at : LoggedOnOf). at.firm) self.now.at }
     {
@@ -80,8 +80,7 @@ impl Session {
         }
     }
 
-    /// Returns the MsgSeqNum (34) that the firm's next message is to have, which is 1 before its Logon, and that of the next message to
-    /// send.
+    /// Returns the expected MsgSeqNum (34) of the firm's next message (1 before its Logon), and that of the next message to send.
     pub fn numbers(&self) -> (u64, u64)
         ensures expected { result.0 ≡ expected_of self.now }
         ensures next { result.1 ≡ self.now.next }
@@ -92,8 +91,8 @@ impl Session {
         }
     }
 
-    /// Returns the next moment at which a tick does something, as long as nothing else comes; or None if it never does: nobody is logged
-    /// on, the session is closed, or there are no heartbeats.
+    /// Returns the next moment at which a tick does something if no other input comes first, or None if it never does: nobody is logged on,
+    /// the session is closed, or there are no heartbeats.
     pub fn due_at(&self) -> Option<Moment>
         ensures rests { RestsUntil self.now result }
         ensures acts { ActsAt self.now result }
@@ -108,7 +107,7 @@ impl Session {
         }
     }
 
-    /// Ends, and lists that.
+    /// Ends the session, and returns that output.
     fn leave(&mut self) -> Result<Vec<Output>, AllocError>
         ensures given { IfOk result (λ outputs. AreOutputs (Closes ∷ []) outputs.items) }
         ensures closed { OnOk result (self.new ≡ closed self.old) }
@@ -119,7 +118,7 @@ impl Session {
         Ok(outputs)
     }
 
-    /// Carries out a plan, and lists what is given.
+    /// Carries out a plan, and returns its outputs.
     fn give(&mut self, plan: Plan<'_>, now: Moment) -> Result<Vec<Output>, AllocError>
         ensures done { IfOk result (λ outputs. Follows self.old (Go plan.entry) now outputs.items self.new) }
         ensures refused { OnErr result (self.new ≡ self.old) }
@@ -134,7 +133,7 @@ impl Session {
         Ok(outputs)
     }
 
-    /// Does what is to be done, and lists what is given.
+    /// Carries out a course, and returns its outputs.
     fn perform(&mut self, course: Course<'_>, now: Moment) -> Result<Vec<Output>, AllocError>
         ensures done { IfOk result (λ outputs. Follows self.old course.entry now outputs.items self.new) }
         ensures refused { OnErr result (self.new ≡ self.old) }
@@ -146,7 +145,7 @@ impl Session {
         }
     }
 
-    /// Takes an input at a moment. Where an allocation fails the session stays as it was.
+    /// Takes an input at a moment, and returns the outputs. If an allocation fails, the session is unchanged.
     pub fn step(&mut self, input: Input, now: Moment) -> Result<Vec<Output>, AllocError>
         ensures steps { IfOk result (λ outputs. StepsWith self.old input now outputs.items self.new) }
         ensures refused { OnErr result (self.new ≡ self.old) }
@@ -182,7 +181,7 @@ impl Session {
         }
     }
 
-    /// Carries out a plan, and appends the bytes that are sent.
+    /// Carries out a plan, and appends the bytes to send.
     fn carry_out(
         &mut self,
         plan: Plan<'_>,
@@ -203,7 +202,7 @@ impl Session {
         Ok(self.state.commit(plan, ready, now))
     }
 
-    /// Does what is to be done, and appends the bytes that are sent.
+    /// Carries out a course, and appends the bytes to send.
     fn follow(
         &mut self,
         course: Course<'_>,
@@ -221,8 +220,8 @@ impl Session {
         }
     }
 
-    /// Takes a frame at a moment as `step` does, and appends the bytes that are sent. Where an allocation fails the session and the
-    /// output stay as they were.
+    /// Takes a frame at a moment as `step` does, and appends the bytes to send. If an allocation fails, the session and the output are
+    /// unchanged.
     pub fn frame_onto(
         &mut self,
         frame: Frame,
@@ -261,7 +260,7 @@ impl Session {
         self.follow(course, now, output)
     }
 
-    /// Takes the answer to what was handed out with this reference in the same way.
+    /// Takes the answer to the request with this reference in the same way.
     pub fn answer_onto(
         &mut self,
         reference: AskRef,
@@ -281,7 +280,7 @@ impl Session {
         self.follow(course, now, output)
     }
 
-    /// Takes it that time passes in the same way.
+    /// Takes a tick in the same way.
     pub fn tick_onto(&mut self, now: Moment, output: &mut Vec<u8>) -> Result<Taken, AllocError>
         ensures steps { IfOk result (λ taken. StepsOnto self.old Input.Tick now output.old.items output.new.items taken self.new) }
         ensures refused { OnErr result (self.new ≡ self.old) }
@@ -295,7 +294,7 @@ impl Session {
         self.follow(course, now, output)
     }
 
-    /// Takes it that the house closes in the same way: a firm that is logged on is sent a Logout, and that is the end.
+    /// Takes the closing of the house in the same way: a firm that is logged on is sent a Logout, and the session ends.
     pub fn close_onto(&mut self, now: Moment, output: &mut Vec<u8>) -> Result<Taken, AllocError>
         ensures steps { IfOk result (λ taken. StepsOnto self.old Input.Close now output.old.items output.new.items taken self.new) }
         ensures refused { OnErr result (self.new ≡ self.old) }
@@ -309,7 +308,7 @@ impl Session {
         self.follow(course, now, output)
     }
 
-    /// Takes it that nothing more comes, whatever the moment. Nothing is sent.
+    /// Takes the end of the input, at any moment. Nothing is sent.
     pub fn end(&mut self) -> Taken
         ensures { (now : ℕ) (text : List ℕ) → StepsOnto self.old Input.End now text text result self.new }
     {

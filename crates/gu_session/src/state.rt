@@ -1,4 +1,4 @@
-//! What a session is between its inputs.
+//! The state of a session between its inputs.
 
 ghost use Rattle.std.specs.Prelude.{◌≡◌, ◌<◌, [], true, false, None, vec_len, vec_capacity, IfOk};
 ghost use Rattle.gu_session.specs.Given.{asked_in};
@@ -15,7 +15,7 @@ use crate::sent_ring::SentRing;
 use gu_terms::{FirmId, Moment};
 use std::alloc::{AllocError, Global};
 
-/// What a session is between its inputs.
+/// The state of a session between its inputs.
 pub struct State {
     pub firms: Vec<FirmId>,
     pub at: Option<LoggedOn>,
@@ -43,14 +43,14 @@ impl Drop for State {
     }
 }
 
-/// The beginning of time.
+/// Returns the first moment.
 pub fn beginning() -> Moment
     ensures { result ≡ 0 }
 {
     Moment::new(0).unwrap()
 }
 
-/// What is asked of the house.
+/// Returns the request to the house, if there is one.
 fn asked_in(handed: Option<Handed>) -> Option<Asked>
     ensures { result ≡ asked_in handed }
 {
@@ -58,7 +58,7 @@ fn asked_in(handed: Option<Handed>) -> Option<Asked>
 }
 
 impl State {
-    /// Before the first input, where one of these firms may log on.
+    /// Returns the state before the first input; one of these firms may log on.
     pub fn new(alloc: Global, firms: Vec<FirmId>) -> Self
         ensures seen { seen result ≡ new_session firms.items }
         ensures sound { IsSoundState result }
@@ -74,7 +74,7 @@ impl State {
         }
     }
 
-    /// All that takes memory to carry out a plan for which numbers suffice.
+    /// Returns everything that allocates in carrying out a plan whose numbers suffice.
     pub fn make_ready(
         &self,
         alloc: Global,
@@ -91,7 +91,7 @@ impl State {
         Ok(Ready { again, room })
     }
 
-    /// The session ends.
+    /// Ends the session.
     pub fn close(&mut self) -> Taken
         ensures closed { seen self.new ≡ closed (seen self.old) }
         ensures sound { IsSoundState self.old → IsSoundState self.new }
@@ -102,7 +102,7 @@ impl State {
         Taken::end()
     }
 
-    /// A plan that is ready is carried out. This takes no memory.
+    /// Carries out a prepared plan. It allocates nothing.
     pub fn commit(&mut self, plan: Plan<'_>, ready: Ready, now: Moment) -> Taken
         requires ready { IsReady (seen self.old) now plan ready }
         requires place { vec_len self.old.waiting < vec_capacity self.old.waiting }

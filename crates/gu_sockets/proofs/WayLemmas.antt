@@ -1,4 +1,4 @@
--- Ways of firms of which one door is another than before, at the same listener.
+-- Ways of firms of which one door has changed, at the same listener.
 use Rattle.std.proofs.Common.{◌≡◌, ◌<◌, ℕ, Bool, true, false, not, nat_eq, List, [], ◌∷◌, Option, Some, None, Result, Ok, Err, IfOk, IfSome, IsSomeAnd, OnErr, map, length, get_or, ap, refl, sym, subst, ◌∙◌, ◌||◌, set, arith, slice_get, All}
 use Rattle.std.specs.Prelude.{slice_set}
 use Rattle.std.specs.List.{list_any}
@@ -68,7 +68,7 @@ came_before {P} {D} at_port at_door old new (ByPort one) kept came =
 came_before {P} {D} at_port at_door old new (ByDoor number one) kept came =
     subst (λ (listeners : List D). IsSomeAnd (slice_get listeners number) (λ l. at_door l one)) kept.doors came
 
--- the same of a result
+-- the same for a result
 pub who_came_before : {P D A B E : Type 0} (at_port : P → A → Type 0) (at_door : D → B → Type 0) (old new : FirmWays P D)
     (result : Result (Option (Arrival A B)) E) → KeepsListeners old new → IfOk result (λ who. IfSome who (CameIn at_port at_door new))
     → IfOk result (λ who. IfSome who (CameIn at_port at_door old))
@@ -81,7 +81,7 @@ pub after_failure : {T E : Type 0} (result : Result T E) (P : Type 0) → P → 
 after_failure (Ok value) P holds = tt
 after_failure (Err error) P holds = holds
 
--- where each is due as long as it is there, one is due as long as one is there
+-- if each door that is there is due, one is due as long as one is there
 pub open_is_due : {P D : Type 0} (port : Option (Door P)) (doors : List (Door D)) → is_door_due port ≡ is_there port
     → All (λ (door : Door D). door.is_due ≡ true) doors → (is_there port || not (nat_eq (length doors) 0)) ≡ true
     → (is_door_due port || list_any (λ (door : Door D). door.is_due) doors) ≡ true
@@ -89,7 +89,7 @@ open_is_due port [] same all is_open = ap (λ (one : Bool). one || false) same �
 open_is_due {P} {D} port (door ∷ doors) same all is_open =
     second_holds (is_door_due port) _ (first_holds door.is_due _ (All-head (λ (one : Door D). one.is_due ≡ true) door doors all))
 
--- the same of ways that were made so
+-- the same for new ways
 pub new_is_due : {P D : Type 0} (ways : FirmWays P D) (port : Option (Door P)) (doors : List (Door D)) → ways.port ≡ port → ways.doors.items ≡ doors
     → is_door_due port ≡ is_there port → All (λ (door : Door D). door.is_due ≡ true) doors → is_open ways ≡ true → is_way_due ways ≡ true
 new_is_due {P} {D} ways port doors is_port are_doors same all is_open =

@@ -4,7 +4,8 @@ use Rattle.mio.specs.Event.{event_token, is_error, is_read_closed, is_readable, 
 use Rattle.mio.specs.declared.event.event.Event.{Event}
 use Rattle.gu_talks.specs.declared.poller.Ready.{Ready}
 
--- that the connection at the place of its token is ready, and for what; one that failed is ending. The greatest token is the bell's, and says nothing of any
+-- an event says that the connection at the place of its token is ready, and for what; a failed connection is ending. The greatest token
+-- belongs to the bell
 abbrev pub readiness_of : Event → Option Ready
 readiness_of event =
     let place = (event_token event).0 in

@@ -12,7 +12,7 @@ use mio::net::{TcpStream, UnixStream};
 pub struct Caller {
     /// Its connection.
     pub stream: SocketStream,
-    /// The port of its peer, or 0 where it came in by a door.
+    /// The port of its peer, or 0 if it came in by a door.
     pub port: u16,
     /// The number of the door by which it came in, from 0 on, if it came in by one.
     pub door: Option<usize>,

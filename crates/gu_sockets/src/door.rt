@@ -8,7 +8,7 @@ use std::io;
 use std::io::ErrorKind;
 use std::os::unix::net::{UnixListener, UnixStream};
 
-/// How often an accept is made again at most that a signal cut short, or whose peer had gone.
+/// How often an accept is repeated at most after a signal, or if its peer has gone.
 const MOST_REPEATS: u32 = 1_000;
 
 /// A listener that doesn't wait.
@@ -20,7 +20,7 @@ pub trait Listens {
     /// connection is never taken for one that another listener accepted.
     ghost accepts: { Self → Self.Accepted → Type 0 };
 
-    /// Accepts a connection. Where none is waiting its error is of the kind `WouldBlock`.
+    /// Accepts a connection. If none is waiting, its error is of the kind `WouldBlock`.
     fn accept_once(&self) -> io::Result<Self::Accepted>
         ensures { IfOk result (accepts self.now) };
 }
@@ -66,7 +66,7 @@ impl Listens for net::UnixListener {
     }
 }
 
-/// Accepts a connection, again where a signal cut it short or the peer had gone.
+/// Accepts a connection; tries again after a signal, or if the peer has gone.
 fn accept_past_signals<L: Listens>(listener: &L) -> io::Result<L::Accepted>
     ensures { IfOk result (L.accepts listener.now) }
 {

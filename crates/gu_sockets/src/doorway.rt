@@ -1,4 +1,4 @@
-//! Where connections come in: the port, and the sockets of operators.
+//! The ways in for connections: the port, and the sockets of operators.
 
 ghost use Rattle.std.specs.Prelude.{◌≡◌, true, false, is_some, None, Ok, IfOk, IfSome, OnErr, All, length};
 ghost use Rattle.gu_sockets.specs.Callers.{HasDoor};
@@ -44,7 +44,7 @@ pub enum OperatorDoor {
     Watch,
 }
 
-/// Where connections come in, and what the thread waits on that accepts them.
+/// The ways in for connections, and what the accepting thread waits on.
 #[derive(Drop)]
 pub struct Doorway {
     poll: Poll,

@@ -6,7 +6,7 @@ ghost use Rattle.gu_sockets.specs.Doorways.{CameIn, KeepsListeners, is_open, is_
 use crate::door::{Door, Listens};
 use std::io;
 
-/// Who came in, by which way.
+/// A connection, with the way by which it came in.
 #[derive(Drop)]
 pub enum Arrival<P, D> {
     /// One by the port.
@@ -87,7 +87,7 @@ impl<P: Drop, D: Drop> FirmWays<P, D> {
 }
 
 impl<P: Listens, D: Listens> FirmWays<P, D> {
-    /// Accepts who waits at the port, if it is open.
+    /// Accepts a connection at the port, if it is open.
     fn accept_at_port(&mut self) -> io::Result<Option<Arrival<P::Accepted, D::Accepted>>>
         ensures listeners { KeepsListeners self.old self.new }
         ensures came { IfOk result (λ who. IfSome who (CameIn P.accepts D.accepts self.old)) }
@@ -102,7 +102,7 @@ impl<P: Listens, D: Listens> FirmWays<P, D> {
         }
     }
 
-    /// Accepts who waits at the door of this number.
+    /// Accepts a connection at the door with this number.
     fn accept_at_door(
         &mut self,
         number: usize,
@@ -118,7 +118,7 @@ impl<P: Listens, D: Listens> FirmWays<P, D> {
         }
     }
 
-    /// Accepts who waits at the door of this number, or where there is none, at the port.
+    /// Accepts a connection at the door with this number, or at the port if there is no such door.
     fn accept_at(&mut self, place: usize) -> io::Result<Option<Arrival<P::Accepted, D::Accepted>>>
         ensures listeners { KeepsListeners self.old self.new }
         ensures came { IfOk result (λ who. IfSome who (CameIn P.accepts D.accepts self.old)) }
@@ -131,7 +131,7 @@ impl<P: Listens, D: Listens> FirmWays<P, D> {
         }
     }
 
-    /// Accepts who waits first at one of these places. The next in turn is the one after it.
+    /// Accepts a connection at the first of these places at which one waits. The next turn begins after that place.
     fn accept_among(
         &mut self,
         from: usize,

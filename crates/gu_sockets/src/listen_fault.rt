@@ -9,7 +9,7 @@ pub enum ListenFault {
     /// A living desk answers there.
     #[error("InUse")]
     InUse,
-    /// What stands there is no socket. It is left as it is.
+    /// A file that isn't a socket is there, and is left as it is.
     #[error("NotASocket")]
     NotASocket,
     /// The system refuses it.

@@ -23,7 +23,7 @@ pub fn listen_at<R: Files + Net>(rt: &R, path: &str) -> Result<UnixListener, Lis
     Ok(listener)
 }
 
-/// Sees that nothing stands at a path, or removes the socket there that nobody answers any more.
+/// Clears a path: removes a socket there that nobody answers any more.
 fn clear<R: Files + Net>(rt: &R, path: &str) -> Result<(), ListenFault> {
     match fs::symlink_metadata(rt, path) {
         Ok(found) if found.file_type().is_socket() => remove_dead(rt, path),
@@ -53,7 +53,7 @@ fn remove<R: Files>(rt: &R, path: &str) -> Result<(), ListenFault> {
     }
 }
 
-/// Returns the error, unless it says that nothing stands at the path.
+/// Returns the error, unless it says that nothing is at the path.
 fn unless_absent(error: io::Error) -> io::Result<()> {
     if error.kind() == ErrorKind::NotFound {
         return Ok(());
@@ -61,7 +61,7 @@ fn unless_absent(error: io::Error) -> io::Result<()> {
     Err(error)
 }
 
-/// Makes a socket at a path where nothing stands, which listens.
+/// Makes a listening socket at a path at which there is nothing.
 fn bind<R: Files + Net>(rt: &R, path: &str) -> Result<UnixListener, ListenFault> {
     match UnixListener::bind(rt, path) {
         Ok(listener) => Ok(listener),

@@ -18,7 +18,7 @@ pub enum SocketStream {
 }
 
 impl SocketStream {
-    /// Has what is written sent at once. At a door it always is.
+    /// Makes the system send each write at once, which it always does at a door.
     pub(crate) fn set_nodelay(&self) -> io::Result<()> {
         match self {
             SocketStream::Tcp(stream) => stream.set_nodelay(true),
@@ -26,7 +26,7 @@ impl SocketStream {
         }
     }
 
-    /// Has a poll say under a token when it becomes ready for one of these.
+    /// Registers it with a poll, which then reports under a token when it is ready for one of these.
     pub(crate) fn register(
         &mut self,
         registry: &Registry,
@@ -71,7 +71,7 @@ impl SocketStream {
         }
     }
 
-    /// Tells the peer that nothing more is written.
+    /// Shows the peer that nothing more is written.
     pub(crate) fn end_writing(&self) {
         let _ = match self {
             SocketStream::Tcp(stream) => stream.shutdown(Shutdown::Write),

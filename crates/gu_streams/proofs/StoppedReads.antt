@@ -6,7 +6,7 @@ use Rattle.std.proofs.Math.Bool.{or-true}
 use Rattle.gu_streams.specs.declared.counted_reads.CountedReads.{CountedReads}
 use Rattle.gu_streams.specs.Reads.{reads_left, has_failed, is_spent, HasStopped}
 
--- either the reader failed, or there was no read left, and there is none afterwards
+-- either the reader failed, or no reads were left, and none are afterwards
 pub an_error_stops : {R T E : Type 0} (old new : CountedReads R) (read : Result T E) → is_err read ≡ true
     → reads_left new ≡ reads_left old - 1 → has_failed new ≡ (has_failed old || is_err read && not (is_spent old)) → HasStopped new
 an_error_stops old new read error counted failed = at (is_spent old) refl

@@ -1,4 +1,4 @@
--- Counted reads: what a reader has left, of bytes and of reads, and whether one of its reads failed.
+-- Counted reads: the bytes and the reads that a reader has left, and whether one of its reads failed.
 use Rattle.std.specs.Prelude.{◌≡◌, ◌≢◌, ◌<◌, ◌≤◌, ◌⊎◌, ℕ, ◌+◌, ◌-◌, ◌==◌, ◌||◌, Bool, true, not, List, [], Option, length, take}
 use Rattle.std.specs.Io.Buffered.{reader_buffer, reader_inner, reader_remaining}
 use Rattle.std.specs.Io.KnownBytes.{Consumes, IsAtEnd, Keeps}
@@ -13,7 +13,7 @@ abbrev pub reader_in : {R : Type 0} → Source R → R
 reader_in (Direct reader) = reader
 reader_in (Ahead reader) = reader_inner reader
 
--- the bytes that a source has left: those that were read ahead, and then those of its reader, where they are known
+-- the bytes that a source has left, if they are known: those read ahead, then those of its reader
 abbrev pub left_in : {R : Type 0} → (R → Option (List ℕ)) → Source R → Option (List ℕ)
 left_in remaining (Direct reader) = remaining reader
 left_in remaining (Ahead reader) = reader_remaining remaining reader
@@ -23,7 +23,7 @@ abbrev pub HasAhead : {R : Type 0} → Source R → Type 0
 HasAhead (Direct reader) = ⊥
 HasAhead (Ahead reader) = reader_buffer reader ≢ []
 
--- where the reads come from
+-- the source of the reads
 abbrev pub source_of : {R : Type 0} → CountedReads R → Source R
 source_of reads = reads.source
 
@@ -31,15 +31,15 @@ source_of reads = reads.source
 abbrev pub reader_under : {R : Type 0} → CountedReads R → R
 reader_under reads = reader_in reads.source
 
--- the bytes that it has left, where they are known
+-- the bytes left, if they are known
 abbrev pub bytes_left : {R : Type 0} → (R → Option (List ℕ)) → CountedReads R → Option (List ℕ)
 bytes_left remaining reads = left_in remaining reads.source
 
--- how many reads are left
+-- the number of reads left
 abbrev pub reads_left : {R : Type 0} → CountedReads R → ℕ
 reads_left reads = reads.left
 
--- no read is left
+-- no reads are left
 abbrev pub is_spent : {R : Type 0} → CountedReads R → Bool
 is_spent reads = reads_left reads == 0
 
@@ -47,11 +47,11 @@ is_spent reads = reads_left reads == 0
 abbrev pub IsAhead : {R : Type 0} → CountedReads R → Type 0
 IsAhead reads = (0 < reads_left reads) × HasAhead reads.source
 
--- the reader answered an error in one of its reads
+-- the reader returned an error from one of its reads
 abbrev pub has_failed : {R : Type 0} → CountedReads R → Bool
 has_failed reads = reads.failed
 
--- reading has stopped: the reader failed, or no read of it is left
+-- reading has stopped: the reader failed, or no reads are left
 abbrev pub HasStopped : {R : Type 0} → CountedReads R → Type 0
 HasStopped reads = (has_failed reads ≡ true) ⊎ (is_spent reads ≡ true)
 
@@ -59,7 +59,7 @@ HasStopped reads = (has_failed reads ≡ true) ⊎ (is_spent reads ≡ true)
 abbrev pub waits_left : {R : Type 0} → CountedReads R → ℕ
 waits_left reads = reads.waits
 
--- a turn brought this many bytes: none at the end of the input alone
+-- a turn brought this many bytes; 0, with a buffer that isn't empty, only at the end of the input
 pub record Took {R : Type 0} (remaining : R → Option (List ℕ)) (old new : CountedReads R) (buffer : List ℕ) (count : ℕ) : Type 0 where
   pub within : count ≤ length buffer
   pub short : count ≤ 4096
@@ -69,14 +69,14 @@ pub record Took {R : Type 0} (remaining : R → Option (List ℕ)) (old new : Co
   pub waits : waits_left new ≡ waits_left old
   pub failed : has_failed new ≡ has_failed old
 
--- a turn brought nothing: no read is counted, and none failed
+-- a turn brought nothing for now: no read is counted, and none failed
 pub record Waited {R : Type 0} (remaining : R → Option (List ℕ)) (old new : CountedReads R) : Type 0 where
   pub kept : Keeps (bytes_left remaining old) (bytes_left remaining new)
   pub counted : reads_left new ≡ reads_left old
   pub waits : waits_left new + 1 ≡ waits_left old
   pub failed : has_failed new ≡ has_failed old
 
--- a turn brought nothing more: no read was left and nothing changed, or the one that was made failed
+-- a turn brought nothing more: no reads were left and nothing changed, or the read failed
 pub record Stopped {R : Type 0} (remaining : R → Option (List ℕ)) (old new : CountedReads R) : Type 0 where
   pub kept : Keeps (bytes_left remaining old) (bytes_left remaining new)
   pub counted : reads_left new ≡ reads_left old - 1
@@ -84,7 +84,7 @@ pub record Stopped {R : Type 0} (remaining : R → Option (List ℕ)) (old new :
   pub failed : has_failed new ≡ (has_failed old || not (is_spent old))
   pub stopped : HasStopped new
 
--- what a turn brought
+-- the result of a turn
 abbrev pub IsTurn : {R : Type 0} → (R → Option (List ℕ)) → CountedReads R → CountedReads R → List ℕ → Turn → Type 0
 IsTurn remaining old new buffer (turn.Bytes count) = Took remaining old new buffer count
 IsTurn remaining old new buffer turn.Nothing = Waited remaining old new

@@ -11,19 +11,19 @@ use std::alloc::{AllocError, Global};
 use std::io;
 use std::io::{BufReader, ErrorKind, Read};
 
-/// How many bytes are asked for at once at most.
+/// The most bytes requested in one read.
 pub const LONGEST_READ: usize = 4_096;
 
-/// How many bytes are read at once at most where more is read than is asked for.
+/// The most bytes read at once when reading ahead.
 const MOST_AHEAD: usize = 16_384;
 
-/// How many reads there are at most.
+/// The most reads.
 pub const MOST_READS: u32 = 1_000_000;
 
-/// A reader, how many reads of it are left, how often it may have nothing for now, and whether one of its reads failed.
+/// A reader, the number of reads left, how often it may have nothing for now, and whether one of its reads failed.
 ///
-/// Pass it by reference where it is to be asked afterwards: `&mut CountedReads<R>` is a reader too. It takes its reader by value, and gives
-/// it back by `into_reader`.
+/// Pass it by reference to query it afterwards: `&mut CountedReads<R>` is a reader too. It takes its reader by value, and returns it with
+/// `into_reader`.
 #[derive(Drop)]
 pub struct CountedReads<R> {
     source: Source<R>,
@@ -33,14 +33,14 @@ pub struct CountedReads<R> {
     ghost within: { left ≤ 1000000 },
 }
 
-/// How many bytes are asked for where there is room for this many.
+/// Returns the number of bytes requested, given the room for them.
 fn asked(room: usize) -> usize
     ensures { result ≡ min room 4096 }
 {
     room.min(LONGEST_READ)
 }
 
-/// Whether an error of a reader means that it has nothing for now.
+/// Returns whether an error of a reader means that it has nothing for now.
 fn is_wait(error: &io::Error) -> bool {
     matches!(error.kind(), ErrorKind::WouldBlock | ErrorKind::TimedOut)
 }
@@ -48,7 +48,7 @@ fn is_wait(error: &io::Error) -> bool {
 impl<R> CountedReads<R> {
     ghost use Rattle.gu_streams.specs.Reads.{has_failed, is_spent, reads_left, source_of, waits_left};
 
-    /// A reader of which all reads are left. Each error of it is a failure.
+    /// Returns a reader with all reads left. Every error is a failure.
     pub fn new(reader: R) -> Self
         ensures source { source_of result ≡ Source.Direct reader }
         ensures left { reads_left result ≡ 1000000 }
@@ -63,8 +63,8 @@ impl<R> CountedReads<R> {
         }
     }
 
-    /// A reader of which all reads are left, and which may have nothing for now: an error of the kind `WouldBlock` or `TimedOut`
-    /// is no failure where it is asked by `turn`.
+    /// Returns a reader with all reads left that may have nothing for now: an error of kind `WouldBlock` or `TimedOut` is not a failure
+    /// when it is read with `turn`.
     pub fn patient(reader: R) -> Self
         ensures source { source_of result ≡ Source.Direct reader }
         ensures left { reads_left result ≡ 1000000 }
@@ -79,14 +79,14 @@ impl<R> CountedReads<R> {
         }
     }
 
-    /// Whether the reader answered an error in one of its reads.
+    /// Returns whether the reader returned an error from one of its reads.
     pub fn has_failed(&self) -> bool
         ensures { result ≡ has_failed self.now }
     {
         self.failed
     }
 
-    /// Whether no read is left.
+    /// Returns whether no reads are left.
     pub fn is_spent(&self) -> bool
         ensures { result ≡ is_spent self.now }
     {
@@ -95,8 +95,8 @@ impl<R> CountedReads<R> {
 }
 
 impl<R: Read> CountedReads<R> {
-    /// Returns a patient reader of which up to 16,384 bytes are read at once, where they have come. Its reads are those that are asked for:
-    /// of at most 4,096 bytes each.
+    /// Returns a patient reader that reads up to 16,384 bytes ahead if they have arrived. Only requested reads are counted, of at most
+    /// 4,096 bytes each.
     pub fn reading_ahead(alloc: Global, reader: R) -> Result<Self, AllocError>
     where
         R: Drop,
@@ -117,7 +117,7 @@ impl<R: Read> CountedReads<R> {
         }
     }
 
-    /// Returns the reader. What was read ahead is lost.
+    /// Returns the reader. Bytes read ahead are lost.
     pub fn into_reader(self) -> R
         ensures { result ≡ reader_under self }
     {
@@ -130,7 +130,7 @@ impl<R: Read> CountedReads<R> {
         source.into_reader()
     }
 
-    /// Returns whether the next turn brings bytes that were read before, so that it doesn't ask the reader.
+    /// Returns whether the next turn brings bytes that were read ahead, so that it doesn't ask the reader.
     pub fn is_ahead(&self) -> bool
         ensures { IsTrue result ↔ IsAhead self.now }
     {
@@ -139,7 +139,7 @@ impl<R: Read> CountedReads<R> {
 
     ghost use Rattle.gu_streams.specs.Reads.{IsAhead, IsTurn, bytes_left, has_failed, reader_under, reads_left, waits_left};
 
-    /// Asks the reader once. Where it has nothing for now, no read is counted and none failed, as long as it may.
+    /// Asks the reader once. If it has nothing for now, as long as it may, no read is counted and none fails.
     pub fn turn(&mut self, buf: &mut [u8]) -> Turn
         ensures { IsTurn R.remaining self.old self.new buf.new result }
     {
@@ -176,7 +176,7 @@ impl<R: Read> Read for CountedReads<R> {
         ensures short { IfOk result (λ n. n ≤ 4096) }
         ensures counted { reads_left self.new ≡ reads_left self.old - 1 }
 
-        // An error is the reader's own, which is remembered, or there was no read left.
+        // An error is the reader's own, which is remembered, or means that no reads were left.
         ensures failed { has_failed self.new ≡ (has_failed self.old || is_err result && not (is_spent self.old)) }
         ensures spent { is_spent self.old ≡ true → IsErr result }
     {

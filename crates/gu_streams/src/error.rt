@@ -3,16 +3,16 @@
 use std::alloc::AllocError;
 use thiserror::Error;
 
-/// Why an engine over a reader and a writer stopped. What was written before stays written.
+/// The reason that an engine over a reader and a writer stopped. Text already written stays written.
 #[derive(Debug, Drop, Clone, Copy, PartialEq, Eq, Error)]
 pub enum StreamError {
     /// An allocation failed.
     #[error("out of memory")]
     Memory,
-    /// The reader failed, or all its reads were made, or the clock failed.
+    /// The reader failed, its reads are used up, or the clock failed.
     #[error("read fault")]
     Read,
-    /// The writer failed, or took nothing.
+    /// The writer failed, or accepted nothing.
     #[error("write fault")]
     Write,
 }

@@ -1,4 +1,4 @@
-//! Readers whose reads are counted, and texts that are written whole or in part.
+//! Readers with counted reads, and texts written whole or in part.
 #![tactic(auto)]
 
 mod counted_reads;

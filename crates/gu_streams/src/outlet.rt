@@ -7,15 +7,15 @@ use crate::error::StreamError;
 use crate::sending::{send, send_some};
 use std::io::Write;
 
-/// How answers that are held go out: when, and how many of them at once.
+/// An outlet sends held answers: it decides when, and how many at once.
 pub trait Outlet {
     ghost use Rattle.std.specs.Prelude.{Bool};
 
-    /// Whether it always lets all go that is held.
+    /// Whether it always sends everything held.
     ghost takes_all: { Bool };
 
-    /// Lets a first part of what is held go to a writer. The rest is still held. After an error some prefix of it was written, and all
-    /// of it is still held.
+    /// Sends the first of the held bytes to a writer. The rest is still held. After an error some prefix was written, and everything is
+    /// still held.
     fn let_go<W: Write>(&mut self, writer: &mut W, held: &mut Vec<u8>) -> Result<(), StreamError>
         ensures ok { OnOk result (LetsGo held.old.items held.new.items (W.contents writer.old) (W.contents writer.new)) }
         ensures all { OnOk result (takes_all ≡ true → held.new.items ≡ []) }
@@ -24,7 +24,7 @@ pub trait Outlet {
         ensures fault { IfErr result (λ error. error ≡ StreamError.Write) };
 }
 
-/// Writes all that is held, and waits until it is written. A writer that would block has failed.
+/// An outlet that writes everything held, and waits until it is written. A writer that would block has failed.
 #[derive(Drop)]
 pub struct Blocking;
 
@@ -38,7 +38,7 @@ impl Outlet for Blocking {
     }
 }
 
-/// Writes as much of what is held as the writer takes without waiting.
+/// An outlet that writes as much as the writer accepts without waiting.
 #[derive(Drop)]
 pub struct NonBlocking;
 

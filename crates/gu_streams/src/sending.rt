@@ -24,7 +24,7 @@ pub fn send<W: Write>(writer: &mut W, text: &[u8]) -> Result<(), StreamError>
     Ok(())
 }
 
-/// Writes of a text as much as the writer takes without waiting, and returns how much that is. After an error some prefix was written.
+/// Writes as much of a text as the writer accepts without waiting, and returns the number of bytes. After an error some prefix was written.
 fn write_some<W: Write>(writer: &mut W, text: &[u8]) -> Result<usize, StreamError>
     ensures within { IfOk result (λ count. count ≤ length text.now) }
     ensures ok { IfOk result (λ count. Appends (W.contents writer.old) (W.contents writer.new) (take count text.now)) }
@@ -47,7 +47,7 @@ fn write_some<W: Write>(writer: &mut W, text: &[u8]) -> Result<usize, StreamErro
     Ok(at)
 }
 
-/// Writes of what is held as much as the writer takes without waiting. After an error some prefix of it was written.
+/// Writes as much of what is held as the writer accepts without waiting. After an error some prefix was written.
 pub fn send_some<W: Write>(writer: &mut W, held: &mut Vec<u8>) -> Result<(), StreamError>
     ensures ok { OnOk result (LetsGo held.old.items held.new.items (W.contents writer.old) (W.contents writer.new)) }
     ensures err { OnErr result (WrotePart held.old.items (W.contents writer.old) (W.contents writer.new)) }

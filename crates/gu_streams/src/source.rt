@@ -1,4 +1,4 @@
-//! Where counted reads come from.
+//! The sources of counted reads.
 
 ghost use Rattle.std.specs.Prelude.{◌≡◌, ◌↔◌, IsTrue};
 ghost use Rattle.std.specs.Io.{ReadsAtMost};
@@ -8,17 +8,17 @@ ghost use Rattle.gu_streams.specs.Reads.{HasAhead, left_in, reader_in};
 use std::io;
 use std::io::{BufReader, Read};
 
-/// Where counted reads come from.
+/// A source of counted reads.
 #[derive(Drop)]
 pub enum Source<R> {
-    /// A reader that is asked at each read.
+    /// A reader that is called for each read.
     Direct(R),
-    /// A reader of which more is read than is asked for, where more has come.
+    /// A reader that reads ahead, if more has arrived than is requested.
     Ahead(BufReader<R>),
 }
 
 impl<R: Read> Source<R> {
-    /// Returns the reader. What was read ahead is lost.
+    /// Returns the reader. Bytes read ahead are lost.
     pub fn into_reader(self) -> R
         ensures { result ≡ reader_in self }
     {
@@ -39,7 +39,7 @@ impl<R: Read> Source<R> {
         }
     }
 
-    /// Returns whether the next read finds bytes that were read before.
+    /// Returns whether the next read finds bytes that were read ahead.
     pub fn is_ahead(&self) -> bool
         ensures { IsTrue result ↔ HasAhead self.now }
     {

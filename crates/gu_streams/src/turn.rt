@@ -1,12 +1,12 @@
-//! What a reader gives when it is asked once.
+//! Results of asking a reader once.
 
-/// What a reader gives when it is asked once.
+/// The result of asking a reader once.
 #[derive(Clone, Copy, Debug, PartialEq, Eq)]
 pub enum Turn {
-    /// This many bytes: none at the end of the input alone.
+    /// This many bytes; 0 only at the end of the input.
     Bytes(usize),
     /// Nothing for now: more may come.
     Nothing,
-    /// Nothing more: the reader failed, or all its reads were made.
+    /// Nothing more: the reader failed, or its reads are used up.
     Stopped,
 }

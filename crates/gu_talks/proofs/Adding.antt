@@ -1,4 +1,4 @@
--- Marks in two parts, when bytes are added behind them.
+-- Marks in two parts, when bytes are added after them.
 use Rattle.std.proofs.Common.{◌≡◌, ◌<◌, ◌≤◌, ◌-◌, ◌+◌, ◌++◌, ℕ, List, [], length, drop, get_or, inl, inr, sym, ap, subst, ◌∙◌, arith, max, length-append}
 use Rattle.std.proofs.Math.ListN.{replicate}
 use Rattle.std.proofs.Math.Seq.{drop-append-add}
@@ -26,7 +26,7 @@ at_rest f r n l place past within =
     let in_rest : place - f < r = omega arith in
     get_or-append_right (replicate f n) (replicate r l) f place 0 (length-replicate f n) past ∙ get_or-replicate r (place - f) l 0 in_rest
 
--- what is behind the first part and some of the rest
+-- what remains after the first part and some of the rest
 drop_in_rest : (f k r n l : ℕ) → drop (f + k) (replicate f n ++ replicate r l) ≡ replicate (r - k) l
 drop_in_rest f k r n l =
     let at = drop-append-add (replicate f n) (replicate r l) k in
@@ -68,7 +68,7 @@ module _ (f m held n l number last : ℕ) (some : 0 < f) (within : f ≤ m) (mor
       subst (λ (k : ℕ). drop k (replicate f n ++ replicate (held - f) last) ≡ replicate (held - f - (m - f)) last) (sym (length_of_parts f (m - f) n l)) (drop_in_rest f (m - f) (held - f) n last) in
       subst (λ (xs : List ℕ). All (λ (mark : ℕ). number ≤ mark) xs) (sym rest) (All-replicate (λ (mark : ℕ). number ≤ mark) (held - f - (m - f)) last raises.given)
 
-  -- the mark of the rest, or of the first part where there is none, is among those before
+  -- the mark of the rest, or that of the first part if there is no rest, is among those before
   rest_within : (most : ℕ) → All (λ (mark : ℕ). mark ≤ most) (replicate f n ++ replicate (m - f) l) → l ≤ most
   rest_within most all =
       let count = length_of_parts f (m - f) n l in
@@ -93,7 +93,7 @@ module _ (f m held n l number last : ℕ) (some : 0 < f) (within : f ≤ m) (mor
     first = λ _. at_first f (held - f) n last 0 some ∙ sym (at_first f (m - f) n l 0 some);
   }
 
--- so it is of the marks that two numbers stand for, where nothing had a mark
+-- the same holds for the marks that two numbers give, if nothing had a mark
 pub begins : (before after : Inside) (old : List ℕ) (held number : ℕ) → marks_of before ≡ old → IsInParts before → before.first ≡ 0
     → after ≡ record before { first = held; number = number; last = number } → MarksAll held number old (marks_of (record after { marked = held }))
 begins before after old held number is parts none after_is =
@@ -104,7 +104,7 @@ begins before after old held number is parts none after_is =
     subst (λ (marks : Inside). MarksAll held number old (marks_of (record marks { marked = held }))) (sym after_is)
     (subst (λ (xs : List ℕ). MarksAll held number xs (replicate held number ++ replicate (held - held) number)) (sym empty) (marks_begin held number))
 
--- and where some bytes had marks
+-- and if some bytes had marks
 pub grows : (before after : Inside) (old : List ℕ) (held number last : ℕ) → marks_of before ≡ old → IsInParts before → (before.first ≡ 0 → ⊥) → before.marked < held → last ≡ max before.last number
     → after ≡ record before { last = last } → MarksAll held number old (marks_of (record after { marked = held }))
 grows before after old held number last is parts some more greatest after_is =

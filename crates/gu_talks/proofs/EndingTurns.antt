@@ -10,7 +10,7 @@ use Rattle.gu_talks.specs.Visits.{EndsAfter}
 not_both : (b : Bool) → b ≡ true → b ≡ false → ⊥
 not_both b is is_not = let e : true ≡ false = sym is ∙ is_not in cc
 
--- after the last turn the session is told so
+-- after the last turn the session is notified
 pub ends_last : {H C : Type 0} (became : Turned) (old new : Connection H C) → is_last became ≡ true → EndsSession old new → EndsAfter became old new
 ends_last became old new last ends = record { last = λ _. ends; other = λ not_last. absurd (not_both (is_last became) last not_last) }
 

@@ -1,10 +1,10 @@
--- What a send lets go of, and the marks that are left.
+-- The bytes that a send drops, and the marks that are left.
 use Rattle.std.proofs.Common.{◌≡◌, ◌≤◌, ◌-◌, ◌++◌, ℕ, List, [], length, take, ap, subst, arith, length-append}
 use Rattle.std.proofs.lemmas.List.{take-take}
 use Rattle.std.proofs.lemmas.List.Elements.{All-take}
 use Rattle.std.specs.List.{All}
 
--- as many bytes went as fewer are held
+-- the bytes that were sent and those that are still held are all the bytes that were held
 pub count_that_went : (held kept sent : List ℕ) → held ++ [] ≡ sent ++ kept → length held - length kept ≡ length sent
 count_that_went held kept sent parts = omega (arith, ap length parts, length-append held [], length-append sent kept)
 

@@ -2,8 +2,8 @@
 use Rattle.std.specs.Prelude.{◌≡◌, ◌<◌, ◌≤◌, ℕ, List, drop, length, slice_index}
 use Rattle.std.specs.List.{All}
 
--- So many bytes that are held are marked with a number: each has a mark then, and none has fallen. The bytes that had none have at least this
--- number, and no mark is above it and above all that there were. The first byte keeps its mark, whatever is added behind it.
+-- This many bytes that are held are marked with a number: each has a mark then, and none has fallen. The bytes that had none have at least
+-- this number, and no mark is above it and above all that there were. The first byte keeps its mark, whatever is added after it.
 pub record MarksAll (held number : ℕ) (old new : List ℕ) : Type 0 where
   pub all : length new ≡ held
   pub none_falls : (place : ℕ) → place < length old → slice_index old place ≤ slice_index new place

@@ -10,11 +10,12 @@ use Rattle.gu_talks.specs.declared.source.Ahead.{Ahead}
 use Rattle.gu_talks.specs.declared.source.Source.{Source}
 use Rattle.gu_talks.specs.declared.source.Source.TheVariants.{Bare, Ahead as AheadOf}
 
--- the bytes that are left of a half that is read: those that were read before and are read again, and then those of its stream, where they are known
+-- the bytes that are left of a half that is read: those that were read before and are read again, and then those of its stream, if they are
+-- known
 abbrev pub left_incoming : {T : Type 0} → (T → Option (List ℕ)) → Incoming T → Option (List ℕ)
 left_incoming remaining incoming = chain_remaining (cursor_remaining (λ (said : Vec ℕ Global). Some said.items)) remaining incoming.stream
 
--- the bytes that are left: those that were read ahead, and then those of the stream, where they are known
+-- the bytes that are left: those that were read ahead, and then those of the stream, if they are known
 abbrev pub left_ahead : {T : Type 0} → (T → Option (List ℕ)) → Ahead T → Option (List ℕ)
 left_ahead remaining ahead = reader_remaining (left_incoming remaining) ahead.reader
 

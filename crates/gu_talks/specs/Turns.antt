@@ -1,4 +1,4 @@
--- Turns of the engine, one after another, over a reader that is lent for each. What they answer is held.
+-- Turns of the engine, one after another, over a reader that each turn borrows. Their answers are held.
 use Rattle.std.specs.Prelude.{◌≡◌, ◌++◌, ℕ, zero, suc, false, List, [], Option, Some}
 use Rattle.gu_engine.specs.Running.{Engine}
 use Rattle.gu_engine.specs.Turned.{TurnsTo}
@@ -9,7 +9,7 @@ use Rattle.gu_streams.specs.Reads.{has_failed, reader_under, reads_left, source_
 use Rattle.gu_streams.specs.declared.counted_reads.CountedReads.{CountedReads}
 use Rattle.gu_streams.specs.declared.source.Source.TheVariants.{Direct}
 
--- Where a connection is between two turns: what answers, what it reads, and what was left.
+-- The state of a connection between two turns: what answers, what it reads, and what was left.
 pub record Spot (S R O : Type 0) : Type 0 where
   pub state : S
   pub reader : R
@@ -25,13 +25,13 @@ pub record CountsAnew {R : Type 0} (reader : R) (reads : CountedReads R) : Type 
   pub left : reads_left reads ≡ 1000000
   pub fresh : has_failed reads ≡ false
 
--- nothing goes: what was held is held still, and what was answered behind it
+-- nothing is sent: what was held is still held, with the new answers after it
 pub record HoldsOn {O : Type 0} (old new : Backlog O) : Type 0 where
   pub text : List ℕ
   pub held : new.held.bytes.items ≡ old.held.bytes.items ++ text
 
 module _ {S R O : Type 0} (engine : Engine S) (remaining : R → Option (List ℕ)) where
-  -- one turn of the engine, and what became of it; nothing of what it answers goes
+  -- one turn of the engine, and what became of it; none of its answers is sent
   pub record TurnsOnce (old : Spot S R O) (became : Turned) (new : Spot S R O) : Type 0 where
     pub before : CountedReads R
     pub after : CountedReads R
@@ -41,7 +41,7 @@ module _ {S R O : Type 0} (engine : Engine S) (remaining : R → Option (List �
         (record { reads_old = before; reads_new = after; kept_old = old.kept; kept_new = new.kept; output_old = Some []; output_new = Some [] }) became
     pub holds : HoldsOn old.kept new.kept
 
-  -- further turns of the engine, so many before the last, each of which may be followed by another; and what became of the last
+  -- further turns of the engine, this many before the last, each of which may be followed by another; and what became of the last
   abbrev pub TurnsOn : ℕ → Spot S R O → Turned → Spot S R O → Type 0
   TurnsOn zero old became new = TurnsOnce old became new
   TurnsOn (suc more) old became new = (mid : Spot S R O) × TurnsOn more old turned.Again mid × TurnsOnce mid became new

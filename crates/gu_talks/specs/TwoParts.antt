@@ -6,8 +6,8 @@ use Rattle.gu_talks.specs.declared.marks.Marks.TheInside.{Inside}
 abbrev pub marks_of : Inside → List ℕ
 marks_of marks = replicate marks.first marks.number ++ replicate (marks.marked - marks.first) marks.last
 
--- the first part is some of the bytes if there are any, and no byte of the rest has a lower mark; where there is no rest its mark is that of the
--- first part
+-- the first part is some of the bytes if there are any, and no byte of the rest has a lower mark; if there is no rest its mark is that of
+-- the first part
 pub record IsInParts (marks : Inside) : Type 0 where
   pub within : marks.first ≤ marks.marked
   pub begun : marks.first ≡ 0 → marks.marked ≡ 0

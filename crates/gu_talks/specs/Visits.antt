@@ -26,13 +26,13 @@ pub record IsNewTalk {I O : Type 0} (talk : Talk I O) (firms : List FirmId) (inc
   pub unheld : talk.backlog.held.bytes.items ≡ []
   pub unmarked : talk.marks ≡ []
 
--- after the last turn of a session it is told so, and after any other nothing is done
+-- after its last turn a session is notified; after any other turn nothing is done
 pub record EndsAfter {H C : Type 0} (became : Turned) (old new : Connection H C) : Type 0 where
   pub last : is_last became ≡ true → EndsSession old new
   pub other : is_last became ≡ false → new ≡ old
 
--- A visit at a moment, over a house that is lent: the session goes on by turns, each at this moment, of which the last became this; nothing that was
--- read is lost. Nothing goes: what was held is held still, with its marks, and what the turns answer is held behind it.
+-- A visit at a moment, which borrows a house: the session goes on by turns, each at this moment, of which the last became this; nothing
+-- that was read is lost. Nothing is sent: what was held is still held, with its marks, and the answers of the turns are held after it.
 pub record Visits {H I O : Type 0} (rules : HouseRules H) (remaining : I → Option (List ℕ)) (moment : ℕ) (old : Talk I O) (house_old : H) (new : Talk I O) (became : Turned) : Type 0 where
   pub begun : Connection (MutBor H) VisitClock
   pub ahead : Ahead I
@@ -53,7 +53,8 @@ pub record Visits {H I O : Type 0} (rules : HouseRules H) (remaining : I → Opt
   pub writer : new.writer ≡ old.writer
   pub marks : new.marks ≡ old.marks
 
--- Nothing of an exchange changes but what is known of its streams: the same session, the same bytes left to be read, the same answers held.
+-- Nothing of an exchange changes except what is known about its streams: the same session, the same bytes left to be read, the same answers
+-- held.
 pub record StaysAsItIs {I O : Type 0} (remaining : I → Option (List ℕ)) (old new : Talk I O) : Type 0 where
   pub conversation : new.conversation ≡ old.conversation
   pub input : left_of remaining new.source ≡ left_of remaining old.source
@@ -61,7 +62,8 @@ pub record StaysAsItIs {I O : Type 0} (remaining : I → Option (List ℕ)) (old
   pub output : new.writer.stream ≡ old.writer.stream
   pub marks : new.marks ≡ old.marks
 
--- At a moment the session is told that the house closes. What it sends is held after the other answers; nothing is read, and nothing else is sent.
+-- At a moment the session is notified that the house closes. What it sends is held after the other answers; nothing is read, and nothing
+-- else is sent.
 pub record ClosesTalk {H I O : Type 0} (moment : ℕ) (old : Talk I O) (house_old : H) (new : Talk I O) : Type 0 where
   pub begun : Connection (MutBor H) VisitClock
   pub conversation : conversation_of begun ≡ old.conversation
@@ -74,8 +76,8 @@ pub record ClosesTalk {H I O : Type 0} (moment : ℕ) (old : Talk I O) (house_ol
   pub writer : new.writer ≡ old.writer
   pub marks : new.marks ≡ old.marks
 
--- Of what is held a first part goes out, of which each byte has a mark of at most `kept`. The rest is still held, with its marks; the session and
--- what is read stay as they are.
+-- A prefix of what is held goes out, in which each byte has a mark of at most `kept`. The rest is still held, with its marks; the session
+-- and what is read stay as they are.
 pub record Sends {I O : Type 0} (contents : O → Option (List ℕ)) (kept : ℕ) (old new : Talk I O) : Type 0 where
   pub conversation : new.conversation ≡ old.conversation
   pub source : new.source ≡ old.source

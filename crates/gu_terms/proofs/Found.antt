@@ -1,4 +1,4 @@
--- Searches: by a name, by two names, of a list in which no two have one name, and of such a list with one more.
+-- Searches: by one name, by two names, in a list without repeated names, and in such a list with one more element.
 use Rattle.std.proofs.Common.{◌≡◌, ◌∙◌, refl, ap, Bool, true, false, cond, is_some, ◌||◌, ◌&&◌, ℕ, zero, suc, List, [], ◌∷◌, ◌++◌, slice_get, Contains, Some}
 use Rattle.std.specs.List.{find, list_any, AllByRecursion, IsDistinct}
 use Rattle.std.specs.Cmp.{IsEquivalence}
@@ -6,7 +6,7 @@ use Rattle.std.specs.Str.{bytes_eq}
 use Rattle.std.proofs.lemmas.Cmp.{nat_list_eq_equiv}
 use Rattle.std.proofs.lemmas.Option.{slice_get-get_or}
 
--- names are the same or not by their bytes
+-- names are compared by their bytes
 pub by_name : {K : Type 0} (name : K → List ℕ) → IsEquivalence (λ (a b : K). bytes_eq (name a) (name b))
 by_name name = record {
   refl = λ a. nat_list_eq_equiv.refl (name a);
@@ -19,7 +19,7 @@ both-congr true true r s t u f g h = rw (f refl, g refl) refl
 both-congr true false r s t u f g h = cc
 both-congr false q r s t u f g h = cc
 
--- two names are the same pair or not by both
+-- pairs of names are compared by both
 pub by_names : {K : Type 0} (one two : K → List ℕ) → IsEquivalence (λ (a b : K). bytes_eq (one a) (one b) && bytes_eq (two a) (two b))
 by_names one two = record {
   refl = λ a. rw (nat_list_eq_equiv.refl (one a), nat_list_eq_equiv.refl (two a)) refl;
@@ -27,7 +27,7 @@ by_names one two = record {
   congr = λ a b c. both-congr _ _ _ _ _ _ (nat_list_eq_equiv.congr (one a) (one b) (one c)) (nat_list_eq_equiv.congr (two a) (two b) (two c));
 }
 
--- a search finds something where the list has it
+-- a search finds something if the list has it
 pub is_some-find : {X : Type 0} (test : X → Bool) (rows : List X) → is_some (find test rows) ≡ list_any test rows
 is_some-find test [] = refl
 is_some-find test (x ∷ rows) = elim (test x) as (λ b. is_some (cond b (Some x) (find test rows)) ≡ (b || list_any test rows)) [ true ↦ refl | false ↦ is_some-find test rows ]
@@ -37,7 +37,7 @@ neither true q h = cc
 neither false true h = cc
 neither false false h = (refl, refl)
 
--- a list of which no two are the same, and one more that is the same as none of them
+-- a list without repetitions, with one more element that it didn't have, has none
 pub distinct-push : {X : Type 0} (same : X → X → Bool) (xs : List X) (x : X) → list_any (λ y. same y x) xs ≡ false → IsDistinct same xs → IsDistinct same (xs ++ x ∷ [])
 unfolding IsDistinct
 distinct-push same [] x h d = (tt, tt)
@@ -64,7 +64,7 @@ at_place same own (x ∷ rows) zero row d at =
     rw (e, own row) refl
 at_place same own (x ∷ rows) (suc place) row d at = rw (others_apart same x rows place row d.0 at) (at_place same own rows place row d.1 at)
 
--- where no two of a list have one name, each is found by its own
+-- if no two elements of a list have the same name, each is found by its own
 pub found_by_own_name : {X : Type 0} (same : X → X → Bool) → ((x : X) → same x x ≡ true) → (rows : List X) (row : X)
     → IsDistinct same rows → Contains rows row → find (λ x. same x row) rows ≡ Some row
 found_by_own_name same own rows row d there =

@@ -10,13 +10,13 @@ three true true false h = cc
 three true false r h = cc
 three false q r h = cc
 
--- what passes is a name
+-- bytes that pass are a name
 pub IsName-from_test : (bytes : List ℕ) → is_name bytes ≡ true → IsName bytes
 IsName-from_test bytes h =
     let t = three (nat_le 1 (length bytes)) (nat_le (length bytes) 12) (list_all is_name_byte bytes) h in
     record { some = search (arith, t.0); most = search (arith, t.1); each = AllPass-from_list_all is_name_byte bytes t.2 }
 
--- and a name passes
+-- a name passes
 pub test-from_IsName : (bytes : List ℕ) → IsName bytes → is_name bytes ≡ true
 test-from_IsName bytes h =
     let a : nat_le 1 (length bytes) ≡ true = search (arith, h.some) in
@@ -31,6 +31,6 @@ chosen false None bytes to from h same = refl
 chosen true (Some name) bytes to from h same = ap Some same
 chosen false (Some name) bytes to from h same = let e : false ≡ true = from (h.0 refl) in cc
 
--- the name that bytes make, where they are a name's
+-- the name that bytes make, if they are one
 pub name_made : (o : Option (List ℕ)) (bytes : List ℕ) → IsSome o ↔ IsName bytes → IfSome o (λ name. name ≡ bytes) → o ≡ (if is_name bytes then Some bytes else None)
 name_made o bytes h same = chosen (is_name bytes) o bytes (IsName-from_test bytes) (test-from_IsName bytes) h same

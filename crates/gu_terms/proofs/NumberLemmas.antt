@@ -1,4 +1,4 @@
--- What the parts of a number text stand for.
+-- The values of the parts of a number text.
 use Rattle.std.proofs.Common.{length-append, length-take, get_or, take, drop, min, ◌-◌, ◌≡◌, ℕ, ℤ, pos, zero, suc, Option, Some, None, IsSome, IfSome, MatchOption, ◌↔◌, ◌+◌, ◌*◌, ◌^◌, ◌<◌, ◌≤◌, neg_ℤ, cond, List, [], ◌∷◌, ◌++◌, Bool, true, false, length, refl, sym, ap, subst, ◌∙◌, arith, inl, inr}
 use Rattle.std.specs.Char.{digit_value}
 use Rattle.std.specs.Str.Parse.{AllDigits, digits_value, digits_value_after}
@@ -20,13 +20,13 @@ after-append n (c ∷ cs) b = after-append (n * 10 + digit_value c) cs b
 pub after-more : (n : ℕ) (ds : List ℕ) (i : ℕ) → i < length ds → digits_value_after 10 n (take (i + 1) ds) ≡ digits_value_after 10 n (take i ds) * 10 + digit_value (get_or ds i 0)
 after-more n ds i within = ap (digits_value_after 10 n) (take_more ds i 0 within) ∙ after-append n (take i ds) (get_or ds i 0 ∷ [])
 
--- a digit more makes a number at most ten times as large
+-- a number below a power of ten is, with one more digit, below the next power
 pub room_for_digit : (number digit count next : ℕ) → next ≡ count + 1 → number < 10 ^ count → digit < 10 → 10 * number + digit < 10 ^ next
 room_for_digit number digit count next is few small =
     let more : next ≡ suc count = omega arith in
     omega (arith, few, small, pow-succ' 10 count, ap (λ (k : ℕ). 10 ^ k) more)
 
--- a higher power of ten is no less
+-- a higher power of ten is no smaller
 pub powers_of_ten : (low high : ℕ) → low ≤ high → 10 ^ low ≤ 10 ^ high
 powers_of_ten low high le = pow-le-pow_right {n = 10} (omega arith) le
 
@@ -39,7 +39,7 @@ after-value n (c ∷ cs) =
     let short = after-value (0 * 10 + v) cs in
     omega (arith, long, short, add-mul (n * 10) v p, mul_assoc n 10 p, ap (λ (q : ℕ). n * q) (pow-succ' 10 (length cs)))
 
--- digits after others
+-- the value of digits followed by others
 pub digits_value-append : (a b : List ℕ) → digits_value 10 (a ++ b) ≡ digits_value 10 a * 10 ^ length b + digits_value 10 b
 digits_value-append a b = after-append 0 a b ∙ after-value (digits_value 10 a) b
 
@@ -48,7 +48,7 @@ pub ten_to_positive : (k : ℕ) → 0 < 10 ^ k
 ten_to_positive zero = omega arith
 ten_to_positive (suc k) = omega (arith, ten_to_positive k, pow-succ' 10 k)
 
--- a multiple and a rest below it that make a multiple
+-- a multiple plus a smaller remainder is a multiple only if the two are equal and the remainder is 0
 multiples : (a b r p : ℕ) → r < p → a * p + r ≡ b * p → (a ≡ b) × (r ≡ 0)
 multiples a b r p small e = elim (cases_lt a b) [
   | inl lt ↦ let more = mul-le-mul_right {m = suc a} {n = b} p (omega arith) in absurd (omega (arith, more, add-mul a 1 p))
@@ -58,7 +58,7 @@ multiples a b r p small e = elim (cases_lt a b) [
   ]
 ]
 
--- a number of lots has no sign, its whole digits, and nothing after the point
+-- a text for lots has no minus, its lots are its whole digits, and nothing but zeros is after the point
 pub lots_meant : (text : List ℕ) (n : ℕ) → MeansLots text n → (has_minus text ≡ false) × (digits_value 10 (whole_digits text) ≡ n) × (digits_value 10 (fraction_digits text) ≡ 0)
 lots_meant text n h =
     let unsigned = unsigned_lots (has_minus text) refl in
@@ -83,14 +83,14 @@ lots_meant text n h =
     same_size : (b : Bool) → has_minus text ≡ false → has_minus text ≡ b → h.means.size ≡ n
     same_size b e is = let sign : pos n ≡ pos h.means.size = h.means.sign ∙ ap (λ (b : Bool). cond b (neg_ℤ (pos h.means.size)) (pos h.means.size)) e in cc
 
--- the same of the text's parts
+-- the same for the text's parts
 pub lots_of_parts : {text : List ℕ} {is_negative : Bool} {whole fraction : List ℕ} {n : ℕ} → IsTakenApart text is_negative whole fraction → MeansLots text n
     → (is_negative ≡ false) × (digits_value 10 whole ≡ n) × (digits_value 10 fraction ≡ 0)
 lots_of_parts {text} {n = n} apart h =
     let meant = lots_meant text n h in
     (apart.sign_is ∙ meant.0, ap (λ ds. digits_value 10 ds) apart.whole_is ∙ meant.1, ap (λ ds. digits_value 10 ds) apart.fraction_is ∙ meant.2)
 
--- and such a text means them
+-- such a text means these lots
 pub lots_mean : (text : List ℕ) (n : ℕ) → IsNumberText text → has_minus text ≡ false → n ≡ digits_value 10 (whole_digits text) → digits_value 10 (fraction_digits text) ≡ 0 → IsLots n → MeansLots text n
 lots_mean text n is_number unsigned whole nothing sound = record {
   means = record {
@@ -102,18 +102,18 @@ lots_mean text n is_number unsigned whole nothing sound = record {
   sound = sound;
 }
 
--- and parts without a sign and a fraction mean their whole digits' number
+-- parts without a minus or a fraction mean the number in their whole digits
 pub parts_mean_lots : {text : List ℕ} {is_negative : Bool} {whole fraction : List ℕ} {n : ℕ} → IsTakenApart text is_negative whole fraction → is_negative ≡ false → n ≡ digits_value 10 whole → digits_value 10 fraction ≡ 0 → IsLots n → MeansLots text n
 parts_mean_lots {text} {n = n} apart unsigned is nothing sound =
     lots_mean text n apart.is_number (sym apart.sign_is ∙ unsigned) (is ∙ ap (λ ds. digits_value 10 ds) apart.whole_is) (sym (ap (λ ds. digits_value 10 ds) apart.fraction_is) ∙ nothing) sound
 
--- what a constructor tells that gives a value where the number is in its range
+-- the result of a constructor that returns a value if the number is in its range
 pub range_tells : (IsInRange : ℕ → Type 0) {P : Type 0} (Q : ℕ → Type 0) (made : Option ℕ) (n : ℕ) → IsSome made ↔ IsInRange n → IfSome made (λ m. m ≡ n)
     → ((IsInRange n → ⊥) → P) → (IsInRange n → Q n) → MatchOption made P Q
 range_tells IsInRange Q (Some m) n sound same out within = subst Q (sym same) (within (sound.0 refl))
 range_tells IsInRange Q None n sound same out within = out (λ h. let none = sound.1 h in cc)
 
--- a price's size is so many millionths as its whole digits say, and those that its fraction says
+-- a price's size in millionths is that of its whole digits plus that of its fraction
 price_size : (text : List ℕ) (size millionths : ℕ) → CountsParts text 1000000 size → digits_value 10 (fraction_digits text) * 1000000 ≡ millionths * 10 ^ length (fraction_digits text)
     → size ≡ digits_value 10 (whole_digits text) * 1000000 + millionths
 price_size text size millionths counts fraction_is =
@@ -124,7 +124,7 @@ price_size text size millionths counts fraction_is =
     omega (arith, counts, fraction_is, ap (λ (n : ℕ). n * 1000000) (digits_value-append (whole_digits text) (fraction_digits text)), add-mul (w * p) f 1000000, add-mul (w * 1000000) millionths p, mul_assoc w 1000000 p, mul_assoc w p 1000000, ap (λ (n : ℕ). w * n) (mul_comm 1000000 p)) in
     sym (eq_of_mul-eq-mul_left p (ten_to_positive (length (fraction_digits text))) _ _ (mul_comm p _ ∙ all ∙ mul_comm size p))
 
--- and so many millionths are counted
+-- these millionths are counted
 pub price_counts : (text : List ℕ) (millionths : ℕ) → digits_value 10 (fraction_digits text) * 1000000 ≡ millionths * 10 ^ length (fraction_digits text)
     → CountsParts text 1000000 (digits_value 10 (whole_digits text) * 1000000 + millionths)
 price_counts text millionths fraction_is =
@@ -150,7 +150,7 @@ fraction_of_price text size counts =
       )
     ]
 
--- millionths after the point are less than a million
+-- the millionths after the point are less than 1,000,000
 pub millionths_are_few : (fraction : List ℕ) (millionths : ℕ) → AllDigits 10 fraction → digits_value 10 fraction * 1000000 ≡ millionths * 10 ^ length fraction → millionths < 1000000
 millionths_are_few fraction millionths all is =
     let p = 10 ^ length fraction in
@@ -160,7 +160,7 @@ millionths_are_few fraction millionths all is =
       | inr ge ↦ let more = mul-le-mul_right {m = 1000000} {n = millionths} p ge in absurd (omega (arith, more, small, is))
     ]
 
--- up to six digits after the point, and zeros after those, count millionths
+-- up to six digits after the point, followed by zeros, count millionths
 pub millionths_of : (front back : List ℕ) (rest : ℕ) → length front + rest ≡ 6 → digits_value 10 back ≡ 0
     → digits_value 10 (front ++ back) * 1000000 ≡ (digits_value 10 front * 10 ^ rest) * 10 ^ length (front ++ back)
 millionths_of front back rest six zeros =
@@ -177,7 +177,7 @@ millionths_of front back rest six zeros =
     ∙ mul_assoc (v * 10 ^ rest) (10 ^ length front) q
     ∙ ap (λ (n : ℕ). v * 10 ^ rest * n) (sym long)
 
--- a digit after the sixth that isn't 0 leaves no whole number of millionths
+-- if a digit after the sixth isn't 0, there is no whole number of millionths
 pub no_millionths : (front back : List ℕ) (millionths : ℕ) → length front ≡ 6 → AllDigits 10 back → (digits_value 10 back ≡ 0 → ⊥) → digits_value 10 (front ++ back) * 1000000 ≡ millionths * 10 ^ length (front ++ back) → ⊥
 no_millionths front back millionths six all some is =
     let v = digits_value 10 front in
@@ -193,7 +193,7 @@ digits_from zero ds h = h
 digits_from (suc n) [] h = h
 digits_from (suc n) (d ∷ ds) h = digits_from n ds h.1
 
--- six digits at the front count, and what is after them is 0
+-- if the digits after the first six are 0, the first six count the millionths
 pub front_counts : (fraction : List ℕ) (count rest : ℕ) → count ≡ min (length fraction) 6 → rest ≡ 6 - count → digits_value 10 (drop count fraction) ≡ 0
     → CountsMillionths fraction (digits_value 10 (take count fraction) * 10 ^ rest)
 front_counts fraction count rest is rest_is zeros =
@@ -202,7 +202,7 @@ front_counts fraction count rest is rest_is zeros =
     let counts = millionths_of (take count fraction) (drop count fraction) rest long zeros in
     subst (λ (f : List ℕ). digits_value 10 f * 1000000 ≡ (digits_value 10 (take count fraction) * 10 ^ rest) * 10 ^ length f) (take-append-drop count fraction) counts
 
--- or no number of millionths is counted
+-- otherwise no number of millionths is counted
 pub front_counts_all : (fraction : List ℕ) (count n : ℕ) → count ≡ min (length fraction) 6 → AllDigits 10 fraction → (digits_value 10 (drop count fraction) ≡ 0 → ⊥) → CountsMillionths fraction n → ⊥
 front_counts_all fraction count n is all some counts =
     elim (cases_lt (length fraction) 6) [
@@ -218,36 +218,36 @@ digits_until zero ds h = tt
 digits_until (suc n) [] h = tt
 digits_until (suc n) (d ∷ ds) h = (h.0, digits_until n ds h.1)
 
--- so many digits are below that power of ten
+-- this many digits are below that power of ten
 pub few_digits : (count : ℕ) (ds : List ℕ) → AllDigits 10 ds → length ds ≤ count → digits_value 10 ds < 10 ^ count
 few_digits count ds all few =
     let bound = digits_value-lt 10 ds all in
     let power : 10 ^ length ds ≤ 10 ^ count = pow-le-pow_right {n = 10} (omega arith) few in
     omega arith
 
--- at most six digits are below a million
+-- at most six digits are below 1,000,000
 pub six_digits : (count : ℕ) (fraction : List ℕ) → AllDigits 10 fraction → count ≤ 6 → digits_value 10 (take count fraction) < 1000000
 six_digits count fraction all few = few_digits 6 (take count fraction) (digits_until count fraction all) (omega (arith, length-take count fraction))
 
--- a price of this size is in its range, of either sign
+-- a price with this size is in its range, with either sign
 price_is_sound : (is_negative : Bool) (size : ℕ) → size ≤ 999999999999999 → IsPrice (cond is_negative (neg_ℤ (pos size)) (pos size))
 price_is_sound false size small = record { least = record { le = tt }; most = record { le = T_from_true _ (le-leb size 999999999999999 small) } }
 price_is_sound true zero small = record { least = record { le = tt }; most = record { le = tt } }
 price_is_sound true (suc size) small = record { least = record { le = T_from_true _ (le-leb size 999999999999998 (omega arith)) }; most = record { le = tt } }
 
--- and no price has a larger size
+-- no price has a larger size
 price_is_small : (is_negative : Bool) (size : ℕ) → IsPrice (cond is_negative (neg_ℤ (pos size)) (pos size)) → size ≤ 999999999999999
 price_is_small false size h = lit≤ h.most.le
 price_is_small true zero h = omega arith
 price_is_small true (suc size) h = let below : size ≤ 999999999999998 = lit≤ h.least.le in omega arith
 
--- what parts that mean a price have after the point
+-- the fraction of parts that mean a price
 pub millionths_of_parts : {text : List ℕ} {is_negative : Bool} {whole fraction : List ℕ} {z : ℤ} → IsTakenApart text is_negative whole fraction → MeansPrice text z → (millionths : ℕ) × CountsMillionths fraction millionths
 millionths_of_parts {text} {fraction = fraction} apart h =
     let found = fraction_of_price text h.means.size h.means.counts in
     (found.0, subst (λ (f : List ℕ). CountsMillionths f found.0) (sym apart.fraction_is) found.1)
 
--- and before it
+-- the whole part of parts that mean a price
 pub units_of_parts : {text : List ℕ} {is_negative : Bool} {whole fraction : List ℕ} {z : ℤ} → IsTakenApart text is_negative whole fraction → MeansPrice text z → digits_value 10 whole ≤ 999999999
 units_of_parts {text} {whole = whole} {z = z} apart h =
     let found = fraction_of_price text h.means.size h.means.counts in

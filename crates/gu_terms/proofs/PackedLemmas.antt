@@ -1,4 +1,4 @@
--- Entries as a history keeps them: what comes after their texts, or is taken off there, leaves them as they are.
+-- Stored entries are unchanged when texts are added after theirs or removed there.
 use Rattle.std.proofs.Common.{◌≡◌, ℕ, suc, ◌+◌, ◌-◌, ◌<◌, ◌≤◌, ◌^◌, List, [], ◌∷◌, ◌++◌, All, length, map, min, take, drop, Some, arith, refl, sym, ap, inl, inr, subst, ◌∙◌, get_or, take-append-drop}
 use Rattle.std.specs.List.{AllPairs, slice_get}
 use Rattle.std.specs.Option.{option_map}
@@ -12,13 +12,13 @@ use Rattle.gu_terms.specs.PackedEntries.{AreKept, AreShort, AreSound, AreTextsOf
 use Rattle.gu_terms.specs.declared.kept_texts.Span.{Span}
 use Rattle.gu_terms.specs.declared.packed.Packed.{Packed}
 
--- bytes within the texts stay, whatever comes after
+-- bytes within the texts are unchanged, whatever follows
 text_at-front : (texts more : List ℕ) (at len : ℕ) → at + len ≤ length texts → text_at (texts ++ more) at len ≡ text_at texts at len
 text_at-front texts more at len within =
     ap (take len) (drop-append-le at texts more (omega (arith, within)))
     ∙ take-append-le len (drop at texts) more (omega (arith, length-drop at texts, within))
 
--- and so do the texts of an entry
+-- so are the texts of an entry
 texts_at-front : (texts more : List ℕ) (s : Span) → s.at + size_of s ≤ length texts → texts_at (texts ++ more) s ≡ texts_at texts s
 texts_at-front texts more s h =
     let own_id = text_at-front texts more s.at s.own_id (omega (arith, h)) in
@@ -30,7 +30,7 @@ texts_at-front texts more s h =
     rw (own_id, other_id, symbol_or_group, account_or_key, firm, reply) refl
 
 module _ (texts more : List ℕ) (kept : Packed) (h : end_of kept ≤ length texts) where
-  -- so that the entry is the same
+  -- so the entry is the same
   entry_of-front : entry_of (texts ++ more) kept ≡ entry_of texts kept
   entry_of-front = ap (λ (t : Texts). entry_with t kept) (texts_at-front texts more kept.span h)
 
@@ -50,11 +50,11 @@ map-front texts more (k ∷ ks) h =
     ap (λ e. e ∷ map (entry_of (texts ++ more)) ks) (entry_of-front texts more k (h 0 k (omega arith)))
     ∙ ap (λ es. entry_of texts k ∷ es) (map-front texts more ks (λ i d within. h (suc i) d (omega arith)))
 
--- a text after others is found where it stands
+-- a text after others is found at its position
 text_at-new : (before text more all : List ℕ) (at : ℕ) → all ≡ before ++ (text ++ more) → at ≡ length before → text_at all at (length text) ≡ text
 text_at-new before text more all at is there = rw (is, there, drop-append_seam before (text ++ more), take-append_seam text more) refl
 
--- the bytes of texts together
+-- the total length of texts in bytes
 size_of-new : (t : Texts) → size_of (span_of 0 t) ≡ length (joined t)
 size_of-new t =
     omega (
@@ -66,11 +66,11 @@ size_of-new t =
       length-append t.firm t.reply,
     )
 
--- there is room for the texts of an entry, which are not long
+-- there is room for an entry's texts, which aren't long
 pub joined_room : (texts : List ℕ) (t : Texts) → length texts ≤ 4000000000 → AreShort t → length (joined t) + length texts < 2 ^ 32
 joined_room texts t few h = omega (arith, few, size_of-new t, h.own_id, h.other_id, h.symbol_or_group, h.account_or_key, h.firm, h.reply)
 
--- and so are those of an entry
+-- the texts of an entry lie within all texts
 module _ (texts : List ℕ) (t : Texts) where
   texts_at-new : texts_at (texts ++ joined t) (span_of (length texts) t) ≡ t
   texts_at-new =
@@ -97,7 +97,7 @@ module _ (texts : List ℕ) (t : Texts) where
       (simp (append_assoc, append-nil)) (simp length-append) in
       rw (own_id, other_id, symbol_or_group, account_or_key, firm, reply) refl
 
--- an entry more, whose texts come after the others
+-- one more entry, whose texts follow the others
 module _ (texts : List ℕ) (t : Texts) (entries : List Packed) (new : Packed) (h : AreKept texts entries)
     (short : length (joined t) + length texts < 2 ^ 32) (span : new.span ≡ span_of (length texts) t) (own : AreTextsOf t new.body) (name : IsNameOf t.reply new.reply) where
   abbrev pub all : List ℕ
@@ -147,7 +147,7 @@ module _ (texts later : List ℕ) (t : Texts) (entries more : List Packed) (new 
   pub kept_more : AreKept later more
   kept_more = rw (longer, one) (AreKept-more texts t entries new h short span own name)
 
--- texts of which a front is kept, with those of all entries in it
+-- a prefix of the texts that contains those of all entries is kept
 module _ (texts : List ℕ) (entries : List Packed) (h : AreKept texts entries) (end : ℕ) (inside : end ≤ length texts)
     (below : All (λ k. end_of k ≤ end) entries) where
   front-behind : take end texts ++ drop end texts ≡ texts
@@ -175,7 +175,7 @@ module _ (texts : List ℕ) (entries : List Packed) (h : AreKept texts entries) 
   entries-front : map (entry_of (take end texts)) entries ≡ map (entry_of texts) entries
   entries-front = sym (map-front (take end texts) (drop end texts) entries within-front) ∙ rw front-behind refl
 
--- the texts of all entries end where those of the last do, or before
+-- the texts of all entries end no later than those of the last
 below_last : (texts : List ℕ) (entries : List Packed) → AreKept texts entries → All (λ k. end_of k ≤ end_of_last entries) entries
 below_last texts entries h i d inside =
     let last : ℕ = length entries - 1 in
@@ -192,7 +192,7 @@ last_within texts (k ∷ ks) h =
     let is : slice_get (k ∷ ks) last ≡ Some (get_or (k ∷ ks) last k) = slice_get-get_or (k ∷ ks) last k (omega arith) in
     rw is (h.within last k (omega arith)).within
 
--- some entries are taken off, with their texts
+-- some entries and their texts are removed
 module _ (texts later : List ℕ) (entries fewer : List Packed) (count : ℕ) (h : AreKept texts entries) (first : fewer ≡ take count entries)
     (cut : later ≡ take (end_of_last fewer) texts) where
   still : AreKept texts fewer
@@ -212,7 +212,7 @@ module _ (texts later : List ℕ) (entries fewer : List Packed) (count : ℕ) (h
   pub entries_fewer : map (entry_of later) fewer ≡ take count (map (entry_of texts) entries)
   entries_fewer = as_it_was ∙ ap (map (entry_of texts)) first ∙ sym (take-map (entry_of texts) count entries)
 
--- the entry at a place is that of what is kept there
+-- the entry at an index is the one stored there
 pub entry_there : (texts : List ℕ) (entries : List Packed) (place : ℕ) (kept : Packed) → place < length entries → kept ≡ get_or entries place kept
     → slice_get (map (entry_of texts) entries) place ≡ Some (entry_of texts kept)
 entry_there texts entries place kept within is =

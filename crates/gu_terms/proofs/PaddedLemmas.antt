@@ -1,4 +1,4 @@
--- Texts with zeros after them, compared by four bytes at a time and filled in byte by byte.
+-- Texts padded with zeros, compared four bytes at a time and filled in byte by byte.
 use Rattle.std.proofs.Common.{◌≡◌, Bool, true, subst, ℕ, zero, suc, ◌+◌, ◌-◌, ◌<◌, ◌≤◌, ◌++◌, List, [], ◌∷◌, length, take, drop, get_or, ap, ◌∙◌, sym, refl, arith}
 use Rattle.std.specs.Prelude.{replicate}
 use Rattle.std.specs.List.{AllPass}
@@ -13,11 +13,11 @@ use Rattle.gu_terms.specs.Padded.{padded}
 abbrev are_bytes : List ℕ → Type 0
 are_bytes xs = (i : ℕ) → get_or xs i 0 < 256
 
--- four of its elements, from a place on
+-- four of its elements, starting at an index
 abbrev four : ℕ → List ℕ → List ℕ
 four place xs = take 4 (drop place xs)
 
--- four of some bytes are bytes
+-- four elements of a list of bytes are bytes
 are_bytes-four : (xs : List ℕ) (place n : ℕ) → are_bytes xs → are_bytes (take n (drop place xs))
 are_bytes-four [] zero zero bytes i = omega arith
 are_bytes-four [] zero (suc n) bytes i = omega arith
@@ -28,7 +28,7 @@ are_bytes-four (x ∷ xs) zero (suc n) bytes zero = bytes 0
 are_bytes-four (x ∷ xs) zero (suc n) bytes (suc i) = are_bytes-four xs 0 n (λ k. bytes (suc k)) i
 are_bytes-four (x ∷ xs) (suc place) n bytes i = are_bytes-four xs place n (λ k. bytes (suc k)) i
 
--- four bytes are those of their number
+-- four bytes with the same number are the same
 four-same : (place : ℕ) (a b : List ℕ) → length (four place a) ≡ 4 → length (four place b) ≡ 4 → are_bytes a → are_bytes b
     → from_le_bytes w32 (four place a) ≡ from_le_bytes w32 (four place b) → four place a ≡ four place b
 four-same place a b long_a long_b bytes_a bytes_b same =
@@ -36,18 +36,18 @@ four-same place a b long_a long_b bytes_a bytes_b same =
     ∙ ap (to_le_bytes w32) same
     ∙ le_bytes_4 (four place b) _ long_b (are_bytes-four b place 4 bytes_b) refl
 
--- four of twelve
+-- four elements of twelve
 length-four : (place : ℕ) (xs : List ℕ) → place + 4 ≤ length xs → length (four place xs) ≡ 4
 length-four place xs within = omega (arith, length-take 4 (drop place xs), length-drop place xs)
 
--- twelve are three times four
+-- twelve elements are three times four
 three_fours : (xs : List ℕ) → length xs ≡ 12 → four 0 xs ++ (four 4 xs ++ four 8 xs) ≡ xs
 three_fours xs long =
     ap (λ l. take 4 xs ++ (four 4 xs ++ l)) (take_all 4 (drop 8 xs) (omega (arith, length-drop 8 xs)) ∙ sym (drop-drop 4 4 xs))
     ∙ ap (λ l. take 4 xs ++ l) (take-append-drop 4 (drop 4 xs))
     ∙ take-append-drop 4 xs
 
--- twelve bytes are those of their three numbers
+-- twelve bytes with the same three numbers are the same
 pub twelve-same : (a b : List ℕ) → length a ≡ 12 → length b ≡ 12 → are_bytes a → are_bytes b
     → from_le_bytes w32 (four 0 a) ≡ from_le_bytes w32 (four 0 b)
     → from_le_bytes w32 (four 4 a) ≡ from_le_bytes w32 (four 4 b)
@@ -59,11 +59,11 @@ twelve-same a b long_a long_b bytes_a bytes_b first second third =
     let at8 = four-same 8 a b (length-four 8 a (omega arith)) (length-four 8 b (omega arith)) bytes_a bytes_b third in
     sym (three_fours a long_a) ∙ (λ i. at0 i ++ (at4 i ++ at8 i)) ∙ three_fours b long_b
 
--- texts of one length are one where they are with zeros after them
+-- texts of one length are the same if they are when padded
 pub padded-same : (size : ℕ) (a b : List ℕ) → length a ≡ length b → padded size a ≡ padded size b → a ≡ b
 padded-same size a b long same = sym (take-append_seam a _) ∙ (λ i. take (long i) (same i)) ∙ take-append_seam b _
 
--- ---- zeros that are overwritten
+-- ---- zeros overwritten
 
 -- the next byte overwrites the first zero
 pub next_put : (bytes : List ℕ) (place : ℕ) → place < length bytes
@@ -87,6 +87,6 @@ next_put bytes place within =
     one_more : (n i : ℕ) → i < n → n - i ≡ suc (n - (i + 1))
     one_more n i h = omega (arith, h)
 
--- one more byte that passes a test
+-- one more byte passes a test
 pub next_passes : (p : ℕ → Bool) (bytes : List ℕ) (place : ℕ) → place < length bytes → AllPass p (take place bytes) → p (get_or bytes place 0) ≡ true → AllPass p (take (place + 1) bytes)
 next_passes p bytes place within pass is = subst (AllPass p) (sym (take_more bytes place 0 within)) (All-push (λ b. p b ≡ true) (take place bytes) (get_or bytes place 0) pass is)

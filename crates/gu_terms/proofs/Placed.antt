@@ -9,14 +9,14 @@ use Rattle.std.proofs.Math.Nat.{eq-or-lt_of_le}
 use Rattle.gu_terms.specs.declared.takes.Take.{Take}
 use Rattle.gu_terms.specs.Takes.{IsAscending, IsNamed, IsPlace, with_take}
 
--- takes of earlier offers stand before the others
+-- takes from earlier offers come before the others
 pub earlier_first : (takes : List Take) (offer : ℕ) → IsAscending takes → IsPartitionedBy (λ t. nat_lt t.offer offer) takes
 earlier_first takes offer h i j d le within earlier = lt-ltb _ _ (below (ltb-true _ _ earlier))
   where
     below : (get_or takes j d).offer < offer → (get_or takes i d).offer < offer
     below before = elim (eq-or-lt_of_le le) [ inl e ↦ rw e before | inr lt ↦ omega (arith, h i j d lt within) ]
 
--- where the last take is earlier, each is
+-- if the last take is earlier, each is
 pub IsPlace-last : (takes : List Take) (offer : ℕ) (last : Take) → IsAscending takes → 1 ≤ length takes → last ≡ get_or takes (length takes - 1) last → nat_lt last.offer offer ≡ true → IsPlace takes (length takes) offer
 IsPlace-last takes offer last h some is earlier = record {
   within = omega arith;
@@ -25,7 +25,7 @@ IsPlace-last takes offer last h some is earlier = record {
   after = λ k d low high. absurd (omega arith);
 }
 
--- what a search for the first take that isn't earlier finds
+-- the result of a search for the first take that isn't earlier
 pub IsPlace-partition : (takes : List Take) (offer place : ℕ) → place ≤ length takes
     → IsPartitionPoint (λ (t : Take). nat_lt t.offer offer ≡ true) (λ (t : Take). nat_lt t.offer offer ≡ false) takes place → IsPlace takes place offer
 IsPlace-partition takes offer place within h = record {
@@ -44,14 +44,14 @@ filter-all : {X : Type 0} (p : X → Bool) (xs : List X) → All (λ x. p x ≡ 
 filter-all p [] h = refl
 filter-all p (x ∷ xs) h = rw (h 0 x (omega arith)) (ap (λ l. x ∷ l) (filter-all p xs (λ k d within. h (suc k) d (omega arith))))
 
--- of takes that don't name the offer, those after its place are of later offers
+-- if takes don't name the offer, those after its place are from later offers
 later : (takes : List Take) (place offer : ℕ) → IsPlace takes place offer → (IsNamed takes offer → ⊥) → AllWithin (λ t. offer < t.offer) takes place (length takes)
 later takes place offer h unnamed k d low high = elim (cases_eq offer (get_or takes k d).offer) [
   | inl e ↦ absurd (unnamed (k, get_or takes k d, high, get_or_default takes k (get_or takes k d) d high, sym e))
   | inr apart ↦ omega (arith, h.after k d low high, apart)
 ]
 
--- where the offer is named, it is at its place
+-- if the offer is named, it is at its place
 pub offer_at_place : (takes : List Take) (place offer : ℕ) (d : Take) → IsAscending takes → IsPlace takes place offer → IsNamed takes offer → (place < length takes) × ((get_or takes place d).offer ≡ offer)
 offer_at_place takes place offer d asc h (k, t, within, at, is) =
     let same : (get_or takes k t).offer ≡ offer = ap (λ (s : Take). s.offer) at ∙ is in
@@ -60,7 +60,7 @@ offer_at_place takes place offer d asc h (k, t, within, at, is) =
     let here : k ≡ place = omega arith in
     (omega arith, ap (λ (s : Take). s.offer) (get_or_default takes place d t (omega arith)) ∙ subst (λ (n : ℕ). (get_or takes n t).offer ≡ offer) here same)
 
--- whether the take at the place is of the offer tells whether the offer is named
+-- the offer is named if and only if the take at its place is from it
 pub named_at_place : (takes : List Take) (place offer : ℕ) (d : Take) (is_there : Bool) → IsAscending takes → IsPlace takes place offer → place < length takes
     → is_there ≡ eqb (get_or takes place d).offer offer → IsTrue is_there ↔ IsNamed takes offer
 named_at_place takes place offer d is_there asc h within told = (
@@ -68,7 +68,7 @@ named_at_place takes place offer d is_there asc h within told = (
   λ named. told ∙ eq-eqb _ _ (offer_at_place takes place offer d asc h named).1,
 )
 
--- a take put in its place stands among the earlier and the later ones
+-- a take inserted in its place comes between the earlier and the later ones
 pub insert-place : (takes : List Take) (place : ℕ) (t : Take) → IsPlace takes place t.offer → (IsNamed takes t.offer → ⊥) → insert takes place t ≡ with_take takes t
 insert-place takes place t h unnamed = go takes place (λ k d low high. h.before k d low high) (later takes place t.offer h unnamed)
   where
@@ -85,7 +85,7 @@ insert-place takes place t h unnamed = go takes place (λ k d low high. h.before
         let not_first : nat_lt t.offer s.offer ≡ false = le-ltb _ _ (omega arith) in
         rw (is_first, not_first) (ap (λ l. s ∷ l) (go takes place (λ k d low high. before (suc k) d (omega arith) (omega arith)) (λ k d low high. after (suc k) d (omega arith) (omega arith))))
 
--- what each of a list and a further element has, each has after an insertion
+-- a property of a list's elements and of another element is one of each after an insertion
 All-insert : {X : Type 0} (P : X → Type 0) (xs : List X) (place : ℕ) (x : X) → All P xs → P x → All P (insert xs place x)
 All-insert P [] zero x h hx zero d within = hx
 All-insert P [] zero x h hx (suc k) d within = absurd (omega arith)
@@ -96,7 +96,7 @@ All-insert P (y ∷ ys) zero x h hx (suc k) d within = h k d (omega arith)
 All-insert P (y ∷ ys) (suc place) x h hx zero d within = h 0 d (omega arith)
 All-insert P (y ∷ ys) (suc place) x h hx (suc k) d within = All-insert P ys place x (λ k d within. h (suc k) d (omega arith)) hx k d (omega arith)
 
--- and the offers still ascend
+-- the offers still ascend
 pub insert_ascends : (takes : List Take) (place : ℕ) (t : Take) → IsPlace takes place t.offer → (IsNamed takes t.offer → ⊥) → IsAscending takes → IsAscending (insert takes place t)
 insert_ascends takes place t h unnamed asc = go takes place (λ k d low high. h.before k d low high) (later takes place t.offer h unnamed) asc
   where

@@ -15,12 +15,12 @@ use Rattle.gu_terms.specs.declared.refusal.Refusal.TheVariants.{NoDay, WrongDay,
 name_printed : (b : ℕ) → is_name_byte b ≡ true → is_printed_byte b ≡ true
 name_printed b is = grind (arith, nat_tests)
 
--- printed bytes, at most twenty
+-- a text of at most twenty printed bytes
 printed : (text : List ℕ) → list_all is_printed_byte text ≡ true → 1 ≤ length text → length text ≤ 20 → IsRefusalText text
 printed text each some most =
     record { some = some; most = omega (arith, most); each = AllPass-from_list_all is_printed_byte text each }
 
--- and a name after them
+-- a name after printed bytes
 printed_name : (front name : List ℕ) → list_all is_printed_byte front ≡ true → 1 ≤ length front → length front ≤ 20 → IsName name
     → IsRefusalText (front ++ name)
 printed_name front name each some most is = record {
@@ -29,7 +29,7 @@ printed_name front name each some most is = record {
   each = All-append (λ b. is_printed_byte b ≡ true) front name (AllPass-from_list_all is_printed_byte front each) (All-weaker _ _ name_printed name is.each);
 }
 
--- the text of a refusal, whose key has a name
+-- the text of a refusal whose key has a valid name
 pub refusal_text : (refusal : Refusal) → MatchOption (key_in refusal) (Unit {0}) (λ key. IsName (name_of_key key)) → IsRefusalText (text_of refusal)
 refusal_text NoDay is = printed (codes "NoDay") refl (omega arith) (omega arith)
 refusal_text WrongDay is = printed (codes "WrongDay") refl (omega arith) (omega arith)

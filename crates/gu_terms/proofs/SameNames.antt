@@ -1,4 +1,4 @@
--- Names and ids that are found the same are one.
+-- Names and ids that compare as the same are equal.
 use Rattle.std.proofs.Common.{◌≡◌, true}
 use Rattle.std.proofs.lemmas.Cmp.{nat_list_eq_equiv}
 use Rattle.std.proofs.lemmas.Slice.Eq.{bytes_eq-Decides}
@@ -9,7 +9,7 @@ use Rattle.gu_terms.specs.declared.group.Group.{Group}
 use Rattle.gu_terms.specs.declared.id.Id.{Id}
 use Rattle.gu_terms.specs.declared.symbol.Symbol.{Symbol}
 
--- the same are one
+-- names that compare as the same are equal
 pub same_firm-true : (a b : FirmId) → same_firm a b ≡ true → a ≡ b
 same_firm-true a b h = λ i. record { name = (bytes_eq-Decides a.name b.name).0 h i }
 
@@ -25,7 +25,7 @@ same_symbol-true a b h = λ i. record { name = (bytes_eq-Decides a.name b.name).
 pub same_id-true : (a b : Id) → same_id a b ≡ true → a ≡ b
 same_id-true a b h = (bytes_eq-Decides a b).0 h
 
--- each is its own
+-- each is the same as itself
 pub same_firm-own : (a : FirmId) → same_firm a a ≡ true
 same_firm-own a = nat_list_eq_equiv.refl a.name
 
@@ -41,7 +41,7 @@ same_symbol-own a = nat_list_eq_equiv.refl a.name
 pub same_id-own : (a : Id) → same_id a a ≡ true
 same_id-own a = nat_list_eq_equiv.refl a
 
--- whichever is named first
+-- the order of the two doesn't matter
 pub same_account-turned : (a b : AccountId) → same_account a b ≡ same_account b a
 same_account-turned a b = nat_list_eq_equiv.symm a.name b.name
 

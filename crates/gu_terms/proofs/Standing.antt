@@ -1,4 +1,4 @@
--- The entry that stands at a place of a table: a look-up finds it, and what is written there is written for its key.
+-- The entry at an index of a table: a look-up finds it, and a write there is a write for its key.
 use Rattle.std.proofs.Common.{◌≡◌, ◌∙◌, sym, ap, refl, inl, inr, ℕ, suc, zero, Bool, true, false, List, [], ◌∷◌, slice_get, Some}
 use Rattle.std.specs.Cmp.{IsEquivalence}
 use Rattle.std.specs.List.{AllByRecursion, IsDistinct}
@@ -7,13 +7,13 @@ use Rattle.std.proofs.lemmas.Bool.{cases_Bool}
 use Rattle.indexmap.specs.IndexMap.{set_value_at}
 use Rattle.gu_terms.specs.Standing.{StandsAt}
 
--- keys that are found the same are one
+-- keys that compare as the same are equal
 module _ {K V : Type 0} (same : K → K → Bool) (laws : IsEquivalence same) (one : (a b : K) → same a b ≡ true → a ≡ b) where
-  -- an entry stands at its place for a key that is its own
+  -- an entry is at its index for its own key
   pub stands-where : (entries : List (K × V)) (key found : K) (value : V) (place : ℕ) → same found key ≡ true → slice_get entries place ≡ Some (found, value) → StandsAt entries key place
   stands-where entries key found value place own here = record { value = value; here = here ∙ (λ i. Some (one found key own i, value)) }
 
-  -- a key that is found is the one that was looked for
+  -- a key that is found is the one looked for
   pub found_key : (key : K) (entries : List (K × V)) (found : K) → Some found ≡ lookup_key (same key) entries → found ≡ key
   found_key key [] found is = cc
   found_key key (e ∷ entries) found is =
@@ -60,14 +60,14 @@ module _ {K V : Type 0} (same : K → K → Bool) (laws : IsEquivalence same) (o
   value-at (first ∷ entries) (suc place) e h = value-at entries place e h
 
   module _ (entries : List (K × V)) (key : K) (place : ℕ) (stands : StandsAt entries key place) where
-    -- there is something at its place
+    -- there is an entry at its index
     pub value-standing : slice_get (values_of entries) place ≡ Some stands.value
     value-standing = value-at entries place (key, stands.value) stands.here
 
-    -- it is what a look-up finds, where keys are apart
+    -- a look-up finds it, if keys are distinct
     pub lookup-standing : IsDistinct same (keys_of entries) → (value : V) → Some value ≡ slice_get (values_of entries) place → lookup (same key) entries ≡ Some value
     lookup-standing once value there = lookup-at entries place key stands.value once stands.here ∙ sym value-standing ∙ sym there
 
-    -- and what is written there is written for its key
+    -- a write there is a write for its key
     pub set_value_at-standing : IsDistinct same (keys_of entries) → (w : V) → set_value_at entries place w ≡ set_value (same key) entries w
     set_value_at-standing once w = written-at entries place key stands.value w once stands.here

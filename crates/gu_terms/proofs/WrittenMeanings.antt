@@ -1,4 +1,4 @@
--- What days and prices are written as means them.
+-- The texts written for days and prices mean them.
 use Rattle.std.proofs.Common.{◌≡◌, ◌==◌, ◌&&◌, ◌||◌, ◌<◌, ◌≤◌, ◌+◌, ◌*◌, ◌^◌, ◌/◌, ◌%◌, ◌++◌, ◌∙◌, ℕ, ℤ, pos, neg_ℤ, negsuc, Bool, true, false, cond, List, [], ◌∷◌, length, take, drop, codes, refl, ap, sym, subst, arith}
 use Rattle.std.specs.Prelude.{int_lt, unsigned_abs}
 use Rattle.std.specs.Char.{digit_value}
@@ -108,7 +108,7 @@ none : (ds : List ℕ) → (length ds == 0) ≡ true → ds ≡ []
 none [] is = refl
 none (d ∷ ds) is = absurd (grind (arith, nat_tests))
 
--- what trimmed digits write is the same part of a unit
+-- trimmed digits mean the same fraction of a unit
 trimmed_value : (ds : List ℕ) → digits_value 10 (trimmed_digits ds) * 10 ^ length ds ≡ digits_value 10 ds * 10 ^ length (trimmed_digits ds)
 trimmed_value [] = refl
 trimmed_value (d ∷ ds) =
@@ -166,7 +166,7 @@ point_after : (ds rest : List ℕ) → AllDigits 10 ds → position_or_len (λ b
 point_after [] rest all = omega arith
 point_after (d ∷ ds) rest all = rw (not_point d all.0) (omega (arith, point_after ds rest all.1))
 
--- what stands before the point is these digits, and after it are those
+-- the digits before and after the point
 before_point : (ds more : List ℕ) → AllDigits 10 ds → before_first (λ b. b == 46) (ds ++ 46 ∷ more) ≡ ds
 before_point ds more all =
     let at : position_or_len (λ b. b == 46) (ds ++ 46 ∷ more) ≡ length ds = omega (arith, point_after ds (46 ∷ more) all) in
@@ -177,7 +177,7 @@ after_point ds more all =
     let at : position_or_len (λ b. b == 46) (ds ++ 46 ∷ more) ≡ length ds = omega (arith, point_after ds (46 ∷ more) all) in
     ap (λ (n : ℕ). drop (n + 1) (ds ++ 46 ∷ more)) at ∙ drop-append-add ds (46 ∷ more) 1
 
--- without a point all are before it
+-- without a point, all digits are before it
 no_point : (ds : List ℕ) → AllDigits 10 ds → position_or_len (λ b. b == 46) ds ≡ length ds
 no_point ds all = omega (arith, point_after ds [] all, ap (λ (xs : List ℕ). position_or_len (λ b. b == 46) xs) (append-nil ds))
 
@@ -189,7 +189,7 @@ after_none ds all = ap (λ (n : ℕ). drop (n + 1) ds) (no_point ds all) ∙ dro
 
 -- ---- a text is taken apart
 
--- a sign before digits and what comes after them
+-- a minus before digits and the rest
 abbrev pub signed : Bool → List ℕ → List ℕ
 signed true text = 45 ∷ text
 signed false text = text
@@ -204,7 +204,7 @@ unsigned-signed true ds rest all some = refl
 unsigned-signed false [] rest all some = absurd (omega arith)
 unsigned-signed false (d ∷ ds) rest all some = rw (not_minus d all.0) refl
 
--- digits, and no point
+-- digits without a point
 pub whole_apart : (b : Bool) (ds : List ℕ) → AllDigits 10 ds → 1 ≤ length ds → IsTakenApart (signed b (ds ++ [])) b ds []
 whole_apart b ds all some =
     let body : unsigned_text (signed b (ds ++ [])) ≡ ds = unsigned-signed b ds [] all some ∙ append-nil ds in
@@ -221,7 +221,7 @@ whole_apart b ds all some =
       fraction_is = fraction;
     }
 
--- digits, a point and more of them
+-- digits, a point and more digits
 pub parts_apart : (b : Bool) (ds more : List ℕ) → AllDigits 10 ds → AllDigits 10 more → 1 ≤ length ds → IsTakenApart (signed b (ds ++ 46 ∷ more)) b ds more
 parts_apart b ds more all all_more some =
     let body : unsigned_text (signed b (ds ++ 46 ∷ more)) ≡ ds ++ 46 ∷ more = unsigned-signed b ds (46 ∷ more) all some in
@@ -240,7 +240,7 @@ parts_apart b ds more all all_more some =
 
 -- ---- lots and prices
 
--- a number of lots is written as it is read
+-- a number of lots is read back
 pub decimal_means_lots : (n : ℕ) → IsLots n → MeansLots (decimal n) n
 decimal_means_lots n is =
     let numeral = decimal_is_IsNumeral n (omega (arith, is.most)) in
@@ -251,7 +251,7 @@ decimal_means_lots n is =
     signed_plain : (ds : List ℕ) → signed false (ds ++ []) ≡ ds
     signed_plain ds = append-nil ds
 
--- a price is a sign and a size below a thousand million units
+-- a price is a sign and a size below 1,000,000,000 units
 price_is_small : (z : ℤ) → IsPrice z → unsigned_abs z ≤ 999999999999999
 price_is_small z is =
     let least = is.least in
@@ -273,12 +273,12 @@ price_as_signed z = by (int_lt z (pos 0))
     by true = refl
     by false = refl
 
--- trimmed digits count the millionths that six of them write
+-- trimmed digits count the millionths of six digits
 trimmed_count : (ds : List ℕ) (n : ℕ) → length ds ≡ 6 → digits_value 10 ds ≡ n → CountsMillionths (trimmed_digits ds) n
 trimmed_count ds n six is =
     sym (ap (λ (k : ℕ). digits_value 10 (trimmed_digits ds) * 10 ^ k) six) ∙ trimmed_value ds ∙ ap (λ (k : ℕ). k * 10 ^ length (trimmed_digits ds)) is
 
--- a price by its units, and six digits of its millionths
+-- a price as its units and six digits of millionths
 by_digits : (z : ℤ) (units millionths : ℕ) → IsPrice z → units ≡ unsigned_abs z / 1000000 → millionths ≡ unsigned_abs z % 1000000
     → (ds : List ℕ) → length ds ≡ 6 → AllDigits 10 ds → digits_value 10 ds ≡ millionths
     → (b : Bool) → (millionths == 0) ≡ b → MeansPrice (signed (int_lt z (pos 0)) (decimal units ++ cond b [] (46 ∷ trimmed_digits ds))) z
@@ -305,7 +305,7 @@ by_digits z units millionths is units_are millionths_are ds six all writes b tel
         (trimmed_count ds millionths six writes)
         (sized (units * 1000000 + millionths) (omega arith))
 
--- a price is written as it is read
+-- a price is read back
 pub price_text_means : (z : ℤ) → IsPrice z → MeansPrice (price_text z) z
 unfolding fraction_text
 price_text_means z is =

@@ -1,4 +1,4 @@
--- Why a carrying firm refuses an offer: the values of AllocStatus, tag 87 (FIX 5.0 SP2), that refuse.
+-- A carrying firm's reasons for refusing an offer: the rejecting values of AllocStatus, tag 87 (FIX 5.0 SP2).
 use Rattle.std.specs.Prelude.{ℕ}
 use Rattle.gu_terms.specs.declared.alloc_reject.AllocReject.{AllocReject}
 use Rattle.gu_terms.specs.declared.alloc_reject.AllocReject.TheVariants.{BlockLevel, AccountLevel, Intermediary}

@@ -1,9 +1,9 @@
--- Commands, as they may be asked.
+-- Commands that may be entered.
 use Rattle.gu_terms.specs.Lines.{AreLines}
 use Rattle.gu_terms.specs.declared.command.Command.{Command}
 use Rattle.gu_terms.specs.declared.command.Command.TheVariants.{GiveUp}
 
--- a command that may be asked: a give-up has one to sixteen lines
+-- a command that may be entered: a give-up must have one to sixteen lines
 abbrev pub MayBeAsked : Command → Type 0
 MayBeAsked (GiveUp give_up) = AreLines give_up.lines
 MayBeAsked command = Unit {0}

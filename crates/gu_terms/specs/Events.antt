@@ -1,4 +1,4 @@
--- Events: what entries did of which firms get notices.
+-- Events: what entries did that firms get notices of.
 use Rattle.std.specs.Prelude.{true, List, [], length}
 use Rattle.gu_terms.specs.declared.command.Command.TheVariants.{ReportSide, GiveUp, Claim, Refuse, Reverse}
 use Rattle.gu_terms.specs.declared.entry.Entry.{Entry}
@@ -9,8 +9,8 @@ use Rattle.gu_terms.specs.declared.reply.Done.TheVariants.{Reported, Offered, Cl
 use Rattle.gu_terms.specs.declared.reply.Reply.TheVariants.{Accepted}
 use Rattle.gu_terms.specs.declared.takes.Take.{Take}
 
--- what an entry did: a report made a trade, a give-up made an offer of each line, lots of an offer
--- were claimed, refused or moved back, or a group was swept; all else is no event
+-- what an entry did: a report made a trade, a give-up made an offer for each line, lots of an offer were claimed, refused or moved back, or
+-- a group was swept; any other entry has no event
 abbrev pub event_of : Entry → EntryEvent
 event_of (Asked (ReportSide report) (Accepted (Reported true))) = event.Matched report.match_id
 event_of (Asked (GiveUp give_up) (Accepted (Offered group first count))) = event.Offered first (length give_up.lines)
@@ -20,7 +20,7 @@ event_of (Asked (Reverse reversal) (Accepted (Reversed lots))) = event.Reversed 
 event_of (Swept sweep) = event.Swept
 event_of entry = event.Other
 
--- the takes of a sweep; any other entry has none
+-- the takes of a sweep, and none for any other entry
 abbrev pub takes_of : Entry → List Take
 takes_of (Swept sweep) = sweep.takes
 takes_of entry = []

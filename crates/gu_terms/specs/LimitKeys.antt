@@ -1,4 +1,4 @@
--- What limits are set on.
+-- What limits apply to.
 use Rattle.std.specs.Prelude.{ℕ, Bool, false, List, [], ◌∷◌, Option, codes}
 use Rattle.std.specs.List.{find, list_any}
 use Rattle.std.specs.Str.{bytes_eq}
@@ -24,7 +24,7 @@ name_of_key (Acct account) = account.name
 name_of_key (Carry firm) = firm.name
 name_of_key (Guar firm) = firm.name
 
--- the key of this kind and this name
+-- the key of this kind with this name
 abbrev pub key_by : KeyKind → Name → LimitKey
 key_by kind.Exec name = Exec (record { name = name })
 key_by kind.Agr name = Agr (record { name = name })
@@ -32,13 +32,13 @@ key_by kind.Acct name = Acct (record { name = name })
 key_by kind.Carry name = Carry (record { name = name })
 key_by kind.Guar name = Guar (record { name = name })
 
--- the keys of a name, one of each kind
+-- the keys with this name, one of each kind
 abbrev pub keys_named : Name → List LimitKey
 keys_named name =
     Exec (record { name = name }) ∷ Agr (record { name = name }) ∷ Acct (record { name = name })
     ∷ Carry (record { name = name }) ∷ Guar (record { name = name }) ∷ []
 
--- the key of a kind, by its word, and a name
+-- the key with this word for its kind and this name, if there is such a kind
 abbrev pub key_of : List ℕ → Name → Option LimitKey
 key_of kind name = find (λ key. bytes_eq (kind_of key) kind) (keys_named name)
 
@@ -51,6 +51,6 @@ key_eq (Carry a) (Carry b) = bytes_eq a.name b.name
 key_eq (Guar a) (Guar b) = bytes_eq a.name b.name
 key_eq _ _ = false
 
--- a key is among these
+-- a key is in this list
 abbrev pub has_key : List LimitKey → LimitKey → Bool
 has_key keys k = list_any (λ j. key_eq j k) keys

@@ -1,4 +1,4 @@
--- Names of the house's own, and ids of the firms'.
+-- Names that the house gives, and ids that firms give.
 use Rattle.std.specs.Prelude.{ℕ, Bool, ◌≤◌, ◌==◌, ◌||◌, ◌&&◌, nat_le, List, length}
 use Rattle.std.specs.List.{AllPass, list_all}
 
@@ -12,11 +12,11 @@ pub record IsName (bytes : List ℕ) : Type 0 where
   pub most : length bytes ≤ 12
   pub each : AllPass is_name_byte bytes
 
--- whether the bytes are a name's
+-- whether these bytes are a name
 abbrev pub is_name : List ℕ → Bool
 is_name bytes = nat_le 1 (length bytes) && nat_le (length bytes) 12 && list_all is_name_byte bytes
 
--- a byte of printed ASCII that is no blank
+-- a byte of printable ASCII other than the space
 abbrev pub is_id_byte : ℕ → Bool
 is_id_byte b = nat_le 33 b && nat_le b 126
 

@@ -1,4 +1,4 @@
--- The path of an offer: the keys that it comes under.
+-- The path of an offer: the limit keys that apply to it.
 use Rattle.std.specs.Prelude.{◌≡◌, ℕ, ◌==◌, List, [], ◌∷◌, length, Option, None, Some, if◌then◌else◌, refl}
 use Rattle.gu_terms.specs.declared.account.AccountId.{AccountId}
 use Rattle.gu_terms.specs.declared.agreement.AgreementId.{AgreementId}
@@ -8,33 +8,33 @@ use Rattle.gu_terms.specs.declared.limit_key.LimitKey.TheVariants.{Exec, Agr, Ac
 use Rattle.gu_terms.specs.declared.path.Keys.{Keys}
 use Rattle.gu_terms.specs.declared.path.Keys.TheVariants.{Four, Five}
 
--- the key of a guarantor, where there is one
+-- the key of a guarantor, if there is one
 abbrev pub guarantor_key : Option FirmId → List LimitKey
 guarantor_key None = []
 guarantor_key (Some firm) = Guar firm ∷ []
 
--- the keys of a path, in order: executing firm, agreement, account, carrying firm, and its guarantor, where it has one
+-- the keys of a path, in order: executing firm, agreement, account, carrying firm, and its guarantor if it has one
 abbrev pub path_through : FirmId → AgreementId → AccountId → FirmId → Option FirmId → List LimitKey
 path_through executing agreement account carrying guarantor =
     Exec executing ∷ Agr agreement ∷ Acct account ∷ Carry carrying ∷ guarantor_key guarantor
 
--- ---- how a path is kept
+-- ---- how a path is stored
 
--- the keys that are kept
+-- the stored keys
 abbrev pub listed : Keys → List LimitKey
 listed (Four keys) = keys
 listed (Five keys) = keys
 
--- how many they are
+-- the number of stored keys
 abbrev pub size_of : Keys → ℕ
 size_of (Four keys) = 4
 size_of (Five keys) = 5
 
--- keys as they are kept
+-- keys as stored
 abbrev pub kept : List LimitKey → Keys
 kept keys = if length keys == 5 then Five keys else Four keys
 
--- what is kept is determined by the keys
+-- the keys determine the stored form
 pub kept-listed : (keys : Keys) → length (listed keys) ≡ size_of keys → kept (listed keys) ≡ keys
 kept-listed (Four keys) h = rw h refl
 kept-listed (Five keys) h = rw h refl

@@ -1,4 +1,4 @@
--- Why a command is refused: each refusal's number, its name and its text.
+-- Why a command is refused: the number, name and text of each refusal.
 use Rattle.std.specs.Prelude.{ℕ, Bool, ◌≤◌, ◌==◌, ◌&&◌, if◌then◌else◌, nat_le, ◌++◌, ◌∷◌, List, length, Option, None, Some, codes}
 use Rattle.std.specs.List.{AllPass}
 use Rattle.std.specs.Option.{option_map_or}
@@ -7,7 +7,7 @@ use Rattle.gu_terms.specs.declared.limit_key.LimitKey.{LimitKey}
 use Rattle.gu_terms.specs.declared.refusal.Refusal.{Refusal}
 use Rattle.gu_terms.specs.declared.refusal.Refusal.TheVariants.{NoDay, WrongDay, UnknownInstrument, UnknownAccount, NotYours, DuplicateId, MatchConflict, UnknownTrade, NotMatched, NoAgreement, TooManyLots, TooManyOffers, UnknownOffer, OfferClosed, LimitReached, UnknownKey, TooHigh, OfferOpen, NothingToReverse}
 
--- its number: of those whose condition holds, the least is the reply
+-- its number; if several conditions hold, the reply is the refusal with the least number
 abbrev pub number_of : Refusal → ℕ
 number_of NoDay = 1
 number_of WrongDay = 2
@@ -29,7 +29,7 @@ number_of TooHigh = 17
 number_of OfferOpen = 18
 number_of NothingToReverse = 19
 
--- the refusal of this number, of those that name no key
+-- the refusal with this number, among those that name no key; NothingToReverse for any other number
 abbrev pub refusal_of : ℕ → Refusal
 refusal_of number =
     if number == 1 then NoDay
@@ -73,20 +73,20 @@ name_of TooHigh = codes "TooHigh"
 name_of OfferOpen = codes "OfferOpen"
 name_of NothingToReverse = codes "NothingToReverse"
 
--- a name, and after it a blank, the kind of a key, a blank and its name
+-- a name, followed by a space, the kind of a key, a space and the key's name
 abbrev pub named_with_key : List ℕ → LimitKey → List ℕ
 named_with_key name key = name ++ 32 ∷ kind_of key ++ 32 ∷ name_of_key key
 
--- the key that it names
+-- the key that it names, if it names one
 abbrev pub key_in : Refusal → Option LimitKey
 key_in (LimitReached key) = Some key
 key_in _ = None
 
--- its text in a reply: its name, and after it the key that it names
+-- its text in a reply: its name, followed by the key if it names one
 abbrev pub text_of : Refusal → List ℕ
 text_of refusal = option_map_or (named_with_key (name_of refusal)) (key_in refusal) (name_of refusal)
 
--- a byte of printed ASCII, the blank among them
+-- a byte of printable ASCII, or a space
 abbrev pub is_printed_byte : ℕ → Bool
 is_printed_byte b = nat_le 32 b && nat_le b 126
 

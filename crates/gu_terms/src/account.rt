@@ -12,7 +12,7 @@ pub struct AccountId {
 }
 
 impl AccountId {
-    /// The account with this name.
+    /// Returns the account with this name.
     pub fn new(bytes: &[u8]) -> Option<Self>
         ensures sound { IsSome result ↔ IsName bytes.now }
         ensures same { IfSome result (λ account. account.name ≡ bytes.now) }
@@ -20,7 +20,7 @@ impl AccountId {
         Name::new(bytes).map(|name| AccountId { name })
     }
 
-    /// Its name.
+    /// Returns its name.
     pub fn get(&self) -> &[u8]
         ensures bytes { result.now ≡ self.now.name }
         ensures sound { IsName self.now.name }

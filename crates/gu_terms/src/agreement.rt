@@ -12,7 +12,7 @@ pub struct AgreementId {
 }
 
 impl AgreementId {
-    /// The agreement with this name.
+    /// Returns the agreement with this name.
     pub fn new(bytes: &[u8]) -> Option<Self>
         ensures sound { IsSome result ↔ IsName bytes.now }
         ensures same { IfSome result (λ agreement. agreement.name ≡ bytes.now) }
@@ -20,7 +20,7 @@ impl AgreementId {
         Name::new(bytes).map(|name| AgreementId { name })
     }
 
-    /// Its name.
+    /// Returns its name.
     pub fn get(&self) -> &[u8]
         ensures bytes { result.now ≡ self.now.name }
         ensures sound { IsName self.now.name }

@@ -4,7 +4,7 @@ ghost use Rattle.std.specs.Prelude.{◌≡◌, ◌≢◌, MatchOption};
 ghost use Rattle.gu_terms.specs.AllocRejects.{reject_number};
 ghost use Rattle.gu_terms.specs.declared.alloc_reject.AllocReject.{AllocReject as RejectOf};
 
-/// Why a carrying firm refuses an offer (FIX: AllocStatus, tag 87, of a refusal). The house passes it on and doesn't look at it.
+/// A carrying firm's reason for refusing an offer (FIX: AllocStatus, tag 87). The house passes it on without acting on it.
 #[derive(Clone, Copy, Debug, PartialEq, Eq)]
 pub enum AllocReject {
     BlockLevel,
@@ -13,7 +13,7 @@ pub enum AllocReject {
 }
 
 impl AllocReject {
-    /// The reason of a number.
+    /// Returns the reason with this number.
     pub fn of(number: u64) -> Option<AllocReject>
         ensures { MatchOption result ((reject : RejectOf) → number ≢ reject_number reject)
             (λ reject. number ≡ reject_number reject) }
@@ -26,7 +26,7 @@ impl AllocReject {
         }
     }
 
-    /// Its number.
+    /// Returns its number.
     pub fn number(self) -> u64
         ensures { result ≡ reject_number self }
     {

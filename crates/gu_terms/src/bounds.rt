@@ -1,19 +1,19 @@
-//! The numbers that bound what the house takes in.
+//! The limits on what the house accepts.
 
-/// The lots that a trade, a give-up or an offer has at most.
+/// The most lots in a trade, a give-up or an offer.
 pub const MOST_LOTS: u64 = 1_000_000;
 
-/// The lots that a daily limit may have at most, and so the room under one.
+/// The most lots that a daily limit may have, and so the most room under one.
 pub const MOST_LIMIT: u64 = 1_000_000_000;
 
-/// The lines that a give-up has at most.
+/// The most lines in a give-up.
 pub const MOST_LINES: usize = 16;
 
-/// The highest number of an offer, over the whole book: sixteen an entry.
+/// The highest number of an offer in the whole book: sixteen for each entry.
 pub const MOST_OFFERS: u64 = 16_000_000;
 
-/// The open offers that a product group has at most.
+/// The most open offers in a product group.
 pub const MOST_OPEN_OFFERS: usize = 4_096;
 
-/// The entries that a history has at most.
+/// The most entries in a history.
 pub const MOST_ENTRIES: usize = 1_000_000;

@@ -1,4 +1,4 @@
-//! What is asked of the house.
+//! Commands to the house.
 
 ghost use Rattle.std.specs.Prelude.{◌≡◌, ◌↔◌, IsTrue, IfOk};
 ghost use Rattle.gu_terms.specs.Commands.{MayBeAsked};
@@ -18,13 +18,13 @@ use crate::side::Side;
 use crate::symbol::Symbol;
 use std::alloc::AllocError;
 
-/// The house opens a day, which is later than the one before.
+/// A command to open a day, which must be later than the day before.
 #[derive(Clone, Copy, Debug)]
 pub struct OpenDay {
     pub day: Day,
 }
 
-/// A daily limit on lots, in one product group.
+/// A command to set a daily limit, in lots, in one product group.
 #[derive(Clone, Copy, Debug, PartialEq, Eq)]
 pub struct SetLimit {
     pub group: Group,
@@ -32,7 +32,7 @@ pub struct SetLimit {
     pub lots: u64,
 }
 
-/// A firm reports its side of a trade (FIX: Trade Capture Report). Two sides with one match id are a trade.
+/// A firm's report of its side of a trade (FIX: Trade Capture Report). Two sides with one match id make a trade.
 #[derive(Clone, Copy, Debug)]
 pub struct ReportSide {
     pub firm: FirmId,
@@ -41,31 +41,31 @@ pub struct ReportSide {
     pub symbol: Symbol,
     pub lots: Lots,
     pub price: Price,
-    /// The open day, where none is given.
+    /// The trade's day; the open day if it is None.
     pub day: Option<Day>,
     pub side: Side,
     pub account: AccountId,
 }
 
-/// An executing firm gives lots of a report of its own up, a line an account (FIX: Allocation Instruction).
+/// An executing firm's give-up of lots of its own report, one line an account (FIX: Allocation Instruction).
 #[derive(Debug, Drop)]
 pub struct GiveUp {
     pub firm: FirmId,
-    /// The firm's own id of the give-up. Reports have ids apart from these.
+    /// The firm's own id for the give-up. Reports have a separate set of ids.
     pub id: Id,
-    /// The firm's id of the report.
+    /// The firm's id for the report.
     pub report: Id,
     pub lines: Lines,
 }
 
-/// A carrying firm claims all that is left of an offer (FIX: Allocation Report Ack).
+/// A carrying firm's claim of all that is left of an offer (FIX: Allocation Report Ack).
 #[derive(Clone, Copy, Debug, PartialEq, Eq)]
 pub struct Claim {
     pub firm: FirmId,
     pub offer: OfferNo,
 }
 
-/// A carrying firm refuses what is left of an offer.
+/// A carrying firm's refusal of what is left of an offer.
 #[derive(Clone, Copy, Debug, PartialEq, Eq)]
 pub struct Refuse {
     pub firm: FirmId,
@@ -73,14 +73,14 @@ pub struct Refuse {
     pub why: AllocReject,
 }
 
-/// A carrying firm takes back what was moved of an offer since the day was opened.
+/// A carrying firm's reversal of what was moved for an offer since the day was opened.
 #[derive(Clone, Copy, Debug, PartialEq, Eq)]
 pub struct Reverse {
     pub firm: FirmId,
     pub offer: OfferNo,
 }
 
-/// What a caller asks to be entered.
+/// A command that a caller asks the house to enter.
 #[derive(Debug, Drop)]
 pub enum Command {
     OpenDay(OpenDay),
@@ -92,7 +92,7 @@ pub enum Command {
     Reverse(Reverse),
 }
 
-/// Whether two reports name one day, or neither a day.
+/// Returns whether two reports name the same day, or neither names one.
 fn is_same_day(day: Option<Day>, other: Option<Day>) -> bool
     ensures { IsTrue result ↔ (day ≡ other) }
 {
@@ -104,7 +104,7 @@ fn is_same_day(day: Option<Day>, other: Option<Day>) -> bool
 }
 
 impl ReportSide {
-    /// Whether two reports are the same.
+    /// Returns whether two reports are the same.
     fn is_same(&self, other: &ReportSide) -> bool
         ensures { IsTrue result ↔ (self.now ≡ other.now) }
     {
@@ -121,7 +121,7 @@ impl ReportSide {
 }
 
 impl GiveUp {
-    /// A copy.
+    /// Returns a copy.
     fn copy(&self) -> Result<GiveUp, AllocError>
         ensures { IfOk result (λ give_up. give_up ≡ self.now) }
     {
@@ -134,7 +134,7 @@ impl GiveUp {
         })
     }
 
-    /// Whether two give-ups are the same.
+    /// Returns whether two give-ups are the same.
     fn is_same(&self, other: &GiveUp) -> bool
         ensures { IsTrue result ↔ (self.now ≡ other.now) }
     {
@@ -146,7 +146,7 @@ impl GiveUp {
 }
 
 impl Command {
-    /// What the type of a give-up's lines keeps. Nothing is done: callers show it to the prover.
+    /// Shows the prover the invariant of a give-up's lines. Does nothing at run time.
     pub fn rules(&self)
         ensures { MayBeAsked self.now }
     {
@@ -155,7 +155,7 @@ impl Command {
         }
     }
 
-    /// A copy.
+    /// Returns a copy.
     pub fn copy(&self) -> Result<Command, AllocError>
         ensures { IfOk result (λ command. command ≡ self.now) }
     {
@@ -170,7 +170,7 @@ impl Command {
         })
     }
 
-    /// Whether two commands are the same.
+    /// Returns whether two commands are the same.
     pub fn is_same(&self, other: &Command) -> bool
         ensures { IsTrue result ↔ (self.now ≡ other.now) }
     {

@@ -12,14 +12,13 @@ use indexmap::IndexSet;
 use std::alloc::{AllocError, Global};
 use std::marker::Model;
 
-/// A set of limit keys and of offers, each in the order in which it was made.
-/// To a contract it is these two lists.
+/// A set of limit keys and a set of offers, each in the order of insertion. To a contract it is these two lists.
 pub struct Cut {
     keys: IndexSet<LimitKey, Seed>,
     offers: IndexSet<OfferNo, Seed>,
 }
 
-// By hand, so that a caller's exit lets go of it by one call.
+// By hand, so that a caller's exit drops it with one call.
 impl Drop for Cut {
     fn drop(self) {
         let Cut { keys, offers } = self;
@@ -36,7 +35,7 @@ impl Model for Cut {
     ghost view = { λ c. record { keys = c.keys.keys; offers = c.offers.keys } };
 }
 
-/// The set of these keys, in order.
+/// Returns the set of these keys, in order.
 fn set_of_keys(
     alloc: Global,
     seed: Seed,
@@ -52,7 +51,7 @@ fn set_of_keys(
     Ok(set)
 }
 
-/// The set of these offers, in order.
+/// Returns the set of these offers, in order.
 fn set_of_offers(
     alloc: Global,
     seed: Seed,
@@ -69,7 +68,7 @@ fn set_of_offers(
 }
 
 impl Cut {
-    /// An empty cut.
+    /// Returns an empty cut.
     pub fn new(alloc: Global) -> Self
         ensures { result ≡ record { keys = []; offers = [] } }
     {
@@ -80,8 +79,7 @@ impl Cut {
         }
     }
 
-    /// The cut of these keys and these offers, in order, with a seed by which its members are found: what is answered doesn't depend
-    /// on it.
+    /// Returns the cut of these keys and these offers, in order. `seed` is for the hashes of its members and affects no answer.
     pub fn of(
         alloc: Global,
         seed: Seed,
@@ -97,7 +95,7 @@ impl Cut {
         Ok(Cut { keys, offers })
     }
 
-    /// Adds a key after the others, and answers whether it was new.
+    /// Adds a key after the others, and returns whether it was new.
     pub fn add_key(&mut self, key: LimitKey) -> Result<bool, AllocError>
         ensures added { IfOk result (λ added. added ≡ not (has_key self.old.keys key)) }
         ensures keys { IfOk result (λ added. self.new.keys ≡ (if added then self.old.keys ++ key ∷ [] else self.old.keys)) }
@@ -108,7 +106,7 @@ impl Cut {
         Ok(added)
     }
 
-    /// Adds an offer after the others, and answers whether it was new.
+    /// Adds an offer after the others, and returns whether it was new.
     pub fn add_offer(&mut self, offer: OfferNo) -> Result<bool, AllocError>
         ensures added { IfOk result (λ added. added ≡ not (has_number self.old.offers offer)) }
         ensures offers { IfOk result (λ added. self.new.offers ≡ (if added then self.old.offers ++ offer ∷ [] else self.old.offers)) }
@@ -119,7 +117,7 @@ impl Cut {
         Ok(added)
     }
 
-    /// The offers, in order.
+    /// Returns the offers, in order.
     pub fn offers(&self) -> &[OfferNo]
         ensures offers { result.now ≡ self.now.offers }
         ensures once { IsDistinct ⟦<OfferNo as PartialEq>⟧.eq result.now }
@@ -127,7 +125,7 @@ impl Cut {
         self.offers.as_slice()
     }
 
-    /// The keys, in order.
+    /// Returns the keys, in order.
     pub fn keys(&self) -> &[LimitKey]
         ensures keys { result.now ≡ self.now.keys }
         ensures once { IsDistinct ⟦<LimitKey as PartialEq>⟧.eq result.now }
@@ -135,14 +133,14 @@ impl Cut {
         self.keys.as_slice()
     }
 
-    /// Whether a key is in the cut.
+    /// Returns whether a key is in the cut.
     pub fn has_key(&self, key: LimitKey) -> bool
         ensures { result ≡ has_key self.now.keys key }
     {
         self.keys.contains(&key)
     }
 
-    /// A copy.
+    /// Returns a copy.
     pub fn copy(&self) -> Result<Cut, AllocError>
         ensures { IfOk result (λ cut. cut ≡ self.now) }
     {
@@ -151,21 +149,21 @@ impl Cut {
         Ok(Cut { keys, offers })
     }
 
-    /// Whether it is the cut of these keys and these offers, each made in this order.
+    /// Returns whether this is the cut of these keys and these offers, each inserted in this order.
     pub(crate) fn is_of(&self, keys: &[LimitKey], offers: &[OfferNo]) -> bool
         ensures { IsTrue result ↔ (self.now ≡ record { keys = keys.now; offers = offers.now }) }
     {
         self.keys() == keys && self.offers() == offers
     }
 
-    /// Whether two cuts are the same, each made in the same order.
+    /// Returns whether two cuts are the same, with the same order of insertion.
     pub fn is_same(&self, other: &Cut) -> bool
         ensures { IsTrue result ↔ (self.now ≡ other.now) }
     {
         self.is_of(other.keys(), other.offers())
     }
 
-    /// Whether an offer is in the cut.
+    /// Returns whether an offer is in the cut.
     pub fn has_offer(&self, offer: OfferNo) -> bool
         ensures { result ≡ has_number self.now.offers offer }
     {

@@ -10,7 +10,7 @@ use crate::digits::two_digits;
 use crate::number_text::{NumberError, are_digits, value_of};
 use jiff::civil::Date;
 
-/// A date of the years 1 to 9999.
+/// A date in the years 1 to 9999.
 #[derive(Clone, Copy, Debug, PartialEq, Eq, Hash)]
 pub struct Day {
     pub year: u16,
@@ -19,7 +19,7 @@ pub struct Day {
     ghost there: { IsDay year month day },
 }
 
-/// Whether there is such a date.
+/// Returns whether this is a date of the calendar.
 fn is_date(year: u16, month: u8, day: u8) -> bool
     requires { (year ≤ 9999) × (month < 100) × (day < 100) }
     ensures { IsTrue result ↔ IsDate (pos year) (pos month) (pos day) }
@@ -27,7 +27,7 @@ fn is_date(year: u16, month: u8, day: u8) -> bool
     Date::new(year as i16, month as i8, day as i8).is_ok()
 }
 
-/// The number that up to four digits write.
+/// Returns the value of up to four digits.
 fn short_value(digits: &[u8]) -> u16
     requires digits { AllDigits 10 digits.now }
     requires short { length digits.now ≤ 4 }
@@ -39,7 +39,7 @@ fn short_value(digits: &[u8]) -> u16
     }
 }
 
-/// The number that two digits write.
+/// Returns the value of two digits.
 fn two_digit_value(digits: &[u8]) -> u8
     requires digits { AllDigits 10 digits.now }
     requires short { length digits.now ≤ 2 }
@@ -51,14 +51,14 @@ fn two_digit_value(digits: &[u8]) -> u8
     }
 }
 
-/// Whether these are eight digits.
+/// Returns whether the text is eight digits.
 fn is_day_text(text: &[u8]) -> bool
     ensures { IsTrue result ↔ IsDayText text.now }
 {
     text.len() == 8 && are_digits(text)
 }
 
-/// A date in eight digits.
+/// Returns a date as eight digits.
 #[tactic(auto, unfolding(crate::specs::WrittenNumbers::date_text))]
 fn date_digits(year: u16, month: u8, day: u8) -> [u8; 8]
     requires { (year ≤ 9999) × (month < 100) × (day < 100) }
@@ -73,7 +73,7 @@ fn date_digits(year: u16, month: u8, day: u8) -> [u8; 8]
 }
 
 impl Day {
-    /// The day of this year, month and day of the month.
+    /// Returns the day with this year, month and day of the month.
     pub fn new(year: u16, month: u8, day: u8) -> Option<Self>
         ensures sound { IsSome result ↔ IsDay year month day }
         ensures same { IfSome result (λ d. (d.year ≡ year) × (d.month ≡ month) × (d.day ≡ day)) }
@@ -84,7 +84,7 @@ impl Day {
         Some(Day::known(year, month, day))
     }
 
-    /// The day of a year, month and day of the month that are known to be one's.
+    /// Returns the day with a year, month and day of the month that are known to be valid.
     pub fn known(year: u16, month: u8, day: u8) -> Self
         requires { IsDay year month day }
         ensures { (result.year ≡ year) × (result.month ≡ month) × (result.day ≡ day) }
@@ -92,7 +92,7 @@ impl Day {
         Day { year, month, day }
     }
 
-    /// Its year, month and day of the month.
+    /// Returns its year, month and day of the month.
     pub fn get(self) -> (u16, u8, u8)
         ensures year { result.0 ≡ self.year }
         ensures month { result.1 ≡ self.month }
@@ -102,7 +102,7 @@ impl Day {
         (self.year, self.month, self.day)
     }
 
-    /// The day that eight digits write.
+    /// Returns the day written in eight digits.
     pub fn read(text: &[u8]) -> Result<Day, NumberError>
         ensures day { IfOk result (λ d. WritesDay text.now d.year d.month d.day) }
         ensures bad_number { IsErrOf result NumberError.BadNumber ↔ (¬ IsDayText text.now) }
@@ -121,7 +121,7 @@ impl Day {
         }
     }
 
-    /// It in eight digits: year, month, day of the month. Read again, they are the day.
+    /// Returns the day in eight digits: year, month, day of the month. Read back, they give the same day.
     pub fn text(self) -> [u8; 8]
         ensures text { result ≡ date_text self.year self.month self.day }
         ensures writes { WritesDay result self.year self.month self.day }
@@ -129,21 +129,21 @@ impl Day {
         date_digits(self.year, self.month, self.day)
     }
 
-    /// Whether two days are one.
+    /// Returns whether two days are the same.
     pub fn is_same(self, other: Day) -> bool
         ensures { IsTrue result ↔ (self ≡ other) }
     {
         self.year == other.year && self.month == other.month && self.day == other.day
     }
 
-    /// Whether it comes before another day.
+    /// Returns whether it is earlier than another day.
     pub fn is_before(self, other: Day) -> bool
         ensures { IsTrue result ↔ (date_number self.year self.month self.day < date_number other.year other.month other.day) }
     {
         self.number() < other.number()
     }
 
-    /// The number that its eight digits write: year, month, day.
+    /// Returns its eight digits as a number: year, month, day.
     pub fn number(self) -> u32
         ensures { result ≡ date_number self.year self.month self.day }
     {

@@ -1,9 +1,9 @@
-//! Digits of numbers.
+//! Decimal digits of numbers.
 
 ghost use Rattle.std.specs.Prelude.{◌≡◌, ◌<◌, ◌≤◌, [], ◌++◌, length};
 ghost use Rattle.gu_terms.specs.WrittenNumbers.{six_digits, trimmed_digits, two_digits};
 
-/// A number below a hundred in two digits.
+/// Returns a number below 100 as two digits.
 pub fn two_digits(number: u8) -> [u8; 2]
     requires { number < 100 }
     ensures { result ≡ two_digits number }
@@ -11,7 +11,7 @@ pub fn two_digits(number: u8) -> [u8; 2]
     [b'0' + number / 10, b'0' + number % 10]
 }
 
-/// A number below a million in six digits.
+/// Returns a number below 1,000,000 as six digits.
 pub(crate) fn six_digits(number: u32) -> [u8; 6]
     requires { number < 1000000 }
     ensures { result ≡ six_digits number }
@@ -23,7 +23,7 @@ pub(crate) fn six_digits(number: u32) -> [u8; 6]
     digits
 }
 
-/// Digits without the zeros at their end.
+/// Returns the digits without trailing zeros.
 pub(crate) fn trimmed(digits: &[u8]) -> &[u8]
     ensures digits { result.now ≡ trimmed_digits digits.now }
     ensures no_more { length result.now ≤ length digits.now }

@@ -10,19 +10,19 @@ use crate::reply::Reply;
 use crate::takes::Takes;
 use std::alloc::AllocError;
 
-/// A sweep of a product group's open offers, as it was committed.
+/// A sweep of a product group's open offers, as committed.
 #[derive(Drop)]
 pub struct SweepEntry {
     pub group: Group,
     pub takes: Takes,
-    /// What proves that no more could be taken.
+    /// The cut that proves that no more could be taken.
     pub cut: Cut,
-    /// The lots of all takes, which is the room of the cut.
+    /// The total lots of the takes, which equals the room of the cut.
     pub lots: u64,
 }
 
 impl SweepEntry {
-    /// A copy.
+    /// Returns a copy.
     pub fn copy(&self) -> Result<SweepEntry, AllocError>
         ensures { IfOk result (λ sweep. sweep ≡ self.now) }
     {
@@ -36,7 +36,7 @@ impl SweepEntry {
         })
     }
 
-    /// Whether two sweeps are the same.
+    /// Returns whether two sweeps are the same.
     pub fn is_same(&self, other: &SweepEntry) -> bool
         ensures { IsTrue result ↔ (self.now ≡ other.now) }
     {
@@ -47,17 +47,17 @@ impl SweepEntry {
     }
 }
 
-/// What was entered at one moment.
+/// An entry of the history.
 #[derive(Drop)]
 pub enum Entry {
-    /// A command with its reply, a refusal too.
+    /// A command with its reply, even if it was refused.
     Asked { command: Command, reply: Reply },
-    /// A sweep that was committed.
+    /// A committed sweep.
     Swept(SweepEntry),
 }
 
 impl Entry {
-    /// A copy.
+    /// Returns a copy.
     pub fn copy(&self) -> Result<Entry, AllocError>
         ensures { IfOk result (λ entry. entry ≡ self.now) }
     {
@@ -73,7 +73,7 @@ impl Entry {
         }
     }
 
-    /// Whether it is this command with this reply.
+    /// Returns whether it is this command with this reply.
     pub(crate) fn is_asked(&self, command: &Command, reply: Reply) -> bool
         ensures { IsTrue result ↔ (self.now ≡ Entry.Asked command.now reply) }
     {
@@ -86,7 +86,7 @@ impl Entry {
         }
     }
 
-    /// Whether it is this sweep.
+    /// Returns whether it is this sweep.
     pub(crate) fn is_sweep(&self, sweep: &SweepEntry) -> bool
         ensures { IsTrue result ↔ (self.now ≡ Entry.Swept sweep.now) }
     {
@@ -96,7 +96,7 @@ impl Entry {
         }
     }
 
-    /// Whether two entries are the same.
+    /// Returns whether two entries are the same.
     pub fn is_same(&self, other: &Entry) -> bool
         ensures { IsTrue result ↔ (self.now ≡ other.now) }
     {

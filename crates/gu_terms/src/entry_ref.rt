@@ -1,4 +1,4 @@
-//! Entries, read where the history keeps them.
+//! Entries read in place in the history.
 
 ghost use Rattle.std.specs.Prelude.{◌≡◌};
 ghost use Rattle.gu_terms.specs.Events.{event_of, takes_of};
@@ -9,7 +9,7 @@ use crate::packed::Packed;
 use crate::takes::Take;
 use std::marker::Model;
 
-/// An entry where the history keeps it: it is read without a copy and takes no memory. To a contract it is the entry.
+/// A reference to an entry in the history: reading it copies nothing and allocates nothing. To a contract it is the entry.
 #[derive(Drop)]
 pub struct EntryRef<'a> {
     kept: &'a Packed,
@@ -28,7 +28,7 @@ impl<'a> Model for EntryRef<'a> {
 }
 
 impl<'a> EntryRef<'a> {
-    /// The entry that is kept so, with its ids among the texts.
+    /// Returns a reference to the entry stored here, with its ids in `texts`.
     pub(crate) fn new(kept: &'a Packed, texts: &'a [u8]) -> Self
         requires { IsWithin texts.now kept.now }
         ensures { result ≡ entry_of texts.now kept.now }
@@ -36,14 +36,14 @@ impl<'a> EntryRef<'a> {
         EntryRef { kept, texts }
     }
 
-    /// What it did of which firms get notices.
+    /// Returns what it did that firms get notices of.
     pub fn event(&self) -> EntryEvent
         ensures { result ≡ event_of self.now }
     {
         self.kept.event(self.texts)
     }
 
-    /// The takes of a sweep; any other entry has none.
+    /// Returns the takes of a sweep, and none for any other entry.
     pub fn takes(&self) -> &[Take]
         ensures { result.now ≡ takes_of self.now }
     {

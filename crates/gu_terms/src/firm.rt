@@ -5,14 +5,14 @@ ghost use Rattle.gu_terms.specs.Names.{IsName};
 
 use crate::name::Name;
 
-/// A firm of the house. It executes trades, carries accounts, or both.
+/// A firm of the house, which executes trades, carries accounts, or both.
 #[derive(Clone, Copy, Debug, PartialEq, Eq, Hash)]
 pub struct FirmId {
     pub name: Name,
 }
 
 impl FirmId {
-    /// The firm with this name.
+    /// Returns the firm with this name.
     pub fn new(bytes: &[u8]) -> Option<Self>
         ensures sound { IsSome result ↔ IsName bytes.now }
         ensures same { IfSome result (λ firm. firm.name ≡ bytes.now) }
@@ -20,7 +20,7 @@ impl FirmId {
         Name::new(bytes).map(|name| FirmId { name })
     }
 
-    /// Its name.
+    /// Returns its name.
     pub fn get(&self) -> &[u8]
         ensures bytes { result.now ≡ self.now.name }
         ensures sound { IsName self.now.name }

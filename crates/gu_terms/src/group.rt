@@ -5,14 +5,14 @@ ghost use Rattle.gu_terms.specs.Names.{IsName};
 
 use crate::name::Name;
 
-/// A product group. Limits hold in one group, and a sweep takes from one.
+/// A product group. A limit applies within one group, and a sweep takes from one.
 #[derive(Clone, Copy, Debug, PartialEq, Eq, Hash)]
 pub struct Group {
     pub name: Name,
 }
 
 impl Group {
-    /// The group with this name.
+    /// Returns the group with this name.
     pub fn new(bytes: &[u8]) -> Option<Self>
         ensures sound { IsSome result ↔ IsName bytes.now }
         ensures same { IfSome result (λ group. group.name ≡ bytes.now) }
@@ -20,7 +20,7 @@ impl Group {
         Name::new(bytes).map(|name| Group { name })
     }
 
-    /// Its name.
+    /// Returns its name.
     pub fn get(&self) -> &[u8]
         ensures bytes { result.now ≡ self.now.name }
         ensures sound { IsName self.now.name }

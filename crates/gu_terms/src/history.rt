@@ -1,4 +1,4 @@
-//! The history: all that was entered, in order.
+//! The history: all entries, in order.
 
 ghost use Rattle.std.specs.Prelude.{◌≡◌, ◌+◌, ◌-◌, ◌^◌, ◌<◌, ◌∷◌, [], ◌++◌, ◌≤◌, length, map, slice_get, take, is_some, ◌↔◌, IfOk, IfSome, IsTrue, OnOk, OnErr, Some};
 ghost use Rattle.std.specs.Option.{option_map};
@@ -18,13 +18,13 @@ use crate::text_store::TextStore;
 use std::alloc::{AllocError, Global};
 use std::marker::Model;
 
-/// The bytes of texts that are kept at most, or a few more. An entry that comes then is answered as for a failed allocation; no book has so many.
+/// The most bytes of texts in a history, or a few more. A further entry gets AllocError; no book has so many.
 const MOST_TEXTS: usize = 4_000_000_000;
 
-/// Entries, numbered from 1. To a contract it is their list.
+/// A list of entries, numbered from 1. To a contract it is their list.
 pub struct History {
     entries: Vec<Packed>,
-    /// The ids and names of all entries, one after the other.
+    /// The ids and names of all entries, in order.
     texts: TextStore,
     alloc: Global,
 }
@@ -41,7 +41,7 @@ impl Model for History {
     ghost invariant = { λ h. AreKept h.texts.bytes h.entries.items };
 }
 
-// By hand, so that who holds a history lets it go by one call.
+// By hand, so that a history's owner drops it with one call.
 impl Drop for History {
     fn drop(self) {
         let History {
@@ -55,7 +55,7 @@ impl Drop for History {
 }
 
 #[tactic(auto, using(crate::proofs::PackedLemmas::entries_more))]
-/// Adds an entry after the others, and its texts after theirs. The allocations come first.
+/// Adds an entry after the others, and its texts after theirs. All allocations come first.
 #[inline(always)]
 fn add(
     entries: &mut Vec<Packed>,
@@ -80,7 +80,7 @@ fn add(
     Ok(())
 }
 
-/// The place after the texts of the last entry.
+/// Returns the position after the last entry's texts.
 fn end_of_last(entries: &[Packed]) -> usize
     ensures { result ≡ end_of_last entries.now }
 {
@@ -91,7 +91,7 @@ fn end_of_last(entries: &[Packed]) -> usize
 }
 
 #[tactic(auto, using(crate::proofs::PackedLemmas::kept_fewer, crate::proofs::PackedLemmas::entries_fewer))]
-/// Keeps the first entries, so many of them, with their texts.
+/// Keeps the first `count` entries and their texts.
 fn truncate(entries: &mut Vec<Packed>, texts: &mut TextStore, count: usize)
     requires { AreKept texts.old.bytes entries.old.items }
     ensures kept { AreKept texts.new.bytes entries.new.items }
@@ -102,7 +102,7 @@ fn truncate(entries: &mut Vec<Packed>, texts: &mut TextStore, count: usize)
 }
 
 impl History {
-    /// A history without entries.
+    /// Returns an empty history.
     pub fn new(alloc: Global) -> Self
         ensures { result ≡ [] }
     {
@@ -113,7 +113,7 @@ impl History {
         }
     }
 
-    /// How many entries it has, which is the number of the last one.
+    /// Returns the number of entries, which is also the number of the last one.
     pub fn len(&self) -> usize
         ensures { result ≡ length self.now }
     {
@@ -121,7 +121,7 @@ impl History {
     }
 
     #[tactic(auto, using(crate::proofs::PackedLemmas::entry_there))]
-    /// The entry at a place, counted from 0.
+    /// Returns the entry at an index, counted from 0.
     pub fn at(&self, place: usize) -> Result<Entry, AllocError>
         requires { place < length self.now }
         ensures { IfOk result (λ entry. slice_get self.now place ≡ Some entry) }
@@ -129,7 +129,7 @@ impl History {
         self.entries[place].entry(self.alloc, self.texts.get())
     }
 
-    /// The entry of a number. There is none of number 0.
+    /// Returns the entry with this number. No entry has number 0.
     pub fn entry(&self, number: u64) -> Result<Option<Entry>, AllocError>
         ensures { IfOk result (λ entry. entry ≡ entry_at self.now number) }
     {
@@ -139,7 +139,7 @@ impl History {
         Ok(Some(self.at(number as usize - 1)?))
     }
 
-    /// Whether the entry of a number is this one. It takes no memory. None where there is no entry of this number.
+    /// Returns whether the entry with this number is this one, or None if there is no such entry. It allocates nothing.
     pub fn is_entry(&self, number: u64, entry: &Entry) -> Option<bool>
         ensures known { is_some result ≡ is_some (entry_at self.now number) }
         ensures same { IfSome result (λ is. IsTrue is ↔ (entry_at self.now number ≡ Some entry.now)) }
@@ -151,7 +151,7 @@ impl History {
     }
 
     #[tactic(auto, using(crate::proofs::PackedLemmas::entry_there))]
-    /// Whether the entry at a place is this one.
+    /// Returns whether the entry at an index is this one.
     fn is_at(&self, place: usize, entry: &Entry) -> bool
         requires { place < length self.now }
         ensures { IsTrue result ↔ (slice_get self.now place ≡ Some entry.now) }
@@ -160,7 +160,7 @@ impl History {
     }
 
     #[tactic(auto, using(crate::proofs::PackedLemmas::entry_there))]
-    /// The entry at a place, counted from 0, where it is kept. It takes no memory.
+    /// Returns a reference to the entry at an index, counted from 0. It allocates nothing.
     pub fn show(&self, place: usize) -> EntryRef<'_>
         requires { place < length self.now }
         ensures { slice_get self.now place ≡ Some result }
@@ -169,7 +169,7 @@ impl History {
     }
 
     #[tactic(auto, using(crate::proofs::PackedLemmas::entry_there))]
-    /// The lots that the entry at a place swept. It takes no memory.
+    /// Returns the lots swept by the entry at an index. It allocates nothing.
     pub fn lots_at(&self, place: usize) -> u64
         requires { place < length self.now }
         ensures { option_map swept_by (slice_get self.now place) ≡ Some result }
@@ -177,7 +177,7 @@ impl History {
         self.entries[place].lots_swept()
     }
 
-    /// Adds an entry that has no texts of its own, nor a reply beside it.
+    /// Adds an entry that has no texts of its own and no reply.
     fn push_alone(&mut self, body: Body) -> Result<(), AllocError>
         requires { AreTextsOf no_texts body }
         ensures added { OnOk result (self.new ≡ self.old ++ entry_by no_texts body (Reply.Accepted Done.Opened) ∷ []) }
@@ -193,7 +193,7 @@ impl History {
         )
     }
 
-    /// Adds a command with its reply after the others, its texts apart.
+    /// Adds a command with its reply after the others, storing its texts separately.
     #[tactic(auto, using(crate::proofs::PackedLemmas::joined_room))]
     #[inline(never)]
     fn push_named(&mut self, command: &Command, reply: &Reply) -> Result<(), AllocError>
@@ -218,7 +218,7 @@ impl History {
         ensures added { OnOk result (self.new ≡ self.old ++ Entry.Asked command.now reply ∷ []) }
         ensures refused { OnErr result (self.new ≡ self.old) }
     {
-        // The reply lies here while its name is read: a local of one call can't stand at the lifetime of the command's texts.
+        // The reply is kept here while its name is read: a local of one call can't have the lifetime of the command's texts.
         self.push_named(command, &reply)
     }
 
@@ -231,7 +231,7 @@ impl History {
         self.push_alone(Body::Swept(sweep))
     }
 
-    /// Keeps the first entries, so many of them. It takes no memory.
+    /// Keeps the first `count` entries. It allocates nothing.
     pub fn truncate(&mut self, count: usize)
         ensures { self.new ≡ take count self.old }
     {

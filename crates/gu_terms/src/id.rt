@@ -6,10 +6,10 @@ ghost use Rattle.gu_terms.specs.Names.{IsId, is_id_byte};
 use crate::padded::Padded;
 use std::marker::Model;
 
-/// The bytes that an id has at most.
+/// The most bytes in an id.
 pub(crate) const LONGEST_ID: usize = 64;
 
-/// 1 to 64 bytes of printed ASCII without the blank: 0x21 to 0x7E. To a contract it is these bytes.
+/// An id of 1 to 64 bytes of printable ASCII other than the space: 0x21 to 0x7E. To a contract it is these bytes.
 #[derive(Clone, Copy, Debug, PartialEq, Eq, Hash)]
 pub struct Id {
     text: Padded<LONGEST_ID>,
@@ -29,7 +29,7 @@ impl Model for Id {
     ghost inverse = { λ text. record { text = text } };
 }
 
-/// Whether an id may have this byte.
+/// Returns whether an id may have this byte.
 fn is_id_byte(byte: u8) -> bool
     ensures { result ≡ is_id_byte byte }
 {
@@ -37,7 +37,7 @@ fn is_id_byte(byte: u8) -> bool
 }
 
 impl Id {
-    /// The id with these bytes.
+    /// Returns the id with these bytes.
     pub fn new(bytes: &[u8]) -> Option<Self>
         ensures sound { IsSome result ↔ IsId bytes.now }
         ensures same { IfSome result (λ id. id ≡ bytes.now) }
@@ -56,7 +56,7 @@ impl Id {
         Some(Id { text })
     }
 
-    /// The id with these bytes, which are known to be those of one.
+    /// Returns the id with these bytes, which are known to be valid.
     pub fn known(bytes: &[u8]) -> Self
         requires { IsId bytes.now }
         ensures { result ≡ bytes.now }
@@ -66,7 +66,7 @@ impl Id {
         }
     }
 
-    /// Its bytes.
+    /// Returns its bytes.
     pub fn get(&self) -> &[u8]
         ensures bytes { result.now ≡ self.now }
         ensures sound { IsId self.now }
@@ -74,7 +74,7 @@ impl Id {
         self.text.get()
     }
 
-    /// Its bytes, where they are kept.
+    /// Returns its bytes as stored.
     #[inline(always)]
     pub fn padded(&self) -> &Padded<LONGEST_ID>
         ensures bytes { result.now ≡ self.now }
@@ -83,7 +83,7 @@ impl Id {
         &self.text
     }
 
-    /// Whether these are its bytes.
+    /// Returns whether these are its bytes.
     pub(crate) fn is_text(&self, text: &[u8]) -> bool
         ensures { IsTrue result ↔ (text.now ≡ self.now) }
     {

@@ -1,4 +1,4 @@
-//! Replies as a history keeps them: without the name of a group or of a key, which is among the texts.
+//! Replies as the history stores them: without the name of a group or a key, which is among the texts.
 
 ghost use Rattle.std.specs.Prelude.{◌≡◌};
 ghost use Rattle.gu_terms.specs.PackedEntries.{reply_by, IsNameOf, IsReplyOf};
@@ -12,7 +12,7 @@ use crate::padded::Padded;
 use crate::refusal::Refusal;
 use crate::reply::{Done, Reply};
 
-/// A reply as it is kept.
+/// A reply as stored.
 #[derive(Clone, Copy)]
 pub(crate) enum KeptReply {
     Opened,
@@ -22,14 +22,14 @@ pub(crate) enum KeptReply {
     Claimed { lots: Lots },
     Refused { lots: Lots },
     Reversed { lots: Lots },
-    /// A refusal that names no key, by its number.
+    /// A refusal that names no key, as its number.
     Denied(u8),
-    /// The limit of a key of this kind is reached.
+    /// The limit on a key of this kind is reached.
     LimitReached(KeyKind),
 }
 
 impl KeptReply {
-    /// The name in a reply, or another text where it has none, and what is kept beside it.
+    /// Returns the name in a reply, or another text if it has none, and the rest of the reply to store.
     pub(crate) fn of<'a>(
         reply: &'a Reply,
         none: &'a Padded<LONGEST_NAME>,
@@ -65,7 +65,7 @@ impl KeptReply {
         (none, kept)
     }
 
-    /// The reply that is kept so, with the name in it.
+    /// Returns the reply stored as this, with this name in it.
     pub(crate) fn reply(self, name: &[u8]) -> Reply
         requires { IsNameOf name.now self }
         ensures { result ≡ reply_by name.now self }

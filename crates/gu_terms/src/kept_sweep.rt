@@ -1,4 +1,4 @@
-//! Sweeps as a history keeps them: lists without the tables by which a cut finds its members.
+//! Sweeps as the history stores them: as lists, without a cut's hash tables.
 
 ghost use Rattle.std.specs.Prelude.{◌≡◌, ◌↔◌, IsTrue, IfOk};
 
@@ -12,7 +12,7 @@ use crate::takes::{Take, Takes};
 use std::alloc::{AllocError, Global};
 use std::marker::Model;
 
-/// A sweep in lists that have no room to spare. To a contract it is the sweep.
+/// A sweep as lists without spare capacity. To a contract it is the sweep.
 pub struct KeptSweep {
     group: Group,
     lots: u64,
@@ -38,7 +38,7 @@ impl Model for KeptSweep {
         IsDistinct ⟦<LimitKey as PartialEq>⟧.eq s.keys.items × IsDistinct ⟦<OfferNo as PartialEq>⟧.eq s.offers.items };
 }
 
-// By hand, so that a caller's exit lets go of it by one call.
+// By hand, so that a caller's exit drops it with one call.
 impl Drop for KeptSweep {
     fn drop(self) {
         let KeptSweep {
@@ -55,7 +55,7 @@ impl Drop for KeptSweep {
 }
 
 impl KeptSweep {
-    /// A sweep of a group that takes so many lots by these takes, which this cut bounds.
+    /// Returns the sweep of a group with these takes, this number of lots and the cut that bounds them.
     pub fn of(
         alloc: Global,
         group: Group,
@@ -77,21 +77,21 @@ impl KeptSweep {
         })
     }
 
-    /// Its takes.
+    /// Returns its takes.
     pub(crate) fn takes(&self) -> &[Take]
         ensures { result.now ≡ self.now.takes }
     {
         self.takes.as_slice()
     }
 
-    /// The lots that it takes.
+    /// Returns the lots that it takes.
     pub(crate) fn lots(&self) -> u64
         ensures { result ≡ self.now.lots }
     {
         self.lots
     }
 
-    /// The sweep, with a cut in which keys and offers are found.
+    /// Returns the sweep, with a cut that can be searched for keys and offers.
     pub(crate) fn entry(&self, alloc: Global) -> Result<SweepEntry, AllocError>
         ensures { IfOk result (λ sweep. sweep ≡ self.now) }
     {
@@ -105,7 +105,7 @@ impl KeptSweep {
         })
     }
 
-    /// Whether this is how a sweep is kept.
+    /// Returns whether this is the stored form of a sweep.
     pub(crate) fn is_same(&self, sweep: &SweepEntry) -> bool
         ensures { IsTrue result ↔ (self.now ≡ sweep.now) }
     {

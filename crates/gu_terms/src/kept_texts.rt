@@ -1,4 +1,4 @@
-//! The texts of an entry, its ids and names, as they lie among those of all entries.
+//! The texts of an entry, its ids and names, as stored among those of all entries.
 
 ghost use Rattle.std.specs.Prelude.{◌≡◌, ◌+◌, ◌++◌, ◌≤◌, length, vec_capacity, OnOk, OnErr};
 ghost use Rattle.gu_terms.specs.Names.{IsId, IsName};
@@ -13,10 +13,10 @@ use crate::text_store::TextStore;
 use std::alloc::AllocError;
 use std::marker::Model;
 
-/// The bytes that the texts of an entry have at most.
+/// The most bytes in an entry's texts.
 const LONGEST_TEXTS: usize = 2 * LONGEST_ID + 4 * LONGEST_NAME;
 
-/// At which byte of all texts those of an entry begin, and how many bytes each has, one after the other.
+/// The place of an entry's texts: their first byte among all texts, and the length of each, in order.
 #[derive(Clone, Copy)]
 pub(crate) struct Span {
     at: u32,
@@ -28,24 +28,24 @@ pub(crate) struct Span {
     reply: u8,
 }
 
-/// The texts of an entry: of its command, and the name in its reply. What there isn't has no bytes. To a contract it is the texts.
+/// The texts of an entry: those of its command, and the name in its reply. A text that it lacks is empty. To a contract it is the texts.
 #[derive(Drop)]
 pub(crate) struct Texts<'a> {
-    /// The firm's own id of a report or of a give-up.
+    /// The firm's own id for a report or a give-up.
     pub(crate) own_id: &'a [u8],
     /// A report's match id, or the id of the report that a give-up names.
     pub(crate) other_id: &'a [u8],
     /// A report's symbol, or a limit's group.
     pub(crate) symbol_or_group: &'a [u8],
-    /// The account of a report or of a give-up's one line, or the name of a limit's key.
+    /// The account of a report or of a give-up's only line, or the name of a limit's key.
     pub(crate) account_or_key: &'a [u8],
     pub(crate) firm: &'a [u8],
     /// The name in the reply.
     pub(crate) reply: &'a [u8],
 }
 
-/// The same texts where a command and its reply have them, from where they are appended without a look at their lengths. What there
-/// isn't has no bytes. To a contract it is the texts.
+/// The same texts as held by a command and its reply, from which they are appended at fixed lengths. A text that it lacks is empty. To a
+/// contract it is the texts.
 #[derive(Drop)]
 pub(crate) struct Given<'a> {
     pub(crate) own_id: &'a Padded<LONGEST_ID>,
@@ -96,7 +96,7 @@ impl<'a> Model for Texts<'a> {
 }
 
 impl Span {
-    /// The place after the texts.
+    /// Returns the position after the texts.
     pub(crate) fn end(self) -> usize
         ensures { result ≡ self.at + size_of self }
     {
@@ -109,7 +109,7 @@ impl Span {
             + usize::from(self.reply)
     }
 
-    /// The texts that lie there.
+    /// Returns the texts at this place.
     pub(crate) fn texts(self, all: &[u8]) -> Texts<'_>
         requires { self.at + size_of self ≤ length all.now }
         ensures { result ≡ texts_at all.now self }
@@ -130,7 +130,7 @@ impl Span {
     }
 }
 
-/// Appends a text, for which there is room, where it has bytes.
+/// Appends a text, for which there is room, unless it is empty.
 #[inline(always)]
 fn put<const N: usize>(all: &mut TextStore, text: &Padded<N>)
     requires { N ≤ all.old.spare }
@@ -142,7 +142,7 @@ fn put<const N: usize>(all: &mut TextStore, text: &Padded<N>)
     }
 }
 
-/// So many bytes of all texts from a place on.
+/// Returns `len` bytes of all texts, starting at `at`.
 fn text_at(all: &[u8], at: usize, len: u8) -> &[u8]
     requires { at + len ≤ length all.now }
     ensures { result.now ≡ text_at all.now at len }
@@ -151,7 +151,7 @@ fn text_at(all: &[u8], at: usize, len: u8) -> &[u8]
 }
 
 impl<'a> Given<'a> {
-    /// This id, twice, and this name wherever there is one.
+    /// Returns texts with this id in both places for ids, and this name in every place for names.
     pub(crate) fn of(id: &'a Padded<LONGEST_ID>, name: &'a Padded<LONGEST_NAME>) -> Self
         ensures { result ≡ record { own_id = id.now; other_id = id.now; symbol_or_group = name.now; account_or_key = name.now; firm = name.now; reply = name.now } }
     {
@@ -165,7 +165,7 @@ impl<'a> Given<'a> {
         }
     }
 
-    /// These texts with the name of a firm.
+    /// Returns these texts with the name of a firm.
     pub(crate) fn with_firm(self, firm: &'a FirmId) -> Self
         ensures texts { result ≡ record self.entry { firm = firm.now.name } }
         ensures sound { IsName firm.now.name }
@@ -174,7 +174,7 @@ impl<'a> Given<'a> {
         Given { firm, ..self }
     }
 
-    /// These texts with two ids.
+    /// Returns these texts with two ids.
     pub(crate) fn with_ids(self, own_id: &'a Id, other_id: &'a Id) -> Self
         ensures texts { result ≡ record self.entry { own_id = own_id.now; other_id = other_id.now } }
         ensures sound { IsId own_id.now × IsId other_id.now }
@@ -186,7 +186,7 @@ impl<'a> Given<'a> {
         }
     }
 
-    /// These texts with those of a report.
+    /// Returns these texts with those of a report.
     pub(crate) fn with_report(self, report: &'a ReportSide) -> Self
         ensures texts { result ≡ record self.entry {
           own_id = report.now.id;
@@ -208,7 +208,7 @@ impl<'a> Given<'a> {
         }
     }
 
-    /// Where they lie, from a place on.
+    /// Returns their place if they start at `at`.
     pub(crate) fn span(&self, at: u32) -> Span
         ensures span { result ≡ span_of at self.now }
         ensures short { AreShort self.now }
@@ -224,7 +224,7 @@ impl<'a> Given<'a> {
         }
     }
 
-    /// Appends them to all texts, or none.
+    /// Appends them all to the stored texts, or none.
     #[inline(always)]
     pub(crate) fn append(&self, all: &mut TextStore) -> Result<(), AllocError>
         ensures appended { OnOk result (all.new.bytes ≡ all.old.bytes ++ joined self.now) }

@@ -1,4 +1,4 @@
-//! The words that every crate shares: names, ids, numbers, days, commands, replies and entries.
+//! The vocabulary that every crate shares: names, ids, numbers, days, commands, replies and entries.
 #![tactic(auto)]
 
 mod account;

@@ -1,4 +1,4 @@
-//! What limits are set on.
+//! What limits apply to.
 
 ghost use Rattle.std.specs.Prelude.{◌≡◌, ◌↔◌, IsTrue};
 ghost use Rattle.gu_terms.specs.LimitKeys.{key_by, key_eq, key_of, kind_of, name_of_key};
@@ -10,7 +10,7 @@ use crate::firm::FirmId;
 use crate::name::{LONGEST_NAME, Name};
 use crate::padded::Padded;
 
-/// What a daily lot limit is set on, in one product group.
+/// A key of a daily lot limit: what the limit applies to in one product group.
 #[derive(Clone, Copy, Debug, PartialEq, Eq, Hash)]
 pub enum LimitKey {
     /// All that a firm gives up.
@@ -26,7 +26,7 @@ pub enum LimitKey {
 }
 
 impl LimitKey {
-    /// The word for its kind, in scripts, sheets and refusals.
+    /// Returns the word for its kind in scripts, sheets and refusals.
     pub fn kind(self) -> &'static str
         ensures { result.now ≡ kind_of self }
     {
@@ -39,7 +39,7 @@ impl LimitKey {
         }
     }
 
-    /// The key of this kind and this name, where there is such a kind.
+    /// Returns the key of this kind with this name, if there is such a kind.
     pub fn of(kind: &[u8], name: Name) -> Option<LimitKey>
         ensures { result ≡ key_of kind.now name }
     {
@@ -55,7 +55,7 @@ impl LimitKey {
         .find(|key| key.kind().as_bytes() == kind)
     }
 
-    /// The name of the firm, the agreement or the account.
+    /// Returns the name of the firm, the agreement or the account.
     pub fn name(&self) -> &[u8]
         ensures name { result.now ≡ name_of_key self.now }
         ensures sound { IsName (name_of_key self.now) }
@@ -67,7 +67,7 @@ impl LimitKey {
         }
     }
 
-    /// The same name, where it is kept.
+    /// Returns the name as stored.
     pub(crate) fn padded(&self) -> &Padded<LONGEST_NAME>
         ensures name { result.now ≡ name_of_key self.now }
         ensures sound { IsName (name_of_key self.now) }
@@ -81,7 +81,7 @@ impl LimitKey {
         }
     }
 
-    /// Whether two keys are one.
+    /// Returns whether two keys are the same.
     pub fn is_same(self, other: LimitKey) -> bool
         ensures test { result ≡ key_eq self other }
         ensures same { IsTrue result ↔ (self ≡ other) }
@@ -101,7 +101,7 @@ pub(crate) enum KeyKind {
 }
 
 impl KeyKind {
-    /// The kind of a key.
+    /// Returns the kind of a key.
     pub(crate) fn of(key: LimitKey) -> KeyKind
         ensures { key_by result (name_of_key key) ≡ key }
     {
@@ -114,7 +114,7 @@ impl KeyKind {
         }
     }
 
-    /// The key of this kind and this name.
+    /// Returns the key of this kind with this name.
     pub(crate) fn key(self, name: Name) -> LimitKey
         ensures { result ≡ key_by self name }
     {

@@ -1,8 +1,8 @@
-//! Limits as they are at a moment.
+//! Limits as of a moment.
 
 use crate::limit_key::LimitKey;
 
-/// A limit with what was used of it today and the room that is left, in lots.
+/// A limit, the lots of it used today and the room left, in lots.
 #[derive(Clone, Copy, Debug, PartialEq, Eq)]
 pub struct LimitRow {
     pub key: LimitKey,

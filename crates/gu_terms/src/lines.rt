@@ -9,14 +9,14 @@ use crate::lots::Lots;
 use std::alloc::{AllocError, Global};
 use std::marker::Model;
 
-/// A part of a give-up: an account, and the lots that it is to take up.
+/// A line of a give-up: an account, and the lots that it is to take up.
 #[derive(Clone, Copy, Debug, PartialEq, Eq)]
 pub struct Line {
     pub account: AccountId,
     pub lots: Lots,
 }
 
-/// The lines of a give-up, 1 to 16. An account may have several. To a contract it is their list.
+/// The lines of a give-up, 1 to 16. An account may have several lines. To a contract it is their list.
 #[derive(Debug, Drop)]
 pub struct Lines {
     list: Vec<Line>,
@@ -35,7 +35,7 @@ impl Model for Lines {
 }
 
 impl Lines {
-    /// These lines, where they are 1 to 16.
+    /// Returns these lines, if there are 1 to 16.
     pub fn new(list: Vec<Line>) -> Option<Self>
         ensures sound { IsSome result ↔ AreLines list.items }
         ensures same { IfSome result (λ lines. lines ≡ list.items) }
@@ -46,7 +46,7 @@ impl Lines {
         Some(Lines::known(list))
     }
 
-    /// These lines, which are known to be 1 to 16.
+    /// Returns these lines, of which there are known to be 1 to 16.
     pub fn known(list: Vec<Line>) -> Self
         requires { AreLines list.items }
         ensures { result ≡ list.items }
@@ -54,14 +54,14 @@ impl Lines {
         Lines { list }
     }
 
-    /// One line.
+    /// Returns a give-up's only line.
     pub(crate) fn one(alloc: Global, line: Line) -> Result<Self, AllocError>
         ensures { IfOk result (λ lines. lines ≡ line ∷ []) }
     {
         Ok(Lines::known(vec![in alloc; line]?))
     }
 
-    /// The lines, in order.
+    /// Returns the lines, in order.
     pub fn as_slice(&self) -> &[Line]
         ensures lines { result.now ≡ self.now }
         ensures sound { AreLines self.now }
@@ -69,14 +69,14 @@ impl Lines {
         self.list.as_slice()
     }
 
-    /// How many there are.
+    /// Returns the number of lines.
     pub fn count(&self) -> u8
         ensures { result ≡ length self.now }
     {
         self.as_slice().len() as u8
     }
 
-    /// The lots of all lines.
+    /// Returns the total lots of the lines.
     pub fn lots(&self) -> u64
         ensures lots { result ≡ lots_in_all self.now }
         ensures most { result ≤ 16000000 }
@@ -88,21 +88,21 @@ impl Lines {
         total
     }
 
-    /// Whether they are these lines.
+    /// Returns whether these are its lines.
     pub(crate) fn are(&self, lines: &[Line]) -> bool
         ensures { IsTrue result ↔ (self.now ≡ lines.now) }
     {
         self.as_slice() == lines
     }
 
-    /// Whether two lists of lines are the same.
+    /// Returns whether two lists of lines are the same.
     pub fn is_same(&self, other: &Lines) -> bool
         ensures { IsTrue result ↔ (self.now ≡ other.now) }
     {
         self.are(other.as_slice())
     }
 
-    /// A copy.
+    /// Returns a copy.
     pub fn copy(&self) -> Result<Lines, AllocError>
         ensures { IfOk result (λ lines. lines ≡ self.now) }
     {

@@ -29,7 +29,7 @@ impl Model for Lots {
 }
 
 impl Lots {
-    /// The lots of this number.
+    /// Returns this number of lots.
     pub fn new(number: u64) -> Option<Self>
         ensures sound { IsSome result ↔ IsLots number }
         ensures same { IfSome result (λ l. l ≡ number) }
@@ -43,7 +43,7 @@ impl Lots {
         }
     }
 
-    /// The number.
+    /// Returns the number.
     pub fn get(self) -> u64
         ensures number { result ≡ self }
         ensures sound { IsLots self }
@@ -52,7 +52,7 @@ impl Lots {
     }
 }
 
-/// The lots that a text's parts mean.
+/// Returns the lots given by the parts of a number text.
 fn lots_of(parts: NumberText<'_>) -> Option<Lots>
     requires whole { AllDigits 10 parts.whole.now }
     requires fraction { AllDigits 10 parts.fraction.now }
@@ -71,7 +71,7 @@ fn lots_of(parts: NumberText<'_>) -> Option<Lots>
     Lots::new(number)
 }
 
-/// The lots that a short number text without a fraction means.
+/// Returns the lots given by a short number text without a fraction.
 #[inline(always)]
 fn short_lots(text: &[u8]) -> Option<Lots>
     ensures { IfSome result (MeansLots text.now) }
@@ -83,7 +83,7 @@ fn short_lots(text: &[u8]) -> Option<Lots>
     Lots::new(number.digits)
 }
 
-/// The lots that a number text means.
+/// Returns the lots given by a number text.
 #[inline(always)]
 pub fn read_lots(text: &[u8]) -> Result<Lots, NumberError>
     ensures lots { IfOk result (MeansLots text.now) }
@@ -97,7 +97,7 @@ pub fn read_lots(text: &[u8]) -> Result<Lots, NumberError>
     }
 }
 
-/// The lots that any number text means.
+/// Returns the lots given by a number text of any length.
 #[inline(never)]
 fn read_any_lots(text: &[u8]) -> Result<Lots, NumberError>
     ensures lots { IfOk result (MeansLots text.now) }

@@ -8,7 +8,7 @@ use std::marker::Model;
 /// The last millisecond of 9999.
 const LAST_MOMENT: u64 = 253_402_300_799_999;
 
-/// A moment in milliseconds since 1970-01-01 UTC, 0 to the end of 9999. To a contract it is the number.
+/// A moment in milliseconds since 1970-01-01 UTC, from 0 to the end of 9999. To a contract it is the number.
 #[derive(Clone, Copy, Debug, PartialEq, Eq, PartialOrd, Ord, Hash)]
 pub struct Moment {
     number: u64,
@@ -28,7 +28,7 @@ impl Model for Moment {
 }
 
 impl Moment {
-    /// The moment of this number.
+    /// Returns the moment with this number.
     pub fn new(number: u64) -> Option<Self>
         ensures sound { IsSome result ↔ IsMoment number }
         ensures same { IfSome result (λ m. m ≡ number) }
@@ -40,7 +40,7 @@ impl Moment {
         }
     }
 
-    /// The moment of a number that is known to be one's.
+    /// Returns the moment with a number that is known to be valid.
     pub fn known(number: u64) -> Self
         requires { IsMoment number }
         ensures { result ≡ number }
@@ -48,7 +48,7 @@ impl Moment {
         Moment { number }
     }
 
-    /// The number.
+    /// Returns the number.
     pub fn get(self) -> u64
         ensures number { result ≡ self }
         ensures sound { IsMoment self }

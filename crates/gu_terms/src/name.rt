@@ -1,4 +1,4 @@
-//! Names of the house's own.
+//! Names that the house gives.
 
 ghost use Rattle.std.specs.Prelude.{◌≡◌, ◌↔◌, ◌+◌, ◌≤◌, ◌∷◌, [], IsSome, IfSome, take, drop};
 ghost use Rattle.std.specs.Cmp.{partial_equiv_from_equiv};
@@ -14,10 +14,10 @@ use crate::padded::Padded;
 use std::hash::{Hash, Hasher};
 use std::marker::Model;
 
-/// The bytes that a name has at most.
+/// The most bytes in a name.
 pub(crate) const LONGEST_NAME: usize = 12;
 
-/// 1 to 12 bytes of A-Z, 0-9 and `-`. To a contract it is these bytes.
+/// A name of 1 to 12 bytes, each A-Z, 0-9 or `-`. To a contract it is these bytes.
 #[derive(Clone, Copy, Debug)]
 pub struct Name {
     text: Padded<LONGEST_NAME>,
@@ -37,7 +37,7 @@ impl Model for Name {
     ghost inverse = { λ text. record { text = text } };
 }
 
-/// Whether a name may have this byte.
+/// Returns whether a name may have this byte.
 fn is_name_byte(byte: u8) -> bool
     ensures { result ≡ is_name_byte byte }
 {
@@ -48,7 +48,7 @@ fn is_name_byte(byte: u8) -> bool
     }
 }
 
-/// Four bytes from a place on, as one number.
+/// Returns the four bytes at `place` as one number.
 fn four_at(bytes: &[u8; LONGEST_NAME], place: usize) -> u32
     requires { place + 4 ≤ 12 }
     ensures { result ≡ from_le_bytes w32 (take 4 (drop place bytes.now)) }
@@ -61,7 +61,7 @@ fn four_at(bytes: &[u8; LONGEST_NAME], place: usize) -> u32
     ])
 }
 
-/// Whether twelve bytes are the same, by four at a time.
+/// Returns whether two runs of twelve bytes are equal, comparing four at a time.
 fn are_same(left: &[u8; LONGEST_NAME], right: &[u8; LONGEST_NAME]) -> bool
     ensures { result ≡ bytes_eq left.now right.now }
 {
@@ -85,7 +85,7 @@ impl Eq for Name {
     ghost laws = { nat_list_eq_equiv };
 }
 
-// One write of twelve bytes, which is short code: a hash of bytes whose number varies is a loop.
+// One write of twelve bytes is short code; a hash of a varying number of bytes needs a loop.
 impl Hash for Name {
     ghost hash_input = { λ name. padded 12 name ∷ [] };
 
@@ -97,7 +97,7 @@ impl Hash for Name {
 }
 
 impl Name {
-    /// The name with these bytes.
+    /// Returns the name with these bytes.
     pub fn new(bytes: &[u8]) -> Option<Self>
         ensures sound { IsSome result ↔ IsName bytes.now }
         ensures same { IfSome result (λ name. name ≡ bytes.now) }
@@ -116,7 +116,7 @@ impl Name {
         Some(Name { text })
     }
 
-    /// The name with these bytes, which are known to be those of one.
+    /// Returns the name with these bytes, which are known to be valid.
     pub fn known(bytes: &[u8]) -> Self
         requires { IsName bytes.now }
         ensures { result ≡ bytes.now }
@@ -126,7 +126,7 @@ impl Name {
         }
     }
 
-    /// Its bytes.
+    /// Returns its bytes.
     pub fn get(&self) -> &[u8]
         ensures bytes { result.now ≡ self.now }
         ensures sound { IsName self.now }
@@ -134,7 +134,7 @@ impl Name {
         self.text.get()
     }
 
-    /// Its bytes, where they are kept.
+    /// Returns its bytes as stored.
     #[inline(always)]
     pub fn padded(&self) -> &Padded<LONGEST_NAME>
         ensures bytes { result.now ≡ self.now }

@@ -1,4 +1,4 @@
-//! What the house tells firms of its own accord.
+//! Notices that the house sends firms unsolicited.
 
 use crate::account::AccountId;
 use crate::alloc_reject::AllocReject;
@@ -10,29 +10,29 @@ use crate::report::Report;
 use crate::side::Side;
 use crate::symbol::Symbol;
 
-/// What became of an offer.
+/// What happened to an offer.
 #[derive(Clone, Copy, Debug, PartialEq, Eq)]
 pub enum OfferEvent {
     /// It was made.
     Offered,
-    /// Lots of it were claimed, or swept.
+    /// Lots of it were claimed or swept.
     Claimed,
     /// What was left of it was refused.
     Refused(AllocReject),
-    /// What was moved of it on this day was moved back.
+    /// What was moved for it on this day was moved back.
     Reversed,
 }
 
-/// An event of an offer.
+/// A notice of an event of an offer.
 #[derive(Clone, Copy, Debug, PartialEq, Eq)]
 pub struct OfferNotice {
     pub offer: OfferNo,
     pub event: OfferEvent,
-    /// The lots that were offered, claimed, closed or moved back.
+    /// The lots that were offered, claimed, refused or moved back.
     pub lots: Lots,
-    /// The account that the offer is to.
+    /// The account to which the lots are offered.
     pub account: AccountId,
-    /// The instrument of the trade that is given up, the side that is given up, the trade's price and its day.
+    /// The instrument of the trade given up, the side given up, the trade's price and its day.
     pub symbol: Symbol,
     pub side: Side,
     pub price: Price,
@@ -42,7 +42,7 @@ pub struct OfferNotice {
 /// A notice to a firm.
 #[derive(Clone, Copy, Debug, PartialEq, Eq)]
 pub enum Notice {
-    /// A report of the firm's is a side of a trade since the entry of this number (FIX: Trade Capture Report).
+    /// A report of the firm's became a side of a trade with this entry (FIX: Trade Capture Report).
     Matched { entry: u64, report: Report },
     /// An offer that the firm gives up or is to take up (FIX: Allocation Report).
     Offer(OfferNotice),
@@ -51,16 +51,16 @@ pub enum Notice {
 /// The notices to a firm.
 #[derive(Drop)]
 pub struct Notices {
-    /// The number after the last entry, from which to ask next.
+    /// The number after the last entry covered, from which to ask next.
     pub next: u64,
     /// The notices, in the order of their entries.
     pub list: Vec<Notice>,
 }
 
-/// A stretch of a firm's notices.
+/// A batch of a firm's notices.
 #[derive(Drop)]
 pub struct Stretch {
     pub notices: Notices,
-    /// Whether no entry comes after it.
+    /// Whether it covers the last entry.
     pub is_last: bool,
 }

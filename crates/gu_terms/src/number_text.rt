@@ -1,4 +1,4 @@
-//! Texts of numbers, taken apart.
+//! Parsing of number texts.
 
 ghost use Rattle.std.specs.Prelude.{◌≡◌, ◌↔◌, ◌≤◌, ◌<◌, ◌+◌, ◌-◌, ◌^◌, ◌==◌, length, take, IsTrue, IfSome, MatchOption};
 ghost use Rattle.std.specs.List.{before_first, after_first, position, position_or_len};
@@ -8,18 +8,18 @@ ghost use Rattle.gu_terms.specs.NumberText.{unsigned_text, HasDigits, IsNumberTe
 use std::alloc::Global;
 use thiserror::Error;
 
-/// Why a text is no value of its type.
+/// The reason that a text isn't a value of its type.
 #[derive(Debug, Drop, Clone, Copy, PartialEq, Eq, Error)]
 pub enum NumberError {
     /// The text isn't in the format.
     #[error("BadNumber")]
     BadNumber,
-    /// The text is in the format, and there is no such value.
+    /// The text is in the format, but the value is out of range.
     #[error("OutOfRange")]
     OutOfRange,
 }
 
-/// A text as its sign and the digits on both sides of its point.
+/// A number text split into its sign and the digits before and after its point.
 #[derive(Clone, Copy)]
 pub(crate) struct NumberText<'a> {
     pub(crate) is_negative: bool,
@@ -27,7 +27,7 @@ pub(crate) struct NumberText<'a> {
     pub(crate) fraction: &'a [u8],
 }
 
-/// Whether the bytes are digits, or none.
+/// Returns whether the bytes are all digits; true if there are none.
 pub fn are_digits(bytes: &[u8]) -> bool
     ensures { IsTrue result ↔ AllDigits 10 bytes.now }
 {
@@ -39,7 +39,7 @@ pub fn are_digits(bytes: &[u8]) -> bool
     true
 }
 
-/// The text without its sign.
+/// Returns the text without its sign.
 fn unsigned(text: &[u8]) -> &[u8]
     ensures { result.now ≡ unsigned_text text.now }
 {
@@ -49,7 +49,7 @@ fn unsigned(text: &[u8]) -> &[u8]
     }
 }
 
-/// The value of digits, where it is at most `most`.
+/// Returns the value of digits, if it is at most `most`.
 pub fn value_of(digits: &[u8], most: u64) -> Option<u64>
     requires digits { AllDigits 10 digits.now }
     requires most { most ≤ 1000000000000000 }
@@ -65,7 +65,7 @@ pub fn value_of(digits: &[u8], most: u64) -> Option<u64>
     Some(value)
 }
 
-/// Whether digits write 0.
+/// Returns whether all the digits are zeros.
 pub(crate) fn is_zero(digits: &[u8]) -> bool
     requires { AllDigits 10 digits.now }
     ensures { IsTrue result ↔ (digits_value 10 digits.now ≡ 0) }
@@ -76,19 +76,19 @@ pub(crate) fn is_zero(digits: &[u8]) -> bool
     }
 }
 
-/// The bytes that a short number text has at most.
+/// The most bytes in a short number text.
 const SHORT: usize = 12;
 
-/// The digits of a number text that has no sign.
+/// The digits of an unsigned number text.
 #[derive(Clone, Copy)]
 pub(crate) struct ShortNumber {
-    /// The digits on both sides of the point, as one number.
+    /// The digits before and after the point, as one number.
     pub(crate) digits: u64,
-    /// How many of them are after the point.
+    /// The number of digits after the point.
     pub(crate) places: usize,
 }
 
-/// A number followed by the digits that a text begins with, and how many those are.
+/// Returns a number followed by the leading digits of a text, and the number of those digits.
 #[inline(always)]
 fn with_digits(number: u64, text: &[u8]) -> (u64, usize)
     requires { (length text.now ≤ 12) × (number < 10 ^ (12 - length text.now)) }
@@ -108,7 +108,7 @@ fn with_digits(number: u64, text: &[u8]) -> (u64, usize)
     (longer, text.len())
 }
 
-/// The digits of a number text that is short and begins with a digit, as most do; none for any other text. Each byte is read
+/// Returns the digits of a number text that is short and starts with a digit, as most do, or None for any other text. It reads each byte
 /// once.
 #[inline(always)]
 pub(crate) fn short_number(text: &[u8]) -> Option<ShortNumber>
@@ -139,7 +139,7 @@ pub(crate) fn short_number(text: &[u8]) -> Option<ShortNumber>
     Some(ShortNumber { digits, places })
 }
 
-/// The text taken apart, if it is a number's.
+/// Returns the parts of the text, if it is a number text.
 pub(crate) fn parts_of(text: &[u8]) -> Option<NumberText<'_>>
     ensures { MatchOption result (¬ IsNumberText text.now)
         (λ parts. IsTakenApart text.now parts.is_negative parts.whole.now parts.fraction.now) }
@@ -156,7 +156,7 @@ pub(crate) fn parts_of(text: &[u8]) -> Option<NumberText<'_>>
     })
 }
 
-/// What is before the point and after it.
+/// Returns what is before the point, and what is after it.
 fn parted(text: &[u8]) -> (&[u8], &[u8])
     ensures before { result.0.now ≡ before_first (λ b. b == 46) text.now }
     ensures after { result.1.now ≡ after_first (λ b. b == 46) text.now }
@@ -175,7 +175,7 @@ fn find_point(text: &[u8]) -> Option<usize>
     text.iter().position(|byte| *byte == b'.')
 }
 
-/// The place of the first point, or the end.
+/// Returns the position of the first point, or the end.
 fn point_of(text: &[u8]) -> usize
     ensures place { result ≡ position_or_len (λ b. b == 46) text.now }
     ensures within { result ≤ length text.now }

@@ -1,4 +1,4 @@
-//! Offers: what is given up.
+//! Offers of lots that are given up.
 
 use crate::account::AccountId;
 use crate::firm::FirmId;
@@ -6,12 +6,12 @@ use crate::group::Group;
 use crate::id::Id;
 use crate::lots::Lots;
 
-/// A line of a give-up, as it is offered to the firm that carries the account.
+/// A line of a give-up, as offered to the firm that carries the account.
 #[derive(Clone, Copy, Debug, PartialEq, Eq)]
 pub struct Offer {
     /// The executing firm, which gives up.
     pub firm: FirmId,
-    /// The firm's id of the report that is given up.
+    /// The firm's id for the report that is given up.
     pub report: Id,
     /// The product group of the report's instrument.
     pub group: Group,

@@ -1,4 +1,4 @@
-//! The numbers of offers.
+//! Offer numbers.
 
 ghost use Rattle.std.specs.Prelude.{◌≡◌, ◌↔◌, IsSome, IfSome};
 ghost use Rattle.gu_terms.specs.Numbers.{IsOfferNo};
@@ -6,7 +6,7 @@ ghost use Rattle.gu_terms.specs.Numbers.{IsOfferNo};
 use crate::bounds::MOST_OFFERS;
 use std::marker::Model;
 
-/// The number of an offer: 1 to 16,000,000, over the whole book. To a contract it is the number.
+/// The number of an offer in the whole book: 1 to 16,000,000. To a contract it is the number.
 #[derive(Clone, Copy, Debug, PartialEq, Eq, PartialOrd, Ord, Hash)]
 pub struct OfferNo {
     number: u32,
@@ -26,7 +26,7 @@ impl Model for OfferNo {
 }
 
 impl OfferNo {
-    /// The offer number of this number.
+    /// Returns the offer number with this value.
     pub fn new(number: u64) -> Option<Self>
         ensures sound { IsSome result ↔ IsOfferNo number }
         ensures same { IfSome result (λ o. o ≡ number) }
@@ -38,7 +38,7 @@ impl OfferNo {
         }
     }
 
-    /// The offer number of a number that is known to be one.
+    /// Returns the offer number with a value that is known to be valid.
     pub fn known(number: u64) -> Self
         requires { IsOfferNo number }
         ensures { result ≡ number }
@@ -48,7 +48,7 @@ impl OfferNo {
         }
     }
 
-    /// The number.
+    /// Returns the number.
     pub fn get(self) -> u64
         ensures number { result ≡ self }
         ensures sound { IsOfferNo self }

@@ -1,4 +1,4 @@
-//! Entries as a history keeps them: without the room that ids and names leave empty.
+//! Entries as the history stores them: without the padding of ids and names.
 
 ghost use Rattle.std.specs.Prelude.{◌≡◌, IfOk};
 ghost use Rattle.gu_terms.specs.PackedEntries.{end_of, entry_of, firm_by, report_by, IsWithin};
@@ -26,7 +26,7 @@ use crate::side::Side;
 use crate::symbol::Symbol;
 use std::alloc::{AllocError, Global};
 
-/// What is kept of a report beside its texts and its price.
+/// The parts of a report that are stored apart from its texts and its price.
 #[derive(Clone, Copy)]
 pub(crate) struct KeptReport {
     pub(crate) side: Side,
@@ -34,15 +34,15 @@ pub(crate) struct KeptReport {
     pub(crate) lots: Lots,
 }
 
-/// What is kept of an entry beside its texts and its reply. The fields go from small to large, so that they take little room.
+/// The parts of an entry that are stored apart from its texts and its reply. Fields go from small to large, to save room.
 #[derive(Drop)]
 pub(crate) enum Body {
     OpenDay { day: Day },
     SetLimit { kind: KeyKind, lots: u64 },
     ReportSide { report: KeptReport, price: Price },
-    /// A give-up of one line, as most are.
+    /// A give-up with one line, as most have.
     GiveUpOne { lots: Lots },
-    /// A give-up of more lines.
+    /// A give-up with several lines.
     GiveUp(Box<Lines>),
     Claim { offer: OfferNo },
     Refuse { why: AllocReject, offer: OfferNo },
@@ -51,7 +51,7 @@ pub(crate) enum Body {
     Swept(Box<KeptSweep>),
 }
 
-/// An entry as it is kept.
+/// An entry as stored.
 #[derive(Drop)]
 pub(crate) struct Packed {
     pub(crate) span: Span,
@@ -60,7 +60,7 @@ pub(crate) struct Packed {
 }
 
 impl KeptReport {
-    /// What is kept of a report.
+    /// Returns the parts of a report that are stored apart from its texts.
     pub(crate) fn of(report: &ReportSide) -> Self
         ensures { result ≡ record { side = report.now.side; day = report.now.day; lots = report.now.lots } }
     {
@@ -71,7 +71,7 @@ impl KeptReport {
         }
     }
 
-    /// The report that is kept so, with its texts.
+    /// Returns the report stored as this, with its texts.
     pub(crate) fn command(self, texts: &Texts<'_>, price: Price) -> Command
         requires ids { IsId texts.now.own_id × IsId texts.now.other_id }
         requires names { IsName texts.now.symbol_or_group × IsName texts.now.account_or_key × IsName texts.now.firm }
@@ -95,7 +95,7 @@ impl KeptReport {
     }
 }
 
-/// The firm among texts.
+/// Returns the firm named in these texts.
 pub(crate) fn firm(texts: &Texts<'_>) -> FirmId
     requires { IsName texts.now.firm }
     ensures { result ≡ firm_by texts.now }
@@ -105,7 +105,7 @@ pub(crate) fn firm(texts: &Texts<'_>) -> FirmId
     }
 }
 
-/// A limit, with its texts.
+/// Returns a limit, with its texts.
 pub(crate) fn limit(texts: &Texts<'_>, kind: KeyKind, lots: u64) -> Command
     requires { IsName texts.now.symbol_or_group × IsName texts.now.account_or_key }
     ensures { result ≡ Command.SetLimit (record { group = record { name = texts.now.symbol_or_group }; key = key_by kind texts.now.account_or_key; lots = lots }) }
@@ -119,7 +119,7 @@ pub(crate) fn limit(texts: &Texts<'_>, kind: KeyKind, lots: u64) -> Command
     })
 }
 
-/// A line of these lots, with its account among texts.
+/// Returns a line with these lots and the account in these texts.
 pub(crate) fn line(texts: &Texts<'_>, lots: Lots) -> Line
     requires { IsName texts.now.account_or_key }
     ensures { result ≡ record { account = record { name = texts.now.account_or_key }; lots = lots } }
@@ -132,7 +132,7 @@ pub(crate) fn line(texts: &Texts<'_>, lots: Lots) -> Line
     }
 }
 
-/// A give-up of these lines, with its texts.
+/// Returns a give-up with these lines and texts.
 fn give_up(texts: &Texts<'_>, lines: Lines) -> Command
     requires ids { IsId texts.now.own_id × IsId texts.now.other_id }
     requires firm { IsName texts.now.firm }
@@ -147,14 +147,14 @@ fn give_up(texts: &Texts<'_>, lines: Lines) -> Command
 }
 
 impl Packed {
-    /// The place after its texts.
+    /// Returns the position after its texts.
     pub(crate) fn end(&self) -> usize
         ensures { result ≡ end_of self.now }
     {
         self.span.end()
     }
 
-    /// The entry that is kept so, with its texts out of all.
+    /// Returns the entry stored as this, with its texts from `all`.
     pub(crate) fn entry(&self, alloc: Global, all: &[u8]) -> Result<Entry, AllocError>
         requires { IsWithin all.now self.now }
         ensures { IfOk result (λ entry. entry ≡ entry_of all.now self.now) }

@@ -1,4 +1,4 @@
-//! Commands taken apart, as a history keeps them.
+//! Commands split into parts, as the history stores them.
 
 ghost use Rattle.std.specs.Prelude.{◌≡◌, IfOk};
 ghost use Rattle.gu_terms.specs.PackedEntries.{IsCommandOf};
@@ -9,7 +9,7 @@ use crate::limit_key::KeyKind;
 use crate::packed::{Body, KeptReport};
 use std::alloc::{AllocError, Global};
 
-/// A limit taken apart, its group and the name of its key added to these texts.
+/// Returns the stored form of a limit; adds its group and its key's name to these texts.
 fn limit_parts<'a>(texts: Given<'a>, limit: &'a SetLimit) -> (Given<'a>, Body)
     ensures { IsCommandOf result.0 result.1 (Command.SetLimit limit.now) texts.entry.reply }
 {
@@ -28,7 +28,7 @@ fn limit_parts<'a>(texts: Given<'a>, limit: &'a SetLimit) -> (Given<'a>, Body)
     )
 }
 
-/// A give-up of these lines taken apart, the account of one line added to its other texts.
+/// Returns the stored form of a give-up with these lines; adds the account of a single line to its texts.
 fn give_up_parts<'a>(
     alloc: Global,
     texts: Given<'a>,
@@ -55,7 +55,7 @@ fn give_up_parts<'a>(
 }
 
 impl Body {
-    /// A command taken apart: its texts in place of others, but for the name in its reply, and what is kept beside them.
+    /// Returns the stored form of a command: its texts replace the given ones, except the name in the reply.
     #[inline(always)]
     pub(crate) fn of<'a>(
         alloc: Global,

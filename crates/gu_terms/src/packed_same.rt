@@ -1,4 +1,4 @@
-//! Whether an entry is what is kept, without a copy of either.
+//! Comparison of an entry with a stored one, without copying either.
 
 ghost use Rattle.std.specs.Prelude.{◌≡◌, ◌↔◌, IsTrue, List, ℕ};
 ghost use Rattle.gu_terms.specs.Histories.{swept_by};
@@ -11,7 +11,7 @@ use crate::lines::Line;
 use crate::packed::{Body, Packed, firm, limit, line};
 use crate::reply::Reply;
 
-/// Whether a command gives these lines up.
+/// Returns whether a command is the give-up with these texts and lines.
 fn is_give_up(command: &Command, texts: &Texts<'_>, lines: &[Line]) -> bool
     ensures { IsTrue result ↔ (Command.GiveUp (record { firm = firm_by texts.now; id = texts.now.own_id; report = texts.now.other_id; lines = lines.now }) ≡ command.now) }
 {
@@ -27,7 +27,7 @@ fn is_give_up(command: &Command, texts: &Texts<'_>, lines: &[Line]) -> bool
 }
 
 impl Packed {
-    /// Whether what is kept so, with these texts, is this command with this reply.
+    /// Returns whether the stored entry, with these texts, is this command with this reply.
     fn is_asked(&self, texts: &Texts<'_>, command: &Command, reply: &Reply) -> bool
         requires { AreSound texts.now self.now }
         ensures { IsTrue result ↔ (entry_with texts.now self.now ≡ Entry.Asked command.now reply.now) }
@@ -69,7 +69,7 @@ impl Packed {
         }
     }
 
-    /// Whether what is kept so is this sweep.
+    /// Returns whether the stored entry is this sweep.
     fn is_sweep(&self, sweep: &SweepEntry) -> bool
         ensures { (all : List ℕ) → IsTrue result ↔ (entry_of all self.now ≡ Entry.Swept sweep.now) }
     {
@@ -79,7 +79,7 @@ impl Packed {
         }
     }
 
-    /// Whether this is how an entry is kept, with its texts among all.
+    /// Returns whether this is the stored form of an entry, with its texts in `all`.
     pub(crate) fn is_entry(&self, all: &[u8], entry: &Entry) -> bool
         requires { IsWithin all.now self.now }
         ensures { IsTrue result ↔ (entry_of all.now self.now ≡ entry.now) }
@@ -90,7 +90,7 @@ impl Packed {
         }
     }
 
-    /// The lots that the entry which is kept so swept.
+    /// Returns the lots swept by the stored entry.
     pub(crate) fn lots_swept(&self) -> u64
         ensures { (all : List ℕ) → result ≡ swept_by (entry_of all self.now) }
     {

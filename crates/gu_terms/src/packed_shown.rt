@@ -1,4 +1,4 @@
-//! What an entry did, out of what is kept of it.
+//! The event of a stored entry.
 
 ghost use Rattle.std.specs.Prelude.{◌≡◌, ◌∷◌, [], length};
 ghost use Rattle.gu_terms.specs.Events.{event_of, takes_of};
@@ -11,7 +11,7 @@ use crate::packed::{Body, Packed};
 use crate::takes::Take;
 
 impl Packed {
-    /// What the entry did, with its match id out of all texts.
+    /// Returns the entry's event, with its match id from `all`.
     pub(crate) fn event(&self, all: &[u8]) -> EntryEvent
         requires { IsWithin all.now self.now }
         ensures { result ≡ event_of (entry_of all.now self.now) }
@@ -46,7 +46,7 @@ impl Packed {
         }
     }
 
-    /// The takes of a sweep; any other entry has none.
+    /// Returns the takes of a sweep, and none for any other entry.
     pub(crate) fn takes(&self, all: &[u8]) -> &[Take]
         ensures { result.now ≡ takes_of (entry_of all.now self.now) }
     {

@@ -1,4 +1,4 @@
-//! Short texts, kept in place.
+//! Short texts stored in place.
 
 ghost use Rattle.std.specs.Prelude.{◌≡◌, ◌+◌, ◌++◌, ◌∷◌, [], ◌<◌, ◌≤◌, length, take, drop, replicate};
 ghost use Rattle.std.specs.Str.{bytes_eq};
@@ -11,7 +11,7 @@ ghost use Rattle.gu_terms.specs.Padded.{padded};
 use std::hash::{Hash, Hasher};
 use std::marker::Model;
 
-/// A text of at most `N` bytes, with zeros after it. To a contract it is the text.
+/// A text of at most `N` bytes, padded with zeros. To a contract it is the text.
 #[derive(Clone, Copy, Debug)]
 pub struct Padded<const N: usize> {
     bytes: [u8; N],
@@ -35,7 +35,7 @@ impl<const N: usize> Model for Padded<N> {
 }
 
 impl<const N: usize> Padded<N> {
-    /// The text, kept.
+    /// Returns the text in its stored form.
     pub fn new(text: &[u8]) -> Self
         requires fits { length text.now ≤ N }
         requires short { length text.now < 256 }
@@ -49,7 +49,7 @@ impl<const N: usize> Padded<N> {
         }
     }
 
-    /// A text of this many zero bytes, to be overwritten by `put`.
+    /// Returns a text of `len` zero bytes, to be overwritten with `put`.
     #[inline(always)]
     pub(crate) fn zeros(len: usize) -> Self
         requires fits { len ≤ N }
@@ -62,7 +62,7 @@ impl<const N: usize> Padded<N> {
         }
     }
 
-    /// Overwrites the byte at a place.
+    /// Overwrites the byte at an index.
     #[inline(always)]
     pub(crate) fn put(&mut self, place: usize, byte: u8)
         requires { place < length self.old }
@@ -71,7 +71,7 @@ impl<const N: usize> Padded<N> {
         self.bytes[place] = byte;
     }
 
-    /// The text, and more after it.
+    /// Returns the text followed by `more`.
     pub fn with(&self, more: &[u8]) -> Self
         requires fits { length self.now + length more.now ≤ N }
         requires short { length self.now + length more.now < 256 }
@@ -87,14 +87,14 @@ impl<const N: usize> Padded<N> {
         }
     }
 
-    /// The bytes that it has.
+    /// Returns its length in bytes.
     pub fn len(&self) -> usize
         ensures { result ≡ length self.now }
     {
         self.len as usize
     }
 
-    /// The bytes that it has, which are no more than its room.
+    /// Returns its length in bytes, which is at most `N`.
     pub(crate) fn size(&self) -> u8
         ensures size { result ≡ length self.now }
         ensures within { length self.now ≤ N }
@@ -102,14 +102,14 @@ impl<const N: usize> Padded<N> {
         self.len
     }
 
-    /// The text with the zeros after it: `N` bytes.
+    /// Returns the text padded with zeros: `N` bytes.
     pub fn with_zeros(&self) -> &[u8; N]
         ensures { result.now ≡ padded N self.now }
     {
         &self.bytes
     }
 
-    /// The text.
+    /// Returns the text.
     pub fn get(&self) -> &[u8]
         ensures { result.now ≡ self.now }
     {
@@ -131,7 +131,7 @@ impl<const N: usize> Eq for Padded<N> {
     ghost laws = { nat_list_eq_equiv };
 }
 
-// One write of the bytes: a derived hash feeds the hasher byte by byte.
+// Writes the bytes at once: a derived hash feeds the hasher byte by byte.
 impl<const N: usize> Hash for Padded<N> {
     ghost hash_input = { λ text. text ∷ [] };
 

@@ -1,4 +1,4 @@
-//! The limits that an offer comes under.
+//! The limit keys that apply to an offer.
 
 ghost use Rattle.std.specs.Prelude.{◌≡◌, ◌↔◌, ◌≤◌, length, IsSome, IfSome};
 ghost use Rattle.std.specs.Cmp.{partial_equiv_from_equiv};
@@ -13,14 +13,14 @@ use crate::firm::FirmId;
 use crate::limit_key::LimitKey;
 use std::marker::Model;
 
-/// As many keys as a path has.
+/// The keys of a path: four, or five with a guarantor.
 #[derive(Clone, Copy, Debug)]
 enum Keys {
     Four([LimitKey; 4]),
     Five([LimitKey; 5]),
 }
 
-/// The keys that an offer comes under, four or five, in order. To a contract it is the list of these keys.
+/// The four or five keys that apply to an offer, in order. To a contract it is the list of these keys.
 #[derive(Clone, Copy, Debug)]
 pub struct Path {
     keys: Keys,
@@ -44,7 +44,7 @@ impl Model for Path {
 }
 
 impl Path {
-    /// The path of an agreement's offers, with the guarantor of the carrying firm, where it has one.
+    /// Returns the path of an agreement's offers, with the carrying firm's guarantor if it has one.
     pub fn new(
         executing: FirmId,
         agreement: AgreementId,
@@ -71,7 +71,7 @@ impl Path {
         Path { keys }
     }
 
-    /// The path of these keys, where they are four or five.
+    /// Returns the path with these keys, if there are four or five.
     pub fn of(keys: &[LimitKey]) -> Option<Self>
         ensures sound { IsSome result ↔ ((4 ≤ length keys.now) × (length keys.now ≤ 5)) }
         ensures same { IfSome result (λ path. path ≡ keys.now) }
@@ -84,7 +84,7 @@ impl Path {
         Some(Path { keys })
     }
 
-    /// Its keys, in order.
+    /// Returns its keys, in order.
     pub fn keys(&self) -> &[LimitKey]
         ensures keys { result.now ≡ self.now }
         ensures some { 4 ≤ length result.now }
@@ -97,7 +97,7 @@ impl Path {
     }
 }
 
-// Two paths are equal where their keys are.
+// Two paths are equal if their keys are.
 impl PartialEq for Path {
     ghost eq = { pointwise ⟦<LimitKey as PartialEq>⟧.eq };
 

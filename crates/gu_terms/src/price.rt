@@ -8,13 +8,13 @@ ghost use Rattle.gu_terms.specs.NumberText.{CountsMillionths, IsNumberText, IsTa
 use crate::number_text::{NumberError, NumberText, is_zero, parts_of, short_number, value_of};
 use std::marker::Model;
 
-/// The millionths that a price has at most, of either sign.
+/// The largest price in millionths, of either sign.
 const MOST_MILLIONTHS: i64 = 999_999_999_999_999;
 
-/// The digits that a price has after its point.
+/// The number of decimal places in a price.
 const PLACES: usize = 6;
 
-/// The units that a price has at most.
+/// The largest whole part of a price.
 const MOST_UNITS: u64 = 999_999_999;
 
 /// A price in millionths: -999,999,999.999999 to 999,999,999.999999. To a contract it is the number.
@@ -37,7 +37,7 @@ impl Model for Price {
 }
 
 impl Price {
-    /// The price of this number.
+    /// Returns the price with this number of millionths.
     pub fn new(number: i64) -> Option<Self>
         ensures sound { IsSome result ↔ IsPrice number }
         ensures same { IfSome result (λ p. p ≡ number) }
@@ -49,7 +49,7 @@ impl Price {
         }
     }
 
-    /// The number.
+    /// Returns the number.
     pub fn get(self) -> i64
         ensures number { result ≡ self }
         ensures sound { IsPrice self }
@@ -58,7 +58,7 @@ impl Price {
     }
 }
 
-/// Ten to a power of six at most, by a look-up.
+/// Returns ten to a power of at most six, from a table.
 fn power_of_ten(power: usize) -> u64
     requires { power ≤ 6 }
     ensures { result ≡ 10 ^ power }
@@ -74,7 +74,7 @@ fn power_of_ten(power: usize) -> u64
     }
 }
 
-/// The millionths that digits after a point mean, where they are whole ones.
+/// Returns the millionths given by the digits after a point, if they are a whole number.
 fn millionths_of(fraction: &[u8]) -> Option<u64>
     requires { AllDigits 10 fraction.now }
     ensures { MatchOption result ((n : ℕ) → CountsMillionths fraction.now n → ⊥) (λ n. (n < 1000000) × CountsMillionths fraction.now n) }
@@ -89,7 +89,7 @@ fn millionths_of(fraction: &[u8]) -> Option<u64>
     Some(value * power_of_ten(PLACES - count))
 }
 
-/// The price that a text's parts mean.
+/// Returns the price given by the parts of a number text.
 fn price_of(parts: NumberText<'_>) -> Option<Price>
     requires whole { AllDigits 10 parts.whole.now }
     requires fraction { AllDigits 10 parts.fraction.now }
@@ -106,7 +106,7 @@ fn price_of(parts: NumberText<'_>) -> Option<Price>
     Some(Price { number })
 }
 
-/// So many millionths, or as many below zero.
+/// Returns this number of millionths, negated if `is_negative`.
 fn signed(size: u64, is_negative: bool) -> i64
     requires { size ≤ 999999999999999 }
     ensures { result ≡ (if is_negative then neg_ℤ (pos size) else pos size) }
@@ -118,7 +118,7 @@ fn signed(size: u64, is_negative: bool) -> i64
     }
 }
 
-/// The price that a short number text means.
+/// Returns the price given by a short number text.
 #[inline(always)]
 fn short_price(text: &[u8]) -> Option<Price>
     ensures { IfSome result (MeansPrice text.now) }
@@ -130,7 +130,7 @@ fn short_price(text: &[u8]) -> Option<Price>
     Price::new((number.digits * power_of_ten(PLACES - number.places)) as i64)
 }
 
-/// The price that a number text means.
+/// Returns the price given by a number text.
 #[inline(always)]
 pub fn read_price(text: &[u8]) -> Result<Price, NumberError>
     ensures price { IfOk result (MeansPrice text.now) }
@@ -144,7 +144,7 @@ pub fn read_price(text: &[u8]) -> Result<Price, NumberError>
     }
 }
 
-/// The price that any number text means.
+/// Returns the price given by a number text of any length.
 #[inline(never)]
 fn read_any_price(text: &[u8]) -> Result<Price, NumberError>
     ensures price { IfOk result (MeansPrice text.now) }

@@ -12,13 +12,13 @@ use crate::price::Price;
 use itoa::Buffer;
 use std::marker::Model;
 
-/// The bytes of the longest text of a price, that of the least one.
+/// The length of the longest price text, that of the lowest price.
 const LONGEST_PRICE: usize = 17;
 
-/// The millionths of a unit.
+/// The millionths in a unit.
 const UNIT: u64 = 1_000_000;
 
-/// The text of a price, in place. To a contract it is its bytes.
+/// A price's text, stored in place. To a contract it is its bytes.
 #[derive(Clone, Copy, Debug)]
 pub struct PriceText {
     text: Padded<LONGEST_PRICE>,
@@ -35,7 +35,7 @@ impl Model for PriceText {
 }
 
 impl PriceText {
-    /// Its bytes.
+    /// Returns its bytes.
     pub fn get(&self) -> &[u8]
         ensures { result.now ≡ self.now }
     {
@@ -43,7 +43,7 @@ impl PriceText {
     }
 }
 
-/// What comes before a price's digits: `-` where it is negative.
+/// Returns the sign of a price's text: `-` if the price is negative, else nothing.
 fn sign_text(price: Price) -> &'static [u8]
     ensures text { result.now ≡ (if int_lt price (pos 0) then codes "-" else []) }
     ensures short { length result.now ≤ 1 }
@@ -51,7 +51,7 @@ fn sign_text(price: Price) -> &'static [u8]
     if price.get() < 0 { b"-" } else { b"" }
 }
 
-/// The millionths of a price, of either sign.
+/// Returns the absolute value of a price, in millionths.
 fn size_of(price: Price) -> u64
     ensures size { result ≡ unsigned_abs price }
     ensures few { result ≤ 999999999999999 }
@@ -60,7 +60,7 @@ fn size_of(price: Price) -> u64
     price.get().unsigned_abs()
 }
 
-/// What a price's text begins with: its sign, and its whole part.
+/// Returns the start of a price's text: its sign and its whole part.
 fn whole_text(price: Price, size: u64) -> Padded<LONGEST_PRICE>
     requires { size ≤ 999999999999999 }
     ensures text { result ≡ (if int_lt price (pos 0) then codes "-" else []) ++ decimal (size / 1000000) }
@@ -71,7 +71,7 @@ fn whole_text(price: Price, size: u64) -> Padded<LONGEST_PRICE>
     Padded::new(sign_text(price)).with(whole)
 }
 
-/// A text, and millionths after it with a point, and no point without any.
+/// Returns a text followed by a point and the millionths, or by nothing if they are 0.
 fn with_fraction(text: Padded<LONGEST_PRICE>, millionths: u32) -> Padded<LONGEST_PRICE>
     requires few { millionths < 1000000 }
     requires short { length text ≤ 10 }
@@ -85,8 +85,8 @@ fn with_fraction(text: Padded<LONGEST_PRICE>, millionths: u32) -> Padded<LONGEST
 }
 
 impl Price {
-    /// It as it is written: `-` if it is negative, its whole part, and a point and its fraction, without zeros at the end, where that
-    /// isn't 0. Read again, it is the price.
+    /// Returns the price's text: `-` if it is negative, its whole part and, unless the fraction is 0, a point and the fraction without
+    /// trailing zeros. Read back, it gives the same price.
     pub fn text(self) -> PriceText
         ensures text { result ≡ price_text self }
         ensures means { MeansPrice result self }

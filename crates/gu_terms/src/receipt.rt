@@ -9,7 +9,7 @@ use crate::group::Group;
 use crate::reply::{Done, Reply};
 use std::alloc::AllocError;
 
-/// What was entered, and its number in the history.
+/// A receipt: what was entered, and its number in the history.
 #[derive(Drop)]
 pub struct Receipt {
     pub number: u64,
@@ -17,7 +17,7 @@ pub struct Receipt {
 }
 
 impl Receipt {
-    /// The product group in which a give-up made offers, where this is the receipt of one that was accepted.
+    /// Returns the product group in which a give-up made offers, if this is the receipt for an accepted one.
     pub fn offered(&self) -> Option<Group>
         ensures { result ≡ offered_group self.now.entry }
     {
@@ -30,7 +30,7 @@ impl Receipt {
         }
     }
 
-    /// A copy.
+    /// Returns a copy.
     pub fn copy(&self) -> Result<Receipt, AllocError>
         ensures { IfOk result (λ receipt. receipt ≡ self.now) }
     {

@@ -6,7 +6,7 @@ ghost use Rattle.gu_terms.specs.Refusals.{IsRefusalText, key_in, number_of, name
 use crate::limit_key::LimitKey;
 use crate::refusal_text::RefusalText;
 
-/// Why a command is refused, in the order in which the tests are made.
+/// The reason that a command is refused, in the order in which the tests are made.
 #[derive(Clone, Copy, Debug, PartialEq, Eq)]
 pub enum Refusal {
     /// No day is open yet.
@@ -17,15 +17,15 @@ pub enum Refusal {
     UnknownInstrument,
     /// The reference has no such account.
     UnknownAccount,
-    /// The account is another firm's, or the offer is to one.
+    /// The account is another firm's, or the offer is to another firm's account.
     NotYours,
-    /// The firm has used this id already, for a report or for a give-up.
+    /// The firm has already used this id, for a report or for a give-up.
     DuplicateId,
     /// The trade has both its sides, or its one side disagrees.
     MatchConflict,
     /// The firm has no report with this id.
     UnknownTrade,
-    /// The report has no other side yet.
+    /// The report has no matching side yet.
     NotMatched,
     /// The firm has no agreement for the account.
     NoAgreement,
@@ -37,20 +37,20 @@ pub enum Refusal {
     UnknownOffer,
     /// Nothing is left of the offer.
     OfferClosed,
-    /// Under this key there is less room than is left of the offer.
+    /// There is less room under this key than is left of the offer.
     LimitReached(LimitKey),
-    /// The reference has no such group, or nothing that the key names.
+    /// The reference doesn't have the group, or doesn't have what the key names.
     UnknownKey,
     /// The limit is above 1,000,000,000 lots.
     TooHigh,
     /// Lots of the offer are left.
     OfferOpen,
-    /// Nothing of the offer was moved since the day was opened, or it was reversed.
+    /// Nothing was moved for the offer since the day was opened, or it has been reversed.
     NothingToReverse,
 }
 
 impl Refusal {
-    /// Its number in a reply, in one byte.
+    /// Returns its number in a reply, as one byte.
     pub(crate) fn code(self) -> u8
         ensures number { result ≡ number_of self }
         ensures back { key_in self ≡ None → refusal_of result ≡ self }
@@ -78,7 +78,7 @@ impl Refusal {
         }
     }
 
-    /// The refusal of a number, of those that name no key.
+    /// Returns the refusal with this number, among those that name no key.
     pub(crate) fn of_code(code: u8) -> Refusal
         ensures { result ≡ refusal_of code }
     {
@@ -104,14 +104,14 @@ impl Refusal {
         }
     }
 
-    /// Its number in a reply.
+    /// Returns its number in a reply.
     pub fn number(self) -> u64
         ensures { result ≡ number_of self }
     {
         u64::from(self.code())
     }
 
-    /// Its name in a reply.
+    /// Returns its name in a reply.
     pub fn name(self) -> &'static str
         ensures name { result.now ≡ name_of self }
         ensures short { length result.now ≤ 20 }
@@ -139,7 +139,7 @@ impl Refusal {
         }
     }
 
-    /// The key that it names.
+    /// Returns the key that it names.
     pub fn key(&self) -> Option<LimitKey>
         ensures { result ≡ key_in self.now }
     {
@@ -149,7 +149,7 @@ impl Refusal {
         }
     }
 
-    /// Whether two refusals are the same.
+    /// Returns whether two refusals are the same.
     pub fn is_same(&self, other: &Refusal) -> bool
         ensures { IsTrue result ↔ (self.now ≡ other.now) }
     {
@@ -158,7 +158,7 @@ impl Refusal {
         self.number() == other.number() && key == key_of_other
     }
 
-    /// Its text in a reply: its name, and after LimitReached the kind and the name of the key.
+    /// Returns its text in a reply: its name, and after LimitReached the kind and the name of the key.
     pub fn text(&self) -> RefusalText
         ensures text { result ≡ text_of self.now }
         ensures sound { IsRefusalText (text_of self.now) }

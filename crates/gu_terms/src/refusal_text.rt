@@ -9,10 +9,10 @@ use crate::limit_key::LimitKey;
 use crate::padded::Padded;
 use std::marker::Model;
 
-/// The bytes that the text of a refusal has at most.
+/// The most bytes in the text of a refusal.
 const LONGEST_TEXT: usize = 48;
 
-/// The text of a refusal, in place. To a contract it is its bytes.
+/// A refusal's text, stored in place. To a contract it is its bytes.
 #[derive(Clone, Copy, Debug)]
 pub struct RefusalText {
     text: Padded<LONGEST_TEXT>,
@@ -29,7 +29,7 @@ impl Model for RefusalText {
 }
 
 impl RefusalText {
-    /// The text that is a name.
+    /// Returns a refusal's name as its text.
     pub(crate) fn of_name(name: &str) -> Self
         requires { length name.now ≤ 20 }
         ensures { result ≡ name.now }
@@ -39,7 +39,7 @@ impl RefusalText {
         }
     }
 
-    /// The text that is a name and a key after it.
+    /// Returns a refusal's name followed by a key.
     pub(crate) fn of_key(name: &str, key: LimitKey) -> Self
         requires { length name.now ≤ 20 }
         ensures text { result ≡ named_with_key name.now key }
@@ -53,7 +53,7 @@ impl RefusalText {
         RefusalText { text }
     }
 
-    /// Its bytes.
+    /// Returns its bytes.
     pub fn get(&self) -> &[u8]
         ensures { result.now ≡ self.now }
     {

@@ -7,24 +7,24 @@ use crate::lots::Lots;
 use crate::offer_no::OfferNo;
 use crate::refusal::Refusal;
 
-/// What an accepted command did.
+/// The effect of an accepted command.
 #[derive(Clone, Copy, Debug, PartialEq, Eq)]
 pub enum Done {
     /// The day is open.
     Opened,
-    /// The limit holds from now on.
+    /// The limit applies from now on.
     LimitSet,
-    /// The side is taken in, and makes a trade with an earlier one or waits for its other side.
+    /// The side is captured, and makes a trade with an earlier side or waits for its other side.
     Reported {
         matched: bool,
     },
-    /// The lines are offers of this product group, so many, numbered from the first on.
+    /// The lines are offers in this product group, `count` of them, numbered from `first`.
     Offered {
         group: Group,
         first: OfferNo,
         count: u8,
     },
-    /// These lots, all that was left of the offer, are moved to the carrying side's account.
+    /// These lots, all that was left of the offer, are moved to the carrying firm's account.
     Claimed {
         lots: Lots,
     },
@@ -32,14 +32,14 @@ pub enum Done {
     Refused {
         lots: Lots,
     },
-    /// These lots, all that was moved of the offer on this day, are moved back.
+    /// These lots, all that was moved for the offer on this day, are moved back.
     Reversed {
         lots: Lots,
     },
 }
 
 impl Done {
-    /// Whether two commands did the same.
+    /// Returns whether two commands had the same effect.
     pub fn is_same(self, other: Done) -> bool
         ensures { IsTrue result ↔ (self ≡ other) }
     {
@@ -80,7 +80,7 @@ impl Done {
     }
 }
 
-/// The answer to a command.
+/// The reply to a command.
 #[derive(Clone, Copy, Debug, PartialEq, Eq)]
 pub enum Reply {
     Accepted(Done),
@@ -88,7 +88,7 @@ pub enum Reply {
 }
 
 impl Reply {
-    /// Whether two replies are the same.
+    /// Returns whether two replies are the same.
     pub fn is_same(self, other: Reply) -> bool
         ensures { IsTrue result ↔ (self ≡ other) }
     {

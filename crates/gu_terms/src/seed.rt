@@ -1,4 +1,4 @@
-//! Seeds of tables.
+//! Seeds for hash tables.
 
 ghost use Rattle.std.specs.Prelude.{◌≡◌, fold};
 ghost use Rattle.std.specs.Hash as fed;
@@ -6,15 +6,14 @@ ghost use Rattle.std.specs.Hash.FoldHasher as folding;
 
 use std::hash::{BuildHasher, FoldHasher, Hasher};
 
-/// What a table's hasher begins with, so that nobody who doesn't know it can choose ids that fall together. What a table
-/// holds doesn't depend on it.
+/// A table's initial hasher, so that nobody without the seed can choose ids that collide. It doesn't affect what a table holds.
 #[derive(Clone, Copy)]
 pub struct Seed {
     begun: FoldHasher,
 }
 
 impl Seed {
-    /// The seed of this number: a hasher that has taken its eight bytes in.
+    /// Returns the seed with this number: a hasher that has taken in its eight bytes.
     pub fn new(number: u64) -> Self
         ensures { result.begun ≡ fold folding.write folding.initial (fed.u64 number) }
     {

@@ -5,14 +5,14 @@ ghost use Rattle.gu_terms.specs.Names.{IsName};
 
 use crate::name::Name;
 
-/// An instrument by its symbol (FIX: Symbol, tag 55).
+/// An instrument, by its symbol (FIX: Symbol, tag 55).
 #[derive(Clone, Copy, Debug, PartialEq, Eq, Hash)]
 pub struct Symbol {
     pub name: Name,
 }
 
 impl Symbol {
-    /// The symbol with this name.
+    /// Returns the symbol with this name.
     pub fn new(bytes: &[u8]) -> Option<Self>
         ensures sound { IsSome result ↔ IsName bytes.now }
         ensures same { IfSome result (λ symbol. symbol.name ≡ bytes.now) }
@@ -20,7 +20,7 @@ impl Symbol {
         Name::new(bytes).map(|name| Symbol { name })
     }
 
-    /// Its name.
+    /// Returns its name.
     pub fn get(&self) -> &[u8]
         ensures bytes { result.now ≡ self.now.name }
         ensures sound { IsName self.now.name }

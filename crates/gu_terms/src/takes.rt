@@ -1,4 +1,4 @@
-//! The lots that a sweep takes of offers.
+//! The lots that a sweep takes from offers.
 
 ghost use Rattle.std.specs.Prelude.{◌≡◌, ◌↔◌, [], nat_lt, IsTrue, IfOk, OnErr, if◌then◌else◌};
 ghost use Rattle.gu_terms.specs.Takes.{IsAscending, IsNamed, IsPlace, with_take};
@@ -7,15 +7,14 @@ use crate::offer_no::OfferNo;
 use std::alloc::{AllocError, Global};
 use std::marker::Model;
 
-/// The lots that are taken of an offer.
+/// The lots taken from an offer.
 #[derive(Clone, Copy, Debug, PartialEq, Eq)]
 pub struct Take {
     pub offer: OfferNo,
     pub lots: u64,
 }
 
-/// Takes by offer: offers ascend, each once. An offer that isn't named takes 0.
-/// To a contract it is the list of the takes.
+/// A list of takes in ascending order of offers, each named once. An offer not named takes 0. To a contract it is the list of the takes.
 #[derive(Debug, Drop)]
 pub struct Takes {
     list: Vec<Take>,
@@ -33,14 +32,14 @@ impl Model for Takes {
     ghost invariant = { λ t. IsAscending t.list.items };
 }
 
-/// Whether a take is of an earlier offer.
+/// Returns whether a take is from an earlier offer.
 fn is_earlier(take: &Take, offer: OfferNo) -> bool
     ensures { result ≡ nat_lt take.now.offer offer }
 {
     take.offer < offer
 }
 
-/// How many takes are of earlier offers.
+/// Returns the number of takes from earlier offers.
 fn place_of(takes: &[Take], offer: OfferNo) -> usize
     requires { IsAscending takes.now }
     ensures { IsPlace takes.now result offer }
@@ -51,7 +50,7 @@ fn place_of(takes: &[Take], offer: OfferNo) -> usize
     }
 }
 
-/// Whether the take at a place is of this offer.
+/// Returns whether the take at an index is from this offer.
 fn is_at(takes: &[Take], place: usize, offer: OfferNo) -> bool
     requires ascending { IsAscending takes.now }
     requires place { IsPlace takes.now place offer }
@@ -61,7 +60,7 @@ fn is_at(takes: &[Take], place: usize, offer: OfferNo) -> bool
 }
 
 impl Takes {
-    /// No takes.
+    /// Returns an empty list of takes.
     pub fn new(alloc: Global) -> Self
         ensures { result ≡ [] }
     {
@@ -70,7 +69,7 @@ impl Takes {
         }
     }
 
-    /// The takes of a list whose offers ascend.
+    /// Returns the takes in a list whose offers ascend.
     pub fn of(list: Vec<Take>) -> Self
         requires { IsAscending list.items }
         ensures { result ≡ list.items }
@@ -78,7 +77,7 @@ impl Takes {
         Takes { list }
     }
 
-    /// The takes, offers ascending.
+    /// Returns the takes, in ascending order of offers.
     pub fn as_slice(&self) -> &[Take]
         ensures takes { result.now ≡ self.now }
         ensures ascending { IsAscending self.now }
@@ -86,8 +85,8 @@ impl Takes {
         self.list.as_slice()
     }
 
-    /// Adds a take in its place, and answers whether it was new: an offer that is named already keeps its lots.
-    /// What comes after its place is moved, so offers that come in ascending order cost least.
+    /// Adds a take in order, and returns whether it was new: an offer already named keeps its lots. Later takes are moved, so adding offers
+    /// in ascending order costs least.
     pub fn add(&mut self, offer: OfferNo, lots: u64) -> Result<bool, AllocError>
         ensures added { IfOk result (λ added. IsTrue added ↔ (¬ IsNamed self.old offer)) }
         ensures takes { IfOk result (λ added.
@@ -102,7 +101,7 @@ impl Takes {
         Ok(true)
     }
 
-    /// A copy.
+    /// Returns a copy.
     pub fn copy(&self) -> Result<Takes, AllocError>
         ensures { IfOk result (λ takes. takes ≡ self.now) }
     {
@@ -110,7 +109,7 @@ impl Takes {
         Ok(Takes { list })
     }
 
-    /// Whether two lists of takes are the same.
+    /// Returns whether two lists of takes are the same.
     pub fn is_same(&self, other: &Takes) -> bool
         ensures { IsTrue result ↔ (self.now ≡ other.now) }
     {

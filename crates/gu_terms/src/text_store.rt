@@ -1,4 +1,4 @@
-//! Texts in one run of bytes.
+//! An arena of texts.
 
 ghost use Rattle.std.specs.Prelude.{◌≡◌, ◌+◌, ◌++◌, ◌<◌, ◌≤◌, [], length, take, OnOk};
 ghost use Rattle.gu_terms.specs.TextStores.{Stored};
@@ -7,15 +7,14 @@ use crate::padded::Padded;
 use std::alloc::{AllocError, Global};
 use std::marker::Model;
 
-/// The bytes of room that are made at a time beyond what is asked for: so few that they are filled fast.
+/// The extra bytes of room allocated at a time: few enough to be filled soon.
 const MORE_ROOM: usize = 1_800;
 
-/// Texts, one after the other, with room after them that is written before they come. To a contract it is their bytes, and for how
-/// many more there is room.
+/// An arena of texts with pre-initialised spare capacity. To a contract it is their bytes and the number of spare bytes.
 #[derive(Drop)]
 pub struct TextStore {
     bytes: Vec<u8>,
-    /// The bytes that the texts have. Whatever lies after them is room.
+    /// The length of the texts in bytes. Anything after them is spare.
     len: usize,
 }
 
@@ -30,7 +29,7 @@ impl Model for TextStore {
 }
 
 impl TextStore {
-    /// No texts.
+    /// Returns an empty arena.
     pub fn new(alloc: Global) -> Self
         ensures { result.bytes ≡ [] }
     {
@@ -40,21 +39,21 @@ impl TextStore {
         }
     }
 
-    /// The bytes that the texts have.
+    /// Returns the length of the texts in bytes.
     pub fn len(&self) -> usize
         ensures { result ≡ length self.now.bytes }
     {
         self.len
     }
 
-    /// The bytes of the texts.
+    /// Returns the bytes of the texts.
     pub fn get(&self) -> &[u8]
         ensures { result.now ≡ self.now.bytes }
     {
         &self.bytes[..self.len]
     }
 
-    /// Makes room for so many bytes more.
+    /// Makes room for `more` bytes.
     #[inline(always)]
     pub fn reserve(&mut self, more: usize) -> Result<(), AllocError>
         ensures bytes { self.new.bytes ≡ self.old.bytes }
@@ -66,7 +65,7 @@ impl TextStore {
         self.grow(more)
     }
 
-    /// Makes room for so many bytes more, and for others after them.
+    /// Makes room for `more` bytes, and some extra.
     #[cold]
     fn grow(&mut self, more: usize) -> Result<(), AllocError>
         requires { self.old.spare < more }
@@ -79,7 +78,7 @@ impl TextStore {
         self.bytes.resize(end.saturating_add(MORE_ROOM), 0)
     }
 
-    /// Puts a text after the others: a copy of `N` bytes takes less than one of as many as the text has.
+    /// Appends a text: copying `N` bytes is cheaper than copying a varying number.
     #[inline(always)]
     pub fn put<const N: usize>(&mut self, text: &Padded<N>)
         requires { N ≤ self.old.spare }
@@ -91,7 +90,7 @@ impl TextStore {
         self.len = at + text.len();
     }
 
-    /// Keeps the first bytes, so many of them. It takes no memory.
+    /// Keeps the first `len` bytes. It allocates nothing.
     pub fn truncate(&mut self, len: usize)
         ensures { self.new.bytes ≡ take len self.old.bytes }
     {

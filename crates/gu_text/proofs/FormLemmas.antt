@@ -1,4 +1,4 @@
--- Lines of a script, form by form.
+-- Script lines, form by form.
 use Rattle.std.proofs.Common.{◌≡◌, ◌≢◌, ◌⊎◌, ◌++◌, ◌∷◌, [], ◌∙◌, ◌↔◌, ℕ, Bool, true, false, cond, List, Option, None, Some, IsTrue, IsSome, IfSome, MatchOption, refl, sym, ap, subst, inl, inr, append_assoc}
 use Rattle.std.specs.Prelude.{codes, ℤ}
 use Rattle.std.specs.List.{find, AllByRecursion}
@@ -32,7 +32,7 @@ found_first : {X : Type 0} (b : Bool) (y x : X) (rest : Option X) → cond b (So
 found_first true y x rest h = inl (refl, cc)
 found_first false y x rest h = inr h
 
--- what is found passes, and is among those that are looked through
+-- what is found passes the test, and is in the list searched
 pub found : {X : Type 0} (p : X → Bool) (P : X → Type 0) (xs : List X) (x : X) → AllByRecursion P xs → find p xs ≡ Some x → (p x ≡ true) × P x
 found p P [] x all h = cc
 found p P (y ∷ ys) x all h =
@@ -45,7 +45,7 @@ named_key : (b : Bool) (kind word : List ℕ) (key : LimitKey) → option_and_th
 named_key true kind word key h = (refl, h)
 named_key false kind word key h = cc
 
--- a key that a kind and a word say has this kind and this name
+-- a key with a kind and a name has this kind and this name
 pub key_found : (kind word : List ℕ) (key : LimitKey) → key_said kind word ≡ Some key → (kind ≡ kind_of key) × (word ≡ name_of_key key) × IsTrue (is_name word)
 key_found kind word key h =
     let named = named_key (is_name word) kind word key h in
@@ -103,13 +103,13 @@ report_found words rest behind firm_word id_word match_word side_text symbol_wor
       refl,
     )
 
--- a word that writes no day opens none
+-- a word that isn't a day opens none
 pub day_missed : (words : List (List ℕ)) (text : List ℕ) → words ≡ text ∷ [] → ((day : Day) → ¬ WritesDay text day.year day.month day.day) → WriteNone form.Day (codes "DAY" ∷ words)
 day_missed words text words_are none it h =
     let same : h.0 ≡ text = let all : codes "DAY" ∷ text ∷ [] ≡ codes "DAY" ∷ h.0 ∷ [] = sym (ap (λ (ws : List (List ℕ)). codes "DAY" ∷ ws) words_are) ∙ h.1 in cc in
     none it.day (subst (λ (t : List ℕ). WritesDay t it.day.year it.day.month it.day.day) same h.2)
 
--- a word that stands for no lots reports none
+-- a word that isn't a number of lots reports none
 pub report_missed : (words rest behind : List (List ℕ)) (firm id match_id side symbol text : List ℕ) → words ≡ firm ∷ id ∷ match_id ∷ rest → rest ≡ side ∷ symbol ∷ text ∷ behind
     → ((n : ℕ) → ¬ MeansLots text n) → WriteNone form.Report (codes "REPORT" ∷ words)
 report_missed words rest behind firm id match_id side symbol text words_are rest_are none it h =
@@ -119,7 +119,7 @@ report_missed words rest behind firm id match_id side symbol text words_are rest
 
 -- ---- give-ups
 
--- and such a word ends no line of a give-up
+-- such a word ends no line of a give-up
 pub pair_missed : (words rest behind : List (List ℕ)) (account text : List ℕ) → words ≡ account ∷ rest → rest ≡ text ∷ behind → ((n : ℕ) → ¬ MeansLots text n) → WritesNoLine words
 pair_missed words rest behind account text words_are rest_are none first others h =
     let all : words ≡ account ∷ text ∷ behind = words_are ∙ ap (λ (ws : List (List ℕ)). account ∷ ws) rest_are in
@@ -131,7 +131,7 @@ pub record IsReadTo (words : List (List ℕ)) (lines : List GiveUpLine) (rest : 
   pub onward : (more : List GiveUpLine) → WriteLines rest more → WriteLines words (lines ++ more)
   pub back : (all : List GiveUpLine) → WriteLines words all → (more : List GiveUpLine) × (all ≡ lines ++ more) × WriteLines rest more
 
--- no words are read at first
+-- initially no words are read
 pub unread : (words : List (List ℕ)) → IsReadTo words [] words
 unread words = record { onward = λ more h. h; back = λ all h. (all, refl, h) }
 
@@ -162,7 +162,7 @@ no_more : (more : List GiveUpLine) → WriteLines [] more → more ≡ []
 no_more [] h = refl
 no_more (first ∷ others) h = absurd h
 
--- where none are left, the words are these lines', and no others'
+-- if none are left, the words are those of these lines only
 pub lines_whole : (words : List (List ℕ)) (lines : List GiveUpLine) (rest : List (List ℕ)) → IsReadTo words lines rest → rest ≡ [] → (read : Option (List GiveUpLine))
     → MatchOption read (¬ AreLines lines) (λ made. AreLines lines × (made ≡ lines)) → ReadsLines words read
 lines_whole words lines rest read none (Some made) is =
@@ -172,7 +172,7 @@ lines_whole words lines rest read none None is = λ all are written.
     let same : all ≡ lines = b.1 ∙ ap (λ (ls : List GiveUpLine). lines ++ ls) (no_more b.0 (subst (λ (ws : List (List ℕ)). WriteLines ws b.0) none b.2)) ∙ append-nil lines in
     is (subst AreLines same are)
 
--- lines that are made of a list, where it has as many as a give-up may have
+-- lines made from a list, if it isn't too long for a give-up
 pub lines_made : (lines : List GiveUpLine) (read : Option (List GiveUpLine)) → IsSome read ↔ AreLines lines → IfSome read (λ made. made ≡ lines) → MatchOption read (¬ AreLines lines) (λ made. AreLines lines × (made ≡ lines))
 lines_made lines None sound same = λ are. let e : false ≡ true = sound.1 are in cc
 lines_made lines (Some made) sound same = (sound.0 refl, same)

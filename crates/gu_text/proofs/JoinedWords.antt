@@ -1,4 +1,4 @@
--- Words as a line: the first of them stands in front.
+-- Words as a line, with the first word first.
 use Rattle.std.proofs.Common.{◌≡◌, ◌≤◌, ◌++◌, ◌∷◌, [], ℕ, List, length, refl, arith}
 use Rattle.gu_terms.specs.declared.limit_key.LimitKey.{LimitKey}
 use Rattle.gu_terms.specs.declared.reply.Reply.{Reply}
@@ -15,12 +15,12 @@ pub reply_line : (first : List ℕ) (reply : Reply) → line_of (first ∷ reply
 reply_line first (Accepted done) = refl
 reply_line first (Denied refusal) = refl
 
--- and so has what a view lacks
+-- so has the part that the view lacks
 pub lacking_line : (first : List ℕ) (lacking : Unknown) → line_of (first ∷ lacking_words lacking) ≡ word first ++ line_of (lacking_words lacking)
 lacking_line first (Key key) = refl
 lacking_line first (Offer offer) = refl
 
--- and so has a path
+-- so has a path
 pub path_line : (first : List ℕ) (path : List LimitKey) → 4 ≤ length path → line_of (first ∷ path_words path) ≡ word first ++ line_of (path_words path)
 path_line first [] some = absurd (omega (arith, some))
 path_line first (only ∷ []) some = absurd (omega (arith, some))

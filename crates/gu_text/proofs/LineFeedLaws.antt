@@ -1,4 +1,4 @@
--- Laws of the lines of a text that still comes, for the crates above: what is ended stays, whatever comes.
+-- Laws of the lines of a text that is still arriving, for the crates above: an ended line stays, whatever follows.
 use Rattle.std.proofs.Common.{◌≡◌, ◌≢◌, ◌<◌, ◌≤◌, ◌+◌, ◌-◌, ◌∷◌, [], ◌++◌, ◌∙◌, ◌==◌, ◌⊎◌, ℕ, Bool, true, false, List, None, Some, length, take, drop, position, nat_lt, get_or, refl, sym, ap, subst, arith, append_assoc, append-nil, length-append, inl, inr, cond}
 use Rattle.std.specs.Prelude.{All, slice_index}
 use Rattle.std.specs.List.{slice_split, position_or_len}
@@ -15,7 +15,7 @@ use Rattle.gu_text.proofs.LineLemmas.{first_of_parts, last_part}
 
 -- ---- parts between LFs
 
--- what has no LF is one part
+-- bytes without an LF are one part
 alone : (bytes : List ℕ) → HasNoLineFeed bytes → slice_split (λ b. b == 10) bytes ≡ bytes ∷ []
 alone bytes none = slice_split_none (λ b. b == 10) bytes (λ k d within. ne_eqb _ 10 (none k d within))
 
@@ -38,7 +38,7 @@ lines-parted front behind none = ap lines_of_parts (parted front behind none) �
 pub ended_lines-parted : (front behind : List ℕ) → HasNoLineFeed front → ended_lines (front ++ 10 ∷ behind) ≡ strip_carriage_return front ∷ ended_lines behind
 ended_lines-parted front behind none = ap ended_parts (parted front behind none) ∙ first_ended front (slice_split (λ b. b == 10) behind) (some_parts behind)
 
--- what has no LF is a line that isn't ended
+-- bytes without an LF are a line that isn't ended
 pub lines-alone : (bytes : List ℕ) → HasNoLineFeed bytes → bytes ≢ [] → lines bytes ≡ bytes ∷ []
 lines-alone bytes none some = ap lines_of_parts (alone bytes none) ∙ last_part bytes some
 
@@ -67,18 +67,18 @@ leaves_on text rest last ended others first second = record {
   ended_are = λ more. first.ended_are more ∙ ap (λ (ls : List (List ℕ)). ended ++ ls) (second.ended_are more) ∙ sym (append_assoc ended others (ended_lines (last ++ more)));
 }
 
--- a piece comes after a text, and so after its rest
+-- a piece follows a text, and so its rest
 pub leaves_with : (text piece rest : List ℕ) (ended : List (List ℕ)) → LeavesOpen text ended rest → LeavesOpen (text ++ piece) ended (rest ++ piece)
 leaves_with text piece rest ended leaves = record {
   lines_are = λ more. ap lines (append_assoc text piece more) ∙ leaves.lines_are (piece ++ more) ∙ ap (λ (t : List ℕ). ended ++ lines t) (sym (append_assoc rest piece more));
   ended_are = λ more. ap ended_lines (append_assoc text piece more) ∙ leaves.ended_are (piece ++ more) ∙ ap (λ (t : List ℕ). ended ++ ended_lines t) (sym (append_assoc rest piece more));
 }
 
--- the lines of a text of which this rest is left
+-- the lines of a text with this rest
 pub lines-left : (text rest : List ℕ) (ended : List (List ℕ)) → LeavesOpen text ended rest → lines text ≡ ended ++ lines rest
 lines-left text rest ended open_is = ap lines (sym (append-nil text)) ∙ open_is.lines_are [] ∙ ap (λ (t : List ℕ). ended ++ lines t) (append-nil rest)
 
--- where the rest has no LF, these are all that are ended
+-- if the rest has no LF, these are all the ended lines
 pub ended_lines-left : (text rest : List ℕ) (ended : List (List ℕ)) → LeavesOpen text ended rest → HasNoLineFeed rest → ended_lines text ≡ ended
 ended_lines-left text rest ended open_is none =
     ap ended_lines (sym (append-nil text)) ∙ open_is.ended_are [] ∙ ap (λ (t : List ℕ). ended ++ ended_lines t) (append-nil rest)
@@ -114,7 +114,7 @@ find_feed : (bytes : List ℕ) → IsFound bytes
 find_feed [] = inr (All-nil (λ b. b ≢ 10))
 find_feed (b ∷ bytes) = found_first b bytes (b == 10) refl (find_feed bytes)
 
--- a CR that is dropped is one byte
+-- a dropped CR is one byte
 pub length-stripped : (bytes : List ℕ) → length bytes ≤ length (strip_carriage_return bytes) + 1
 length-stripped bytes = along (slice_index bytes (length bytes - 1) == 13)
   where
@@ -122,7 +122,7 @@ length-stripped bytes = along (slice_index bytes (length bytes - 1) == 13)
     along true = omega (arith, length-take-le (length bytes - 1) bytes)
     along false = omega arith
 
--- more bytes than the longest line and a CR have no LF among them: their line is too long
+-- if more bytes than the longest line and a CR have no LF among them, their line is too long
 pub too_long : (bytes : List ℕ) → HasNoLineFeed bytes → longest_line + 1 < length bytes → IsTooLong bytes
 too_long bytes none long more =
     elim (find_feed more) [
@@ -141,13 +141,13 @@ too_long bytes none long more =
       )
     ]
 
--- ---- the first LF is looked for
+-- ---- looking for the first LF
 
 cond_none : (b : Bool) (n : ℕ) → cond b (Some n) None ≡ None → b ≡ false
 cond_none true n h = cc
 cond_none false n h = refl
 
--- where it has a place, it parts the bytes there
+-- if there is one, it splits the bytes there
 pub parted_at : (bytes : List ℕ) (place : ℕ) → position (λ b. b == 10) bytes ≡ Some place → IsParted bytes (take place bytes) (drop (place + 1) bytes)
 parted_at bytes place h =
     let p : ℕ → Bool = λ b. b == 10 in
@@ -166,7 +166,7 @@ parted_at bytes place h =
       first = first;
     }
 
--- where it has none, there is none
+-- if there is none, there is none in the bytes
 pub no_feed_at : (bytes : List ℕ) → position (λ b. b == 10) bytes ≡ None → HasNoLineFeed bytes
 no_feed_at bytes h k d within same =
     let p : ℕ → Bool = λ b. b == 10 in

@@ -8,7 +8,7 @@ pub first_of_parts : (part : List ℕ) (parts : List (List ℕ)) → 0 < length 
 first_of_parts part [] h = absurd (omega (arith, h))
 first_of_parts part (next ∷ parts) h = refl
 
--- the last part is a line, where it isn't empty
+-- the last part is a line, if it isn't empty
 pub last_part : (part : List ℕ) → part ≢ [] → lines_of_parts (part ∷ []) ≡ part ∷ []
 last_part [] h = absurd (h refl)
 last_part (b ∷ part) h = cond-false (length (b ∷ part) == 0) [] ((b ∷ part) ∷ []) (ne_eqb (length (b ∷ part)) 0 (λ e. absurd (omega arith)))

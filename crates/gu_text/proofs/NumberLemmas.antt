@@ -8,14 +8,14 @@ use Rattle.std.proofs.lemmas.Bool.{and_parts, cases_Bool}
 use Rattle.std.proofs.Math.Nat.{pow-le-pow_right}
 use Rattle.gu_text.specs.SheetLines.{is_number, number_of}
 
--- bytes that pass are digits
+-- bytes that pass the test are digits
 pub digits_from_test : (word : List ℕ) → list_all (λ byte. is_digit byte 10) word ≡ true → AllDigits 10 word
 digits_from_test [] h = tt
 digits_from_test (b ∷ word) h =
     let t = and_parts (is_digit b 10) (list_all (λ byte. is_digit byte 10) word) h in
     (search (arith, t.0), digits_from_test word t.1)
 
--- and digits pass
+-- digits pass the test
 pub test_from_digits : (word : List ℕ) → AllDigits 10 word → list_all (λ byte. is_digit byte 10) word ≡ true
 test_from_digits [] h = refl
 test_from_digits (b ∷ word) h =
@@ -31,7 +31,7 @@ digits_tested false word h =
       | inr miss ↦ sym miss
     ]
 
--- twelve digits write less than a million millions
+-- twelve digits are less than 10^12
 pub twelve_digits : (word : List ℕ) → AllDigits 10 word → length word ≤ 12 → digits_value 10 word < 1000000000000
 twelve_digits word digits few =
     omega (arith, digits_value-lt 10 word digits, pow-le-pow_right {n = 10} (omega arith) few)
@@ -46,7 +46,7 @@ number_short word h =
 pub number_digits : (word : List ℕ) → is_number word ≡ true → AllDigits 10 word
 number_digits word h = digits_from_test word (and_parts (nat_le 1 (length word) && nat_le (length word) 12) (list_all (λ byte. is_digit byte 10) word) h).1
 
--- a word of digits, and the value that was read of it
+-- a word of digits, and its value
 pub number_read : (word : List ℕ) (o : Option ℕ) → is_number word ≡ true → MatchOption o (999999999999 < digits_value 10 word) (λ n. (n ≡ digits_value 10 word) × (n ≤ 999999999999)) → o ≡ number_of word
 number_read word None h read =
     let low = twelve_digits word (number_digits word h) (number_short word h) in

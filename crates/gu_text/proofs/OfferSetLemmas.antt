@@ -1,4 +1,4 @@
--- A set of offers, a bit for each.
+-- A set of offers, with one bit for each.
 use Rattle.std.proofs.Common.{◌≡◌, ◌≢◌, ◌<◌, ◌*◌, ◌/◌, ◌%◌, ◌^◌, ◌==◌, ◌||◌, ◌∙◌, ◌∷◌, ◌++◌, [], ℕ, Bool, true, false, List, length, get_or, map, nat_eq, bit_or, refl, sym, ap, inl, inr, arith, w64}
 use Rattle.std.proofs.Math.ListN.{set}
 use Rattle.std.specs.Int.{bit_at}
@@ -37,7 +37,7 @@ module _ (words : List ℕ) (offer other : ℕ) (inside : offer / 64 < length wo
   others : other ≢ offer → (other == offer || is_marked words other) ≡ is_marked words other
   others apart = ap (λ b. b || is_marked words other) (ne_eqb other offer apart)
 
-  -- one offer more is marked
+  -- one more offer is marked
   pub is_marked-set : is_marked new other ≡ (other == offer || is_marked words other)
   is_marked-set =
       elim (eqb_tells (other / 64) (offer / 64)) [
@@ -58,7 +58,7 @@ module _ (words : List ℕ) (offer other : ℕ) (inside : offer / 64 < length wo
             ∙ sym (others (λ e. place.1 (ap (λ n. n / 64) e)))
       ]
 
--- ---- offers that are marked
+-- ---- marked offers
 
 named_alike : (n : ℕ) (numbers : List ℕ) → list_any (nat_eq n) numbers ≡ has_number numbers n
 named_alike n [] = refl
@@ -77,7 +77,7 @@ pub marks_none : (words : List ℕ) → ((offer : ℕ) → is_marked words offer
 unfolding IsDistinct
 marks_none words none = record { marked = none; distinct = tt }
 
--- one offer more, that isn't marked, and its mark
+-- one more offer, which wasn't marked, and its mark
 pub marks_more : (words more offers : List ℕ) (next : ℕ) → MarksOffers words offers → is_marked words next ≡ false
     → ((other : ℕ) → is_marked more other ≡ (other == next || is_marked words other)) → MarksOffers more (offers ++ next ∷ [])
 marks_more words more offers next marks fresh adds = record {
@@ -85,6 +85,6 @@ marks_more words more offers next marks fresh adds = record {
   distinct = IsDistinct-push nat_eq_equiv offers next marks.distinct (named_alike next offers ∙ sym (marks.marked next) ∙ fresh);
 }
 
--- the offers of one take more
+-- the offers of one more take
 pub offers_of_more : (takes : List Take) (next : Take) → map (λ (t : Take). t.offer) (takes ++ next ∷ []) ≡ map (λ (t : Take). t.offer) takes ++ next.offer ∷ []
 offers_of_more takes next = map-append (λ (t : Take). t.offer) takes (next ∷ [])

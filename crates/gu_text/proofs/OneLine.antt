@@ -1,5 +1,5 @@
--- A line of a script says one thing at most.
-use Rattle.std.proofs.Common.{◌≡◌, ◌∷◌, [], ◌∙◌, ℕ, ℤ, List, Some, refl, sym, ap, subst}
+-- A script line says at most one thing.
+use Rattle.std.proofs.Common.{◌≡◌, ◌∷◌, [], ◌∙◌, ℕ, List, Some, refl, sym, ap, subst}
 use Rattle.gu_terms.specs.Days.{WritesDay}
 use Rattle.gu_terms.specs.LimitKeys.{kind_of, name_of_key}
 use Rattle.gu_terms.specs.NumberText.{MeansLots, MeansPrice}
@@ -37,7 +37,7 @@ one_form words a b p q =
 one_pair : (a b : GiveUpLine) → a.account ≡ b.account → a.lots ≡ b.lots → a ≡ b
 one_pair a b accounts lots = λ i. record { account = accounts i; lots = lots i }
 
--- words write the lines of one give-up
+-- words are the lines of at most one give-up
 lines_once : (words : List (List ℕ)) (a b : List GiveUpLine) → WriteLines words a → WriteLines words b → a ≡ b
 lines_once [] [] [] p q = refl
 lines_once [] [] (d ∷ b) p q = absurd q
@@ -51,7 +51,7 @@ lines_once (account ∷ lots ∷ words) (c ∷ a) (d ∷ b) p q =
     let others = lines_once words a b p.3 q.3 in
     cc
 
--- what a line of a form says
+-- the content of a line of a form
 abbrev IsOf : Form → Line → Type 0
 IsOf form.Day said = (it : OpenDayOf) × (said ≡ line.Step (Enter (OpenDay it)))
 IsOf form.Limit said = (it : SetLimitOf) × (said ≡ line.Step (Enter (SetLimit it)))
@@ -84,11 +84,11 @@ of_form (line.Position account symbol) = (account, symbol, refl)
 of_form (line.Interest symbol) = (symbol, refl)
 of_form (line.Limits group) = (group, refl)
 
--- a line of the form of another one
+-- a line of the same form as another
 alike : (a b : Line) → form_of a ≡ form_of b → IsOf (form_of a) b
 alike a b forms = subst (λ f. IsOf f b) (sym forms) (of_form b)
 
--- words write one report
+-- words are at most one report
 report_once : (words : List (List ℕ)) (a b : ReportSideOf) → Writes words (line.Step (Enter (ReportSide a))) → Writes words (line.Step (Enter (ReportSide b)))
     → line.Step (Enter (ReportSide a)) ≡ line.Step (Enter (ReportSide b))
 report_once words a b p q =
@@ -120,7 +120,7 @@ report_once words a b p q =
       account = accounts i;
     })))
 
--- words write one give-up
+-- words are at most one give-up
 give_up_once : (words : List (List ℕ)) (a b : GiveUpOf) → Writes words (line.Step (Enter (GiveUp a))) → Writes words (line.Step (Enter (GiveUp b)))
     → line.Step (Enter (GiveUp a)) ≡ line.Step (Enter (GiveUp b))
 give_up_once words a b p q =
@@ -133,7 +133,7 @@ give_up_once words a b p q =
     let same_lines = lines_once q.0 a.lines b.lines (subst (λ (ws : List (List ℕ)). WriteLines ws a.lines) pairs p.5) q.5 in
     λ i. line.Step (Enter (GiveUp (record { firm = firms i; id = ids i; report = reports i; lines = same_lines i })))
 
--- words write one line
+-- words are at most one line
 written_once : (words : List (List ℕ)) (a b : Line) → form_of a ≡ form_of b → Writes words a → Writes words b → a ≡ b
 written_once words (line.Step (Enter (OpenDay it))) b forms p q =
     let w = alike (line.Step (Enter (OpenDay it))) b forms in
@@ -260,6 +260,6 @@ written_once words (line.Limits group) b forms p q =
     let done : line.Limits group ≡ line.Limits group' = ap line.Limits (one_group group group' names) in
     done ∙ sym w.1
 
--- a line says one thing
+-- a line has at most one content
 pub said_once : (text : List ℕ) (a b : Line) → Says text a → Says text b → a ≡ b
 said_once text a b p q = written_once _ a b (one_form _ a b p.writes q.writes) p.writes q.writes

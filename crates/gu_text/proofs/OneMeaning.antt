@@ -1,4 +1,4 @@
--- A word means one thing at most.
+-- A word means at most one thing.
 use Rattle.std.proofs.Common.{◌≡◌, ◌∙◌, ◌<◌, ◌/◌, ◌^◌, ℕ, ℤ, pos, zero, suc, true, List, Some, length, refl, sym, ap, arith}
 use Rattle.std.specs.Str.{bytes_eq}
 use Rattle.std.proofs.lemmas.Slice.Eq.{bytes_eq-Decides}

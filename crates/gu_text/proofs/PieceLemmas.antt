@@ -1,4 +1,4 @@
--- A sheet is read piece by piece.
+-- Reading a sheet piece by piece.
 use Rattle.std.proofs.Common.{◌≡◌, ◌≢◌, ◌∙◌, ℕ, ◌+◌, ◌<◌, ◌≤◌, Bool, true, false, ◌&&◌, ◌||◌, ◌==◌, nat_le, nat_lt, List, [], ◌∷◌, ◌++◌, None, Some, length, slice_get, take, Result, Ok, Err, IfErr, IfOk, IsErrAnd, refl, sym, ap, subst, append_assoc, append-nil, length-append, arith, inl, inr}
 use Rattle.std.specs.Str.Lines.{lines, strip_carriage_return}
 use Rattle.std.proofs.lemmas.Bool.{cond-false, cond-true, lt-ltb, or_left}
@@ -60,7 +60,7 @@ long_speaks (first ∷ rest) long = and_no (first == 35) (nat_le (length (first 
     above : (n : ℕ) → longest_line < n → nat_le n longest_line ≡ false
     above n h = search (arith, h)
 
--- nor does it say anything
+-- nor does it have any content
 long_says : (text : List ℕ) → longest_line < length text → says text ≡ None
 long_says text long =
     cond-false (is_silent text) None (spoken text) (long_speaks text long)
@@ -76,7 +76,7 @@ long_is_wrong said text long right =
 
 -- ---- a piece
 
--- so far the lines that the piece ends are read: this is the place, and that is left of the piece
+-- so far the lines that the piece ends are read: the sheet is at this place, and this is left of the piece
 pub record Taking (old : SheetPlace) (piece : List ℕ) (now : SheetPlace) (left : List ℕ) : Type 0 where
   pub read : (text : List ℕ) → IsReadSoFar text old → IsReadUpTo (text ++ piece) now.so_far now.count (now.rest ++ left)
   pub none : HasNoLineFeed now.rest
@@ -95,7 +95,7 @@ next_line : (now : SheetPlace) (left part next : List ℕ) (whole : List ℕ) (e
 next_line now left part next whole ended none is leaves =
     leaves_on whole (now.rest ++ left) next ended (strip_carriage_return (now.rest ++ part) ∷ []) leaves (leaves_after (now.rest ++ left) (now.rest ++ part) next (parted_after now.rest left part next none is))
 
--- a line more
+-- one more line
 pub taking_line : (old now new : SheetPlace) (piece left part next : List ℕ) → Taking old piece now left → IsParted left part next
     → ((before : List (List ℕ)) → IsReadTo before now.so_far → IsReadTo (before ++ strip_carriage_return (now.rest ++ part) ∷ []) new.so_far) → new.count ≡ now.count + 1 → new.rest ≡ [] → Taking old piece new next
 taking_line old now new piece left part next taking is line counted done = record {
@@ -130,7 +130,7 @@ taking_bad old now piece left part next number taking is bad number_is text so_f
     let number_of : number ≡ length all.ended + 1 = omega (arith, number_is, all.count_is) in
     rw (parts, number_of) (bad_next all.ended line (lines (next ++ more)) (right_so_far all.ended now.so_far all.read) (bad all.ended all.read))
 
--- what waits is longer than any good line
+-- the waiting bytes are longer than any valid line
 pub taking_long : (old now : SheetPlace) (piece left : List ℕ) (number : ℕ) → Taking old piece now left → HasNoLineFeed left → longest_line + 1 < length (now.rest ++ left) → number ≡ now.count + 1
     → (text : List ℕ) → IsReadSoFar text old → IsBadHowever (text ++ piece) number
 taking_long old now piece left number taking none long number_is text so_far more =
@@ -167,11 +167,11 @@ last_bad text place number read none some bad number_is =
     let number_of : number ≡ length read.ended + 1 = omega (arith, number_is, read.count_is) in
     rw (all, number_of) (bad_next read.ended place.rest [] (right_so_far read.ended place.so_far read.read) (bad read.ended read.read))
 
--- the sheet, where the end was read
+-- the sheet, if its end was read
 pub whole_sheet : (text : List ℕ) (so_far : SheetSoFar) (count : ℕ) (sheet : Sheet) → IsReadWhole text so_far count → so_far ≡ Ended sheet → IsSheet text sheet
 whole_sheet text so_far count sheet read is = subst (IsReadTo (lines text)) is read.read
 
--- and the line that is missing, where it wasn't
+-- the missing line, if it wasn't
 pub whole_unended : (text : List ℕ) (so_far : SheetSoFar) (count number : ℕ) (parts : SheetParts) → IsReadWhole text so_far count → so_far ≡ Open parts → number ≡ count + 1 → Refuses text (BadLine number)
 whole_unended text so_far count number parts read is number_is = inr (record {
   right = (subst (IsReadTo (lines text)) is read.read).right;
@@ -179,7 +179,7 @@ whole_unended text so_far count number parts read is number_is = inr (record {
   number_is = omega (arith, number_is, read.count_is);
 })
 
--- ---- what the end gives
+-- ---- the result at the end
 
 pub given_sheet : (result : Result Sheet TextError) (place : SheetPlace) (so_far : SheetSoFar) (count : ℕ) → ((text : List ℕ) → IsReadSoFar text place → IsReadWhole text so_far count)
     → IfOk result (λ sheet. so_far ≡ Ended sheet) → IfOk result (λ sheet. (text : List ℕ) → IsReadSoFar text place → IsSheet text sheet)
@@ -202,7 +202,7 @@ last_refused (Err (BadLine n)) error place passed none some bad =
 
 -- ---- one piece, and the end
 
--- a text is one piece: it is refused by the line that is bad
+-- a text as one piece: it is refused for its bad line
 pub piece_refused : {T : Type 0} (result : Result T TextError) (error : TextError) (text : List ℕ) → IsErrAnd result (λ e. e ≡ error) → ((n : ℕ) → error ≡ BadLine n → IsBadHowever ([] ++ text) n)
     → IfErr result (Refuses text)
 piece_refused (Ok x) error text passed bad = tt

@@ -1,4 +1,4 @@
--- Lines that are written are read back.
+-- Written lines are read back.
 use Rattle.std.proofs.Common.{◌≡◌, ◌≢◌, ◌≤◌, ◌+◌, ◌-◌, ◌++◌, ◌∷◌, [], ◌∙◌, ◌||◌, ◌==◌, ℕ, Bool, true, false, not, zero, suc, List, Option, length, filter, get_or, slice_get, take, refl, sym, ap, append_assoc, length-append, arith}
 use Rattle.std.specs.Prelude.{All}
 use Rattle.std.specs.List.{AllByRecursion, flat_map, slice_split}
@@ -20,7 +20,7 @@ none_of false true r h = cc
 none_of false false true h = cc
 none_of false false false h = (refl, refl, refl)
 
--- no byte of a word is a blank, LF or CR
+-- no byte of a word is a space, LF or CR
 no_blank : (bytes : List ℕ) → IsWord bytes → All (λ b. is_blank b ≡ false) bytes
 no_blank bytes is k d k_in = (none_of (get_or bytes k d == 32) (get_or bytes k d == 10) (get_or bytes k d == 13) (is.each k d k_in)).0
 
@@ -33,7 +33,7 @@ some_word (b ∷ bytes) some e = cc
 
 -- ---- words
 
--- the words of a word and what comes after a blank
+-- the words of a word followed by a space and more
 words_of-first : (first : List ℕ) (rest : List ℕ) → IsWord first → words_of (word first ++ rest) ≡ first ∷ words_of rest
 words_of-first first rest is =
     ap words_of (append_assoc first (32 ∷ []) rest)
@@ -43,14 +43,14 @@ words_of-first first rest is =
 words_of-last : (last : List ℕ) → IsWord last → words_of last ≡ last ∷ []
 words_of-last last is = ap (filter (λ w. not (is_empty w))) (slice_split_none is_blank last (no_blank last is)) ∙ kept last [] (some_word last is.some)
 
--- the words of words that are joined
+-- the words of joined words
 words_of-joined : (words : List (List ℕ)) → AllByRecursion IsWord words → 1 ≤ length words → words_of (joined words) ≡ words
 words_of-joined [] each some = absurd (omega (arith, some))
 words_of-joined (last ∷ []) each some = words_of-last last each.0
 words_of-joined (first ∷ next ∷ others) each some =
     words_of-first first (joined (next ∷ others)) each.0 ∙ ap (λ (ws : List (List ℕ)). first ∷ ws) (words_of-joined (next ∷ others) each.1 (omega arith))
 
--- ---- what stands at the ends
+-- ---- the ends of a line
 
 blank_nowhere : (bytes : List ℕ) → All (λ b. is_blank b ≡ false) bytes → (k : ℕ) → is_blank_at bytes k ≡ false
 blank_nowhere [] none zero = refl
@@ -67,11 +67,11 @@ even_front [] each = refl
 even_front (last ∷ []) each = blank_nowhere last (no_blank last each.0) 0
 even_front (first ∷ next ∷ others) each = front_of_word first (joined (next ∷ others)) each.0
 
--- no places after the front
+-- no more indexes after the front
 zero_more : (k : ℕ) → 0 + k ≡ k
 zero_more k = omega arith
 
--- one place more
+-- one more index
 suc_more : (n k : ℕ) → suc n + k ≡ suc (n + k)
 suc_more n k = omega arith
 
@@ -97,7 +97,7 @@ even_end (first ∷ next ∷ others) each =
     ∙ slice_get-behind (word first) (joined (next ∷ others)) (length (joined (next ∷ others)) - 1))
     ∙ even_end (next ∷ others) each.1
 
--- the words of a line that they make are read of it
+-- a line made from words is read as those words
 pub read_back : (words : List (List ℕ)) → AreWords words → IsReadBack words
 read_back words are =
     let each = recursion_from_All IsWord words are.each in
@@ -146,11 +146,11 @@ lines-line_of words rest are =
     ∙ first_of_parts text (slice_split (λ b. b == 10) rest) (omega (arith, length-slice_split (λ b. b == 10) rest))
     ∙ ap (λ (line : List ℕ). line ∷ lines rest) (cond-false (get_or text (length text - 1) 0 == 13) (take (length text - 1) text) text (no_return words each are.some))
 
--- a text that is written line by line has these lines
+-- a text written line by line has these lines
 pub lines_of_rows : (rows : List (List (List ℕ))) → AllByRecursion AreWords rows → HasLines rows
 lines_of_rows [] each = refl
 lines_of_rows (words ∷ rows) each = lines-line_of words (flat_map line_of rows) each.0 ∙ ap (λ (ls : List (List ℕ)). joined words ∷ ls) (lines_of_rows rows each.1)
 
--- and so for rows by their places
+-- the same for rows by index
 pub has_lines : (rows : List (List (List ℕ))) → All AreWords rows → HasLines rows
 has_lines rows each = lines_of_rows rows (recursion_from_All AreWords rows each)

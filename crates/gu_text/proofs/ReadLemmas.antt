@@ -1,4 +1,4 @@
--- Values that are written are read back, and so are the lines of a sheet.
+-- Written values are read back, and so are the lines of a sheet.
 use Rattle.std.proofs.Common.{◌≡◌, ◌<◌, ◌≤◌, ◌*◌, ◌^◌, ◌∷◌, [], ◌∙◌, ◌||◌, ◌&&◌, ℕ, Bool, true, false, nat_le, nat_lt, List, Option, None, Some, IsTrue, length, map, get_or, refl, sym, ap, subst, inl, inr, length-append, arith}
 use Rattle.std.specs.Prelude.{codes, if◌then◌else◌}
 use Rattle.std.specs.Char.{is_digit}
@@ -52,13 +52,13 @@ is_number_back n small =
     let digits : AllDigits 10 (decimal n) = digits_decimal own n (wide n small) in
     sym (number_tested (decimal n) true (decimal_nonempty n (wide n small)) (few_digits n small) (λ h. digits, λ h. refl))
 
--- a number below a million millions is read back
+-- a number below 10^12 is read back
 pub number_back : (n : ℕ) → n < 10 ^ 12 → number_of (decimal n) ≡ Some n
 number_back n small =
     cond-true (is_number (decimal n)) (Some (digits_value 10 (decimal n))) None (is_number_back n small)
     ∙ ap Some (digits_value-decimal own n (wide n small))
 
--- a byte above the blank may stand in a word
+-- a byte above the space may be in a word
 pub high_in_word : (b : ℕ) → 33 ≤ b → is_word_byte b ≡ true
 high_in_word b high =
     let blank = ne_eqb b 32 (λ e. absurd (omega (arith, e, high))) in
@@ -72,7 +72,7 @@ digit_in_word b h =
     let range = digit_from_value b digits.0 in
     high_in_word b (omega (arith, range))
 
--- and is a word of twelve bytes at most
+-- it is a word of at most twelve bytes
 pub number_word : (n : ℕ) → n < 10 ^ 12 → IsWord (decimal n) × (length (decimal n) ≤ 12)
 number_word n small =
     let digits : AllDigits 10 (decimal n) = digits_decimal own n (wide n small) in
@@ -100,7 +100,7 @@ name_byte_in_word b h =
 pub name_back : (name : List ℕ) → is_name name ≡ true → name_of name ≡ Some name
 name_back name h = cond-true (is_name name) (Some name) None h
 
--- and is a word of twelve bytes at most
+-- it is a word of at most twelve bytes
 pub name_word : (name : List ℕ) → is_name name ≡ true → IsWord name × (length name ≤ 12)
 name_word name h =
     let parts = and_parts (nat_le 1 (length name) && nat_le (length name) 12) (list_all is_name_byte name) h in
@@ -118,7 +118,7 @@ key_back (Guar firm) h = rw (name_back firm.name h) refl
 
 -- ---- lines
 
--- so many bytes are in words of twelve bytes at most
+-- the bytes in words of at most twelve bytes
 length-joined : (words : List (List ℕ)) → AllByRecursion (λ w. length w ≤ 12) words → length (joined words) ≤ 13 * length words
 length-joined [] small = omega arith
 length-joined (last ∷ []) small = omega (arith, small.0)
@@ -131,7 +131,7 @@ words_of_short (first ∷ others) each =
     let rest = words_of_short others each.1 in
     ((each.0.0, rest.0), (each.0.1, rest.1))
 
--- a line of a few short words that isn't silent says what the words say
+-- a line of a few short words that isn't silent has the content of the words
 pub line_back : (words : List (List ℕ)) (said : SheetLine) → AllByRecursion (λ w. IsWord w × (length w ≤ 12)) words → 1 ≤ length words → length words ≤ 8
     → is_silent (joined words) ≡ false → said_by words ≡ Some said → IsLineOf words said
 line_back words said each some few speaks is =

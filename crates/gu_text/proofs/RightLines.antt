@@ -1,4 +1,4 @@
--- The lines of a sheet that is written may stand as they stand.
+-- The lines of a written sheet are allowed in their order.
 use Rattle.std.proofs.Common.{◌≡◌, ◌≤◌, ◌<◌, ◌||◌, ◌==◌, ◌++◌, ℕ, Bool, true, false, List, [], ◌∷◌, Option, Some, None, filter, map, refl, sym, ap, ◌∙◌, arith, append-nil, append_assoc, subst, inl, inr}
 use Rattle.std.specs.List.{AllByRecursion, cons_option, filter_map}
 use Rattle.std.specs.Str.Lines.{lines}
@@ -41,7 +41,7 @@ all_follow-append before [] second h k = subst (λ (b : List SheetLine). AllFoll
 all_follow-append before (next ∷ first) second h k =
     (h.0, all_follow-append (before ++ next ∷ []) first second h.1 (subst (λ (b : List SheetLine). AllFollow b second) (sym (append_assoc before (next ∷ []) first)) k))
 
--- a line of this part or a later one comes after these
+-- a line of this part or a later one may follow these
 abbrev Reaches : List SheetLine → ℕ → Type 0
 Reaches before r = (next : Part) → r ≤ rank_of next → comes_after (parts_of before).last next ≡ true
 
@@ -60,7 +60,7 @@ module _ {X : Type 0} (f : X → SheetLine) (r : ℕ) (kind : (x : X) → rank_o
     view = λ e. let five : rank_of (part_of (f x)) ≡ 5 = ap (λ (l : SheetLine). rank_of (part_of l)) e in absurd (omega (arith, five, kind x, most));
   }
 
-  -- those that are left after those that are done
+  -- the remaining ones, after those that are done
   go : (done rest : List X) → ((first : List X) (x : X) (later : List X) → done ++ rest ≡ first ++ x ∷ later → is_repeated (parts_of (before ++ map f first)) (f x) ≡ false) → Reaches (before ++ map f done) r
       → AllFollow (before ++ map f done) (map f rest) × Reaches (before ++ map f (done ++ rest)) r
   go done [] fresh reaches = (tt, subst (λ (xs : List X). Reaches (before ++ map f xs) r) (sym (append-nil done)) reaches)
@@ -80,7 +80,7 @@ module _ {X : Type 0} (f : X → SheetLine) (r : ℕ) (kind : (x : X) → rank_o
       let all = go [] xs fresh (subst (λ (ls : List SheetLine). Reaches ls r) (sym (append-nil before)) reaches) in
       (subst (λ (ls : List SheetLine). AllFollow ls (map f xs)) (append-nil before) all.0, all.1)
 
--- ---- what lines give
+-- ---- the content of lines
 
 module _ {Y : Type 0} (g : SheetLine → Option Y) where
   -- lines that give something each
@@ -97,18 +97,18 @@ module _ {Y : Type 0} (g : SheetLine → Option Y) where
   behind_none : {X : Type 0} (before : List SheetLine) (f : X → SheetLine) (h : X → Y) → ((x : X) → g (f x) ≡ Some (h x)) → filter_map g before ≡ [] → (xs : List X) → filter_map g (before ++ map f xs) ≡ map h xs
   behind_none before f h is none xs = filter_map-append g before (map f xs) ∙ ap (λ (ys : List Y). ys ++ filter_map g (map f xs)) none ∙ given f h is xs
 
--- ---- what comes first
+-- ---- earlier elements
 
 at_seam : {X : Type 0} (P : X → Type 0) (first : List X) (x : X) (later : List X) → AllByRecursion P (first ++ x ∷ later) → P x
 at_seam P [] x later h = h.0
 at_seam P (y ∷ first) x later h = at_seam P first x later h.1
 
--- what stands before one is related to it
+-- each element before this one is related to it
 before_seam : {X : Type 0} (R : X → X → Type 0) (first : List X) (x : X) (later : List X) → Later R (first ++ x ∷ later) → AllByRecursion (λ y. R y x) first
 before_seam R [] x later h = tt
 before_seam R (y ∷ first) x later h = (at_seam (R y) first x later h.0, before_seam R first x later h.1)
 
--- what passes a test is related as it was
+-- the elements that pass a test are related as before
 pub later-filter : {X : Type 0} (R : X → X → Type 0) (p : X → Bool) (xs : List X) → Later R xs → Later R (filter p xs)
 later-filter R p [] h = tt
 later-filter {X} R p (x ∷ xs) h =
@@ -130,7 +130,7 @@ no_number : {X : Type 0} (number : X → ℕ) (xs : List X) (n : ℕ) → AllByR
 no_number number [] n h = refl
 no_number number (x ∷ xs) n h = rw (ne_eqb (number x) n (λ same. absurd (omega (arith, h.0, same))), no_number number xs n h.1) refl
 
--- a key that differs from all of these isn't
+-- a key that differs from all of these isn't among them
 no_key : (rooms : List Room) (k : LimitKey) → AllByRecursion (λ (r : Room). key_eq r.key k ≡ false) rooms → has_key (map (λ (r : Room). r.key) rooms) k ≡ false
 no_key [] k h = refl
 no_key (r ∷ rooms) k h = rw (h.0, no_key rooms k h.1) refl
@@ -175,7 +175,7 @@ module _ (view : GroupView) (takes : List Take) (cut : CutLists) (sound : IsView
   abbrev pub to_numbers : List SheetLine
   to_numbers = to_keys ++ map number_line numbers
 
-  -- what they give, apart from the end
+  -- their content, apart from the end
   module _ {Y : Type 0} (g : SheetLine → Option Y) where
     pub given_to_numbers : filter_map g to_numbers
         ≡ filter_map g head ++ filter_map g (map line.Offer view.offers) ++ filter_map g (map line.Room view.rooms) ++ filter_map g (map take_line view.offers) ++ filter_map g (map key_line keys) ++ filter_map g (map number_line numbers)
@@ -214,7 +214,7 @@ module _ (view : GroupView) (takes : List Take) (cut : CutLists) (sound : IsView
       ++ nothing number_in take_line (λ o. refl) view.offers j)) i
       ++ nothing number_in key_line (λ r. refl) keys i)
 
-  -- a take of an offer that had none, a key and a number that weren't named
+  -- a take from an offer without one, and a key and a number not yet named
   fresh_take : (first : List ViewOffer) (o : ViewOffer) (later : List ViewOffer) → view.offers ≡ first ++ o ∷ later → is_repeated (parts_of (to_rooms ++ map take_line first)) (take_line o) ≡ false
   fresh_take first o later is =
       let before = before_seam (λ (a b : ViewOffer). a.number < b.number) first o later (subst (Later (λ (a b : ViewOffer). a.number < b.number)) is ascending) in
@@ -238,7 +238,7 @@ module _ (view : GroupView) (takes : List Take) (cut : CutLists) (sound : IsView
       let before = before_seam (λ (a b : ViewOffer). a.number < b.number) first o later (subst (Later (λ (a b : ViewOffer). a.number < b.number)) is rising) in
       ap (λ (ns : List ℕ). has_number ns o.number) (behind_none number_in to_keys number_line (λ (p : ViewOffer). p.number) (λ p. refl) no_numbers first) ∙ no_number (λ (p : ViewOffer). p.number) first o.number before
 
-  -- the offers and rooms that the lines before the end give
+  -- the offers and rooms in the lines before the end
   pub offers_given : (parts_of to_numbers).offers ≡ view.offers
   offers_given =
       given_to_numbers offer_in
@@ -292,7 +292,7 @@ module _ (view : GroupView) (takes : List Take) (cut : CutLists) (sound : IsView
 
 -- ---- the text
 
--- rows that say what follows are right lines
+-- rows whose content may follow are right lines
 right_rows : (done : List (List (List ℕ))) (said : List SheetLine) (rows : List (List (List ℕ))) (next : List SheetLine) → Matches done said → Matches rows next → AllFollow said next → AreRight (map joined done)
     → AreRight (map joined (done ++ rows))
 right_rows done said [] next m n follow right = subst (λ (rs : List (List (List ℕ))). AreRight (map joined rs)) (sym (append-nil done)) right
@@ -303,7 +303,7 @@ right_rows done said (words ∷ rows) (s ∷ next) m n follow right =
     subst (λ (rs : List (List (List ℕ))). AreRight (map joined rs)) (append_assoc done (words ∷ []) rows)
     (right_rows (done ++ words ∷ []) (said ++ s ∷ []) rows next (matches_append done said (words ∷ []) (s ∷ []) m (n.0, tt)) n.1 follow.1 more)
 
--- the lines of a sheet that is written are right
+-- the lines of a written sheet are right
 pub written_right : (view : GroupView) (takes : List Take) (cut : CutLists) → IsView view → IsWritable view takes → AreRight (lines (sheet_text view takes cut))
 written_right view takes cut sound writable =
     let rows = rows_of view takes cut in

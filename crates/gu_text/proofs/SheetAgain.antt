@@ -1,4 +1,4 @@
--- A sheet that is written is read as what it was written of; and a text is one sheet at most.
+-- A written sheet is read back as what it was made from; and a text is at most one sheet.
 use Rattle.std.proofs.Common.{◌≡◌, ◌<◌, ◌≤◌, ◌==◌, ◌++◌, ℕ, nat_lt, List, [], ◌∷◌, Some, None, cond, filter, map, sum_by, refl, sym, ap, ◌∙◌, arith, append-nil, subst, inl, inr}
 use Rattle.std.specs.List.{AllByRecursion, last_or}
 use Rattle.std.specs.Str.Lines.{lines}
@@ -31,13 +31,13 @@ use Rattle.gu_text.proofs.SheetBack.{read_as_written}
 use Rattle.gu_text.proofs.SheetLemmas.{parts_of-last}
 use Rattle.gu_text.proofs.ViewsAgain.{makes_itself}
 
--- ---- what the lines of a written sheet give
+-- ---- the content of the lines of a written sheet
 
 module _ (view : GroupView) (takes : List Take) (cut : CutLists) (sound : IsView view) (writable : IsWritable view takes) where
   abbrev before_end : List SheetLine
   before_end = to_numbers view takes cut sound writable
 
-  -- the end gives nothing but itself
+  -- the end has no other content
   last_is : (parts_of (said_of view takes cut)).last ≡ Some part.End
   last_is = ap (λ (p : SheetParts). p.last) (parts_of-last before_end line.End)
 
@@ -126,7 +126,7 @@ no_sum : (f : Take → ℕ) (takes : List Take) → AllByRecursion (λ t. f t �
 no_sum f [] h = refl
 no_sum f (t ∷ takes) h = omega (arith, sum_by-cons f t takes, h.0, no_sum f takes h.1)
 
--- takes that ascend, of which all sums are the same, are the same
+-- ascending takes with the same sums are the same
 same_takes : (a b : List Take) → Later (λ (s t : Take). s.offer < t.offer) a → Later (λ (s t : Take). s.offer < t.offer) b → ((f : Take → ℕ) → sum_by f a ≡ sum_by f b) → a ≡ b
 same_takes [] [] h k sums = refl
 same_takes [] (y ∷ b) h k sums = absurd (omega (arith, sums (λ t. 1), sum_by-cons (λ (t : Take). 1) y b))
@@ -140,7 +140,7 @@ same_takes (x ∷ a) (y ∷ b) h k sums =
     let rest = same_takes a b h.1 k.1 (λ f. omega (arith, sums f, sum_by-cons f x a, sum_by-cons f y b, ap f one)) in
     λ i. one i ∷ rest i
   where
-    -- the first of one isn't of an earlier offer than the first of the other
+    -- the first of one isn't from an earlier offer than the first of the other
     not_below : (x y : Take) (a b : List Take) → AllByRecursion (λ (t : Take). y.offer < t.offer) b → ((f : Take → ℕ) → sum_by f (x ∷ a) ≡ sum_by f (y ∷ b)) → y.offer ≤ x.offer
     not_below x y a b later sums =
         let f : Take → ℕ = λ t. cond (nat_lt t.offer y.offer) 1 0 in
@@ -160,7 +160,7 @@ same_takes (x ∷ a) (y ∷ b) h k sums =
         let others : sum_by f a ≡ 0 = no_sum f a (along (λ (t : Take). x.offer < t.offer) (λ (t : Take). f t ≡ 0) a (λ t above. rw (ne_eqb t.offer x.offer (λ same. absurd (omega (arith, above, same)))) refl) later) in
         omega (arith, sum_by-cons f x a, mine, others)
 
--- takes of the same lines are the same
+-- takes from the same lines are the same
 takes_once : (listed a b : List Take) → AreTakes listed a → AreTakes listed b → a ≡ b
 takes_once listed a b one two =
     same_takes a b (Later-from_AllPairs (λ (s t : Take). s.offer < t.offer) a one.ascending) (Later-from_AllPairs (λ (s t : Take). s.offer < t.offer) b two.ascending)
@@ -179,7 +179,7 @@ one_sheet text a b one two =
     let cuts : a.cut ≡ b.cut = one.cut ∙ sym two.cut in
     λ i. record { view = views i; takes = takes i; cut = cuts i }
 
--- and is refused then for want of memory alone
+-- and is then refused only for lack of memory
 pub not_refused : (text : List ℕ) (sheet : Sheet) (error : TextError) → IsSheet text sheet → Refuses text error → error ≡ Memory
 not_refused text sheet Memory is refused = refl
 not_refused text sheet (BadLine number) is refused =

@@ -1,4 +1,4 @@
--- A sheet that is written is read back line by line.
+-- A written sheet is read back line by line.
 use Rattle.std.proofs.Common.{◌≡◌, ◌++◌, ◌∷◌, [], ◌∙◌, ℕ, Bool, true, false, cond, List, Option, filter, map, get_or, refl, sym, ap, append-nil}
 use Rattle.std.specs.Prelude.{codes, if◌then◌else◌}
 use Rattle.std.specs.List.{AllByRecursion, cons_option, flat_map}
@@ -21,7 +21,7 @@ use Rattle.gu_text.specs.declared.sheet_line.SheetLine.TheVariants as line
 use Rattle.gu_text.proofs.ReadBackLemmas.{lines_of_rows}
 use Rattle.gu_text.proofs.ReadLemmas.{cut_key_back, cut_offer_back, end_back, head_back, offer_back, room_back, take_back}
 
--- each row is a line that says what stands at its place
+-- each row is a line with the content at its index
 abbrev pub Matches : List (List (List ℕ)) → List SheetLine → Type 0
 Matches [] [] = Unit {0}
 Matches (words ∷ rows) (said ∷ others) = IsLineOf words said × Matches rows others
@@ -139,7 +139,7 @@ rows_match view takes cut writable =
     (map (λ (r : Room). line.CutKey r.key) held_keys) (map (λ (o : ViewOffer). line.CutOffer o.number) held_offers) (line.End ∷ [])
     (head_back view writable.group writable.version, tt) offers rooms take_lines keys numbers (end_back, tt)
 
--- the lines of a sheet that is written say its head, offers, rooms, takes and cut
+-- the lines of a written sheet have the content of its head, offers, rooms, takes and cut
 pub read_as_written : (view : GroupView) (takes : List Take) (cut : CutLists) → IsWritable view takes → IsReadAsWritten view takes cut
 read_as_written view takes cut writable =
     let rows = rows_of view takes cut in

@@ -1,4 +1,4 @@
--- A sheet is read line by line.
+-- Reading a sheet line by line.
 use Rattle.std.proofs.Common.{◌≡◌, ◌≢◌, ◌<◌, ◌⊎◌, ◌++◌, ◌∷◌, [], ◌∙◌, ◌&&◌, ◌||◌, not, nat_lt, ℕ, Bool, true, false, cond, List, Option, None, Some, length, map, take, IsTrue, Result, Ok, Err, IsErrAnd, refl, ap, sym, subst, inl, inr, arith, length-append, length-take}
 use Rattle.std.specs.List.{filter_map, last_or}
 use Rattle.std.specs.Prelude.{IfErr, IsErrOf, OnOk}
@@ -96,7 +96,7 @@ says_end parts (Some next) fits ended =
     let is = end_of next ended in
     (ap Some is, ap (fits_after parts) (sym is) ∙ fits, ap (with_line parts) is)
 
--- a line that fits and ends what wasn't ended says the end
+-- a line that fits and ends the sheet says the end
 pub ends_said : (parts : SheetParts) (text : List ℕ) → line_fits parts text ≡ true → is_ended parts ≡ false → is_ended (with_text_line parts text) ≡ true
     → (says text ≡ Some line.End) × IsTrue (fits_after parts line.End) × (with_text_line parts text ≡ with_line parts line.End)
 ends_said parts text fits unended ended =
@@ -121,9 +121,9 @@ nothing_after : (parts : SheetParts) (next : SheetLine) → parts.last ≡ Some 
 nothing_after parts next last fits =
     nothing next (not (is_repeated parts next)) (ap (λ (o : Option Part). comes_after o (part_of next) && not (is_repeated parts next)) (sym last) ∙ fits)
 
--- ---- what is kept
+-- ---- what is stored
 
--- a line fits after what is kept where it fits after all
+-- a line fits after the stored parts if it fits after all parts
 fits_kept : (parts : SheetParts) (next : SheetLine) → fits_after (kept parts) next ≡ fits_after parts next
 fits_kept parts (line.Sheet header) = refl
 fits_kept parts (line.Offer offer) = refl
@@ -140,7 +140,7 @@ line_fits-kept parts text = ap (λ b. is_silent text || b) (by (says text))
     by None = refl
     by (Some next) = fits_kept parts next
 
--- the first of a list, with one more where there is room for it
+-- the first elements of a list, with one more if there is room for it
 taken_more : {X : Type 0} (n : ℕ) (xs : List X) (x : X) (b : Bool) → nat_lt (length (take n xs)) n ≡ b → cond b (take n xs ++ x ∷ []) (take n xs) ≡ take n (xs ++ x ∷ [])
 taken_more n xs x true room =
     let short : length xs < n = omega (arith, length-take n xs, ltb-true (length (take n xs)) n room) in
@@ -155,7 +155,7 @@ rooms_kept : (rooms : List Room) (o : Option Room) → more_rooms (take most_roo
 rooms_kept rooms None = ap (take most_rooms) (sym (append-nil rooms))
 rooms_kept rooms (Some room) = taken_more most_rooms rooms room (nat_lt (length (take most_rooms rooms)) most_rooms) refl
 
--- a line more of what is kept is what is kept of a line more
+-- adding a line to the stored parts gives the stored form of the parts with the line
 with_kept-kept : (parts : SheetParts) (next : SheetLine) → with_kept (kept parts) next ≡ kept (with_line parts next)
 with_kept-kept parts next = rw (offers_kept parts.offers (offer_in next), rooms_kept parts.rooms (room_in next)) refl
 
@@ -166,24 +166,24 @@ with_kept_line-kept parts text = by (says text)
     by None = refl
     by (Some next) = with_kept-kept parts next
 
--- ---- errors that are passed on
+-- ---- errors passed on
 
 pub passed : {T : Type 0} (result : Result T TextError) (error other : TextError) → IsErrAnd result (λ e. e ≡ error) → IsErrOf result other → error ≡ other
 passed (Ok x) error other h is = absurd h
 passed (Err e) error other h is = let same : e ≡ other = cc in sym h ∙ same
 
--- what holds where a call succeeds, by what the call says then
+-- a property that holds if a call succeeds, from what the call then says
 pub on_ok_then : {T A B : Type 0} (result : Result T TextError) → (A → B) → OnOk result A → OnOk result B
 on_ok_then (Ok x) then given = then given
 on_ok_then (Err error) then given = tt
 
--- parts that make no sheet at the end are refused by its number, and make no view
+-- parts that make no sheet at the end are refused with its number, and make no view
 pub none_made : {T : Type 0} (result : Result T TextError) (parts : SheetParts) (number n : ℕ) → IfErr result (λ error. (p : SheetParts) → Open parts ≡ Open p → MakesNone p number error) → IsErrOf result (BadLine n)
     → (n ≡ number) × (¬ MakesView parts.offers parts.rooms)
 none_made (Ok x) parts number n none is = cc
 none_made (Err error) parts number n none is = let same : error ≡ BadLine n = cc in subst (MakesNone parts number) same (none parts refl)
 
--- ---- one line more, where the end is still to come
+-- ---- one more line before the end
 
 -- before the first line
 pub open_none : AreOpen [] no_parts
@@ -196,7 +196,7 @@ unended_read lines parts open_is ended =
     let both : true ≡ false = sym was ∙ open_is.unended in
     cc
 
--- after open lines, of whose parts these are kept
+-- after open lines, of whose parts these are the stored form
 module _ (before : List (List ℕ)) (parts : SheetParts) (open_is : AreOpen before parts) (text : List ℕ) where
   abbrev given : SheetParts
   given = parts_of (said_in before)
@@ -224,7 +224,7 @@ module _ (before : List (List ℕ)) (parts : SheetParts) (open_is : AreOpen befo
       the_end : (says text ≡ Some line.End) × IsTrue (fits_after given line.End) × (with_text_line given text ≡ with_line given line.End)
       the_end = ends_said given text (sym fits_all ∙ fits) (sym (ap is_ended open_is.parts_are) ∙ open_is.unended) (sym (ap is_ended new_kept) ∙ ended)
 
-      -- what all lines give, the end too
+      -- the content of all lines, including the end
       abbrev all : SheetParts
       all = parts_of (said_in (before ++ text ∷ []))
 
@@ -240,7 +240,7 @@ module _ (before : List (List ℕ)) (parts : SheetParts) (open_is : AreOpen befo
       new_all : new ≡ kept all
       new_all = new_kept ∙ ap kept (sym (parts_of-said before text))
 
-      -- where they make no view, the end is wrong
+      -- if they make no view, the end is wrong
       pub wrong_end : ¬ MakesView new.offers new.rooms → ¬ IsRightAfter (said_in before) text
       wrong_end none right =
           elim right [
@@ -252,7 +252,7 @@ module _ (before : List (List ℕ)) (parts : SheetParts) (open_is : AreOpen befo
                 none (rw (new_all, whole.0, whole.1) makes)
           ]
 
-      -- where they make a sheet, all lines do
+      -- if they make a sheet, all lines do
       pub sheet_made : (sheet : Sheet) → IsMadeOf new sheet → IsSheetOf (before ++ text ∷ []) sheet
       sheet_made sheet made =
           let of_kept : IsMadeOf (kept all) sheet = subst (λ (p : SheetParts). IsMadeOf p sheet) new_all made in
@@ -268,7 +268,7 @@ module _ (before : List (List ℕ)) (parts : SheetParts) (open_is : AreOpen befo
             cut = of_kept.cut;
           }
 
--- ---- one line more, where the end was read
+-- ---- one more line after the end
 
 module _ (before : List (List ℕ)) (sheet : Sheet) (is_sheet : IsSheetOf before sheet) (text : List ℕ) where
   -- one that says nothing changes nothing

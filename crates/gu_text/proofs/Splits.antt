@@ -16,7 +16,7 @@ split_first p bytes place h =
     let inside : position_or_len p bytes < length bytes = search (arith, found.0) in
     slice_split_first p bytes 0 inside ∙ ap (λ (n : ℕ). take n bytes ∷ slice_split p (drop (n + 1) bytes)) found.1
 
--- where none passes, all is one part
+-- if none passes, everything is one part
 pub split_none : (p : ℕ → Bool) (bytes : List ℕ) → position p bytes ≡ None → slice_split p bytes ≡ bytes ∷ []
 split_none p bytes h =
     let out = cond_none (nat_lt (position_or_len p bytes) (length bytes)) (position_or_len p bytes) h in

@@ -1,4 +1,4 @@
--- How many offers and rooms a view has: what is dropped of more of them changes no verdict.
+-- The most offers and rooms in a view: dropping those beyond doesn't change the verdict.
 use Rattle.std.proofs.Common.{◌≡◌, ◌≢◌, ◌∙◌, ℕ, ◌*◌, ◌≤◌, zero, suc, ◌||◌, ◌&&◌, not, nat_lt, Bool, true, false, cond, List, [], ◌∷◌, Option, Some, None, length, map, take, ap, arith, length-append, length-take, inl, inr}
 use Rattle.std.specs.Prelude.{IfSome, IsTrue, codes, filter}
 use Rattle.std.specs.Cmp.{IsEquivalence}
@@ -33,7 +33,7 @@ use Rattle.gu_text.specs.declared.sheet_line.SheetLine.TheVariants as line
 
 -- ---- keys
 
--- a test lets no more through than there are
+-- the elements that pass a test are no more than all
 filtered-le : (p : LimitKey → Bool) (keys : List LimitKey) → length (filter p keys) ≤ length keys
 filtered-le p [] = omega arith
 filtered-le p (k ∷ keys) = by (p k) (filtered-le p keys)
@@ -42,12 +42,12 @@ filtered-le p (k ∷ keys) = by (p k) (filtered-le p keys)
     by true h = omega (arith, h)
     by false h = omega (arith, h)
 
--- of keys there are no more than where they stand
+-- the first occurrences of keys are no more than all
 firsts-le : (keys : List LimitKey) → length (firsts keys) ≤ length keys
 firsts-le [] = omega arith
 firsts-le (k ∷ keys) = omega (arith, filtered-le (λ j. not (key_eq k j)) (firsts keys), firsts-le keys)
 
--- five at most on a path
+-- at most five on a path
 paths-le : (offers : List ViewOffer) → AllByRecursion (λ (o : ViewOffer). length o.path ≤ 5) offers → length (flat_map (λ (o : ViewOffer). o.path) offers) ≤ 5 * length offers
 paths-le [] few = omega arith
 paths-le (o ∷ offers) few = omega (arith, length-append o.path (flat_map (λ (o : ViewOffer). o.path) offers), few.0, paths-le offers few.1)
@@ -60,7 +60,7 @@ keys_of-le offers few = omega (arith, firsts-le (flat_map (λ (o : ViewOffer). o
 keys_alike : IsEquivalence key_eq
 keys_alike = record { refl = key_eq-refl; symm = key_eq-sym; congr = λ x y z same. ap (λ k. key_eq k z) (key_eq-same x y same) }
 
--- keys of rooms that come once
+-- keys of distinct rooms
 different_keys : (rooms : List Room) → Later (λ (a b : Room). a.key ≢ b.key) rooms → IsDistinct key_eq (map (λ (r : Room). r.key) rooms)
 unfolding IsDistinct
 different_keys [] once = tt
@@ -80,7 +80,7 @@ needed_keys keys (r ∷ rooms) needed k there =
       | inr other ↦ needed_keys keys rooms needed.1 k (rw other at there)
     ]
 
--- rooms of keys, each once, are no more than the keys
+-- rooms of distinct keys are no more than the keys
 rooms-le : (keys : List LimitKey) (rooms : List Room) → AreRooms keys rooms → length rooms ≤ length keys
 rooms-le keys rooms are =
     omega (
@@ -100,17 +100,17 @@ module _ (offers : List ViewOffer) (rooms : List Room) (few : AllByRecursion (λ
       let most = (good_offers offers makes.numbers).few in
       (most, omega (arith, most, rooms-le (keys_of offers) rooms makes.exact, keys_of-le offers few))
 
-  -- so all of them are kept
+  -- so all of them are stored
   pub all_kept : MakesView offers rooms → (take most_offers offers ≡ offers) × (take most_rooms rooms ≡ rooms)
   all_kept makes = let most = few_of_both makes in (take_all most_offers offers (omega (arith, most.0)), take_all most_rooms rooms (omega (arith, most.1)))
 
--- those of which no more are kept
+-- at most this many are stored
 few_taken : (n : ℕ) (offers : List ViewOffer) → AllByRecursion (λ (o : ViewOffer). length o.path ≤ 5) offers → AllByRecursion (λ (o : ViewOffer). length o.path ≤ 5) (take n offers)
 few_taken zero offers few = tt
 few_taken (suc n) [] few = tt
 few_taken (suc n) (o ∷ offers) few = (few.0, few_taken n offers few.1)
 
--- what is kept makes a view only where it is all
+-- the stored parts make a view only if they are all the parts
 pub kept_all : (offers : List ViewOffer) (rooms : List Room) → AllByRecursion (λ (o : ViewOffer). length o.path ≤ 5) offers → MakesView (take most_offers offers) (take most_rooms rooms)
     → (take most_offers offers ≡ offers) × (take most_rooms rooms ≡ rooms)
 kept_all offers rooms few makes =
@@ -119,7 +119,7 @@ kept_all offers rooms few makes =
 
 -- ---- the offers of a sheet's lines
 
--- an offer that a line says has five keys at most
+-- an offer in a line has at most five keys
 abbrev HasFewKeys : SheetLine → Type 0
 HasFewKeys (line.Offer offer) = length offer.path ≤ 5
 HasFewKeys _ = Unit {0}
@@ -233,7 +233,7 @@ line_few text =
     either_way HasFewKeys None (spoken text) (is_silent text) tt
     (either_way HasFewKeys None (said_by (words_of text)) (nat_lt longest_line (length text) || is_ragged text) tt (said_few (words_of text)))
 
--- so have those that lines say
+-- so have the offers in lines
 pub offers_few : (lines : List (List ℕ)) → AllByRecursion (λ (o : ViewOffer). length o.path ≤ 5) (filter_map offer_in (said_in lines))
 offers_few [] = tt
 offers_few (text ∷ lines) = first (says text) (said_in lines) (line_few text) (offers_few lines)

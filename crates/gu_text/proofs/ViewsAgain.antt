@@ -1,4 +1,4 @@
--- What a view shows makes this view again.
+-- The offers and rooms of a view make the same view again.
 use Rattle.std.proofs.Common.{◌≡◌, ◌<◌, ◌&&◌, ◌||◌, ℕ, Bool, true, false, not, nat_lt, List, [], ◌∷◌, Option, Some, None, map, refl, sym, ap, ◌∙◌, arith, subst}
 use Rattle.std.specs.Prelude.{All, IsTrue, slice_get}
 use Rattle.std.specs.List.{AllByRecursion, find, flat_map, list_any, zip}
@@ -21,7 +21,7 @@ use Rattle.gu_view.specs.declared.view.Room.{Room}
 
 -- ---- offers
 
--- an offer with lots, of a number above the one before it, isn't bad
+-- an offer with valid lots and a number above the previous one isn't bad
 not_bad : (before : ℕ) (o : ViewOffer) → before < o.number → IsLots o.lots → is_bad before o ≡ false
 not_bad before o above lots =
     rw (lt-leb o.number before above, ne_eqb o.lots 0 (λ none. absurd (omega (arith, none, lots.some))), le-ltb 1000000 o.lots lots.most) refl
@@ -32,7 +32,7 @@ none_bad : (before : ℕ) (offers : List ViewOffer) → AllByRecursion (λ (o : 
 none_bad before [] above ascending lots = refl
 none_bad before (o ∷ offers) above ascending lots = rw (not_bad before o above.0 lots.0) (none_bad o.number offers ascending.0 ascending.1 lots.1)
 
--- what holds of any two, in either order, and of each with itself
+-- a relation of any two, in either order, and of each with itself
 pub each_other : {X : Type 0} (R : X → X → Type 0) (xs : List X) → ((x : X) → R x x) → ((x y : X) → R x y → R y x) → Later R xs → AllByRecursion (λ x. AllByRecursion (R x) xs) xs
 each_other R [] self turned later = tt
 each_other {X} R (x ∷ xs) self turned later = (
@@ -40,7 +40,7 @@ each_other {X} R (x ∷ xs) self turned later = (
   along2 (R x) (λ (y : X). AllByRecursion (R y) xs) (λ (y : X). AllByRecursion (R y) (x ∷ xs)) xs (λ y one rest. (turned x y one, rest)) later.0 (each_other R xs self turned later.1),
 )
 
--- no path is another than its agreement's
+-- no path differs from its agreement's
 even_path : (offers : List ViewOffer) (o : ViewOffer) → slice_get o.path 1 ≡ Some (Agr o.agreement) → AllByRecursion (λ (older : ViewOffer). o.agreement ≡ older.agreement → o.path ≡ older.path) offers
     → (not (is_own o) || has_other_path offers o) ≡ false
 even_path offers o own one =
@@ -61,7 +61,7 @@ even_path offers o own one =
 
 -- ---- rooms
 
--- keys of rooms that differ
+-- keys of distinct rooms
 apart_rooms : (rooms : List Room) → Later (λ a b. key_eq a b ≡ false) (map (λ (r : Room). r.key) rooms) → Later (λ (a b : Room). key_eq a.key b.key ≡ false) rooms
 apart_rooms [] h = tt
 apart_rooms (r ∷ rooms) h = (from rooms h.0, apart_rooms rooms h.1)
@@ -83,7 +83,7 @@ keyed (r ∷ rooms) = (
     either true c h = refl
     either false c h = h
 
--- and each key has its room
+-- each key has its room
 roomed : (rooms : List Room) → AllByRecursion (λ k. list_any (λ (r : Room). key_eq r.key k) rooms ≡ true) (map (λ (r : Room). r.key) rooms)
 roomed [] = tt
 roomed (r ∷ rooms) = (
@@ -96,7 +96,7 @@ roomed (r ∷ rooms) = (
     either true c h = refl
     either false c h = h
 
--- rooms of keys that differ, in the order of their keys
+-- rooms with distinct keys, in the order of their keys
 ordered : (rooms : List Room) → Later (λ (a b : Room). key_eq a.key b.key ≡ false) rooms → in_order (map (λ (r : Room). r.key) rooms) rooms ≡ rooms
 ordered [] later = refl
 ordered (r ∷ rooms) later =
@@ -115,11 +115,11 @@ ordered (r ∷ rooms) later =
 -- ---- views
 
 module _ (view : GroupView) (sound : IsView view) where
-  -- the rooms of a view have keys that differ
+  -- the rooms of a view have distinct keys
   pub rooms_apart : Later (λ (a b : Room). key_eq a.key b.key ≡ false) view.rooms
   rooms_apart = apart_rooms view.rooms (subst (Later (λ a b. key_eq a b ≡ false)) (sym sound.rooms) (apart-firsts (flat_map (λ (o : ViewOffer). o.path) view.offers)))
 
-  -- which are those on the paths
+  -- they are those on the paths
   are_rooms : AreRooms (keys_of view.offers) view.rooms
   are_rooms = record {
     needed = All-from_recursion (λ (r : Room). IsTrue (has_key (keys_of view.offers) r.key)) view.rooms
@@ -133,7 +133,7 @@ module _ (view : GroupView) (sound : IsView view) where
     limits = sound.limits;
   }
 
-  -- and its offers and rooms make a view, where each offer has its number
+  -- its offers and rooms make a view, if each offer has a valid number
   pub makes_view : All (λ o. IsOfferNo o.number) view.offers → MakesView view.offers view.rooms
   makes_view numbers = record {
     numbers =
@@ -152,7 +152,7 @@ module _ (view : GroupView) (sound : IsView view) where
     exact = are_rooms;
   }
 
-  -- this one
+  -- the same view
   pub makes_itself : view ≡ view_of view.group view.version view.offers view.rooms
   makes_itself =
       let rooms : view.rooms ≡ in_order (keys_of view.offers) view.rooms = sym (ap (λ (keys : List LimitKey). in_order keys view.rooms) (sym sound.rooms) ∙ ordered view.rooms rooms_apart) in

@@ -6,7 +6,7 @@ use Rattle.std.proofs.lemmas.Option.{cond_some}
 use Rattle.gu_text.specs.Words.{is_blank, is_blank_at, is_empty, words_of}
 use Rattle.gu_text.proofs.Splits.{split_first, split_none}
 
--- blanks in front are no words
+-- leading spaces are no words
 pub words_of-blank : (rest : List ℕ) → words_of (32 ∷ rest) ≡ words_of rest
 words_of-blank rest = refl
 
@@ -24,13 +24,13 @@ some_bytes (b ∷ text) zero front h =
     absurd (omega (arith, found.1, later))
 some_bytes (b ∷ text) (suc place) front h = λ e. cc
 
--- the first word ends at the first blank
+-- the first word ends at the first space
 pub word_in_front : (text : List ℕ) (place : ℕ) → is_blank_at text 0 ≡ false → position is_blank text ≡ Some place → words_of text ≡ take place text ∷ words_of (drop (place + 1) text)
 word_in_front text place front h =
     ap (filter (λ word. not (is_empty word))) (split_first is_blank text place h)
     ∙ kept (take place text) (slice_split is_blank (drop (place + 1) text)) (some_bytes text place front h)
 
--- a text without blanks is one word
+-- a text without spaces is one word
 pub word_alone : (text : List ℕ) → text ≢ [] → position is_blank text ≡ None → words_of text ≡ text ∷ []
 word_alone text some h = ap (filter (λ word. not (is_empty word))) (split_none is_blank text h) ∙ kept text [] some
 
@@ -41,7 +41,7 @@ words_found : (text : List ℕ) (found : Option ℕ) → is_blank_at text 0 ≡ 
 words_found text None front some h = λ e. let alone = word_alone text some h in cc
 words_found text (Some place) front some h = λ e. let first = word_in_front text place front h in cc
 
--- a text with no blank in front has words, unless it is empty
+-- a text without a leading space has words, unless it is empty
 pub has_words : (text : List ℕ) (b : Bool) → is_blank_at text 0 ≡ false → b ≡ (length text == 0) → IsTrue (not b) ↔ (words_of text ≢ [])
 has_words [] b front h = let e : b ≡ true = h in rw e ((λ no. cc), (λ some. absurd (some refl)))
 has_words (first ∷ rest) b front h =

@@ -1,4 +1,4 @@
--- What is right can be written so that it is read back.
+-- What is right can be written, and is read back.
 use Rattle.std.proofs.Common.{◌≡◌, ◌<◌, ◌≤◌, ◌^◌, ◌==◌, ◌++◌, ℕ, true, not, List, [], ◌∷◌, map, refl, sym, ap, ◌∙◌, arith, subst, inl, inr}
 use Rattle.std.specs.Prelude.{IsTrue}
 use Rattle.std.specs.List.{AllByRecursion, flat_map, list_all}
@@ -22,7 +22,7 @@ use Rattle.gu_text.specs.ReadBack.{IsWritable}
 use Rattle.gu_text.specs.WrittenSheets.{IsNamed}
 use Rattle.gu_text.proofs.WrittenTakes.{none_taken, passing}
 
--- a key has a name
+-- a key has a valid name
 abbrev HasName : LimitKey → Type 0
 HasName k = is_name (name_of_key k) ≡ true
 
@@ -36,12 +36,12 @@ joined : (xs ys : List LimitKey) → AllByRecursion HasName xs → AllByRecursio
 joined [] ys h k = k
 joined (x ∷ xs) ys h k = (h.0, joined xs ys h.1 k)
 
--- of all paths
+-- on all paths
 on_paths : (offers : List ViewOffer) → AllByRecursion (λ (o : ViewOffer). list_all (λ k. is_name (name_of_key k)) o.path ≡ true) offers → AllByRecursion HasName (flat_map (λ (o : ViewOffer). o.path) offers)
 on_paths [] h = tt
 on_paths (o ∷ offers) h = joined o.path (flat_map (λ (p : ViewOffer). p.path) offers) (all_named o.path h.0) (on_paths offers h.1)
 
--- and of those that are mentioned first
+-- among the first mentions
 first_named : (keys : List LimitKey) → AllByRecursion HasName keys → AllByRecursion HasName (firsts keys)
 first_named [] h = tt
 first_named (k ∷ keys) h = (h.0, passing HasName (λ j. not (key_eq k j)) (firsts keys) (first_named keys h.1))
@@ -53,7 +53,7 @@ of_rooms (r ∷ rooms) h = (h.0, of_rooms rooms h.1)
 
 -- ---- lots of an offer
 
--- no more is taken of an offer of a view than a million lots
+-- at most 1,000,000 lots are taken from an offer of a view
 taken_less : (takes : List Take) (offers : List ViewOffer) (n : ℕ) → AllByRecursion (λ (o : ViewOffer). lots_of takes o.number ≤ 1000000) offers → has_offer offers n ≡ true → lots_of takes n ≤ 1000000
 taken_less takes [] n within there = cc
 taken_less takes (o ∷ offers) n within there =

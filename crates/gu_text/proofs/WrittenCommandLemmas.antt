@@ -1,4 +1,4 @@
--- Commands and sweeps that are written are read back.
+-- Written commands and sweeps are read back.
 use Rattle.std.proofs.Common.{◌≡◌, ◌==◌, ◌+◌, ◌*◌, ◌^◌, ◌/◌, ◌%◌, ◌<◌, ◌≤◌, ◌++◌, ◌∷◌, [], ◌∙◌, ℕ, ℤ, pos, Bool, true, false, cond, List, Option, None, Some, IsSome, IsTrue, nat_le, length, drop, map, take, suc, get_or, refl, sym, ap, subst, length-append, append_assoc, arith}
 use Rattle.std.specs.Prelude.{codes, int_lt, not, unsigned_abs}
 use Rattle.std.specs.Char.{digit_value}
@@ -48,9 +48,9 @@ use Rattle.gu_text.specs.declared.script_line.Line.TheVariants as line
 use Rattle.gu_text.proofs.ReadBackLemmas.{line_of-joined, read_back}
 use Rattle.gu_text.proofs.ReadLemmas.{high_in_word, kind_word, literal, name_word, number_back, number_word, offer_no_back, offer_small}
 
--- ---- words with a blank after each
+-- ---- words, each followed by a space
 
--- words, each with the blank after it, are a line's but for its end
+-- words, each followed by a space, are a line except for its end
 pub words-joined : (words : List (List ℕ)) → 1 ≤ length words → flat_map word words ≡ joined words ++ 32 ∷ []
 words-joined [] some = absurd (omega (arith, some))
 words-joined (last ∷ []) some = append-nil (word last)
@@ -64,7 +64,7 @@ some_words command = omega arith
 
 -- ---- lines
 
--- the bytes of words, and one more for each
+-- the total length of words, plus one for each
 abbrev size_of : List (List ℕ) → ℕ
 size_of [] = 0
 size_of (w ∷ ws) = length w + 1 + size_of ws
@@ -75,7 +75,7 @@ length-joined-size (last ∷ []) = omega arith
 length-joined-size (first ∷ next ∷ others) =
     omega (arith, length-append first (32 ∷ []), length-append (word first) (joined (next ∷ others)), length-joined-size (next ∷ others))
 
--- a line of words that isn't silent and isn't long says what the words write
+-- a line of words that isn't silent or long has the content of the words
 script_line : (words : List (List ℕ)) (said : Line) → AllByRecursion IsWord words → 1 ≤ length words → size_of words ≤ longest_line
     → is_silent (joined words) ≡ false → Writes words said → IsScriptLineOf words said
 script_line words said each some few speaks writes =
@@ -105,7 +105,7 @@ side_is_word : (side : Side) → IsWord (side_word side) × (length (side_word s
 side_is_word Buy = literal (codes "B") refl refl
 side_is_word Sell = literal (codes "S") refl refl
 
--- a byte that may stand in a word
+-- a byte that may be in a word
 abbrev IsWordByte : ℕ → Type 0
 IsWordByte b = is_word_byte b ≡ true
 
@@ -272,7 +272,7 @@ command_are_words (Refuse it) is =
 command_are_words (Reverse it) is =
     ((literal (codes "REVERSE") refl refl).0, ((name_word it.firm.name is.0).0, ((number_word it.offer (offer_small it.offer is.1)).0, tt)))
 
--- a command has less than half of the bytes that a line may have
+-- a command has less than half of the bytes allowed in a line
 command_is_short : (command : Command) → IsWritableCommand command → size_of (command_words command) ≤ 500
 command_is_short (OpenDay it) is = omega (arith, (date_text_writes it.day.year it.day.month it.day.day it.day.there).is_text.eight)
 command_is_short (SetLimit it) is = omega (arith, (name_word it.group.name is.0).1, (kind_word it.key).1, (name_word (name_of_key it.key) is.1).1, (number_word it.lots is.2).1)
@@ -327,7 +327,7 @@ sweep_says group named =
     (omega arith) (omega (arith, name.1)) refl
     (refl, named)
 
--- ---- remarks
+-- ---- comments
 
 both_are_words : (xs ys : List (List ℕ)) → AllByRecursion IsWord xs → AllByRecursion IsWord ys → AllByRecursion IsWord (xs ++ ys)
 both_are_words [] ys p q = q
@@ -342,7 +342,7 @@ comment_is_silent : (words : List (List ℕ)) → length (joined (codes "#" ∷ 
 comment_is_silent [] short = refl
 comment_is_silent (next ∷ others) short = rw (le-leb (length (joined (codes "#" ∷ next ∷ others))) longest_line short) refl
 
--- a remark says nothing
+-- a comment with a report says nothing
 pub remark_is_silent : (report : Command) (day : Day) → IsWritableCommand report → IsSilentLineOf (remark_words report day)
 remark_is_silent report day is =
     let text = date_text day.year day.month day.day in
@@ -358,7 +358,7 @@ remark_is_silent report day is =
       silent = comment_is_silent words short;
     }
 
--- a comment of few bytes says nothing
+-- a short comment says nothing
 short_remark : (words : List (List ℕ)) → AllByRecursion IsWord words → size_of words ≤ 1000 → IsSilentLineOf (codes "#" ∷ words)
 short_remark words each few =
     let mark : IsWord (codes "#") = (literal (codes "#") refl refl).0 in
@@ -388,7 +388,7 @@ cut_offer_is_silent n is =
     let offer = number_word n (offer_small n is) in
     short_remark (cut_offer_words n) (word.0, (kind.0, (offer.0, tt))) (omega (arith, offer.1))
 
--- each remark of a list
+-- each comment in a list
 each_is_silent : {X : Type 0} (Is : X → Type 0) (remark : X → List (List ℕ)) → ((x : X) → Is x → IsSilentLineOf (remark x))
     → (xs : List X) → AllByRecursion Is xs → AllByRecursion IsSilentLineOf (map remark xs)
 each_is_silent Is remark silent [] all = tt
@@ -398,7 +398,7 @@ both_are_silent : (xs ys : List (List (List ℕ))) → AllByRecursion IsSilentLi
 both_are_silent [] ys p q = q
 both_are_silent (x ∷ xs) ys p q = (p.0, both_are_silent xs ys p.1 q)
 
--- what a sweep took, and its cut, say nothing
+-- a sweep's takes and its cut say nothing
 pub swept_is_silent : (sweep : SweepEntry) → IsWritableSweep sweep → AllByRecursion IsSilentLineOf (sweep_remarks sweep)
 swept_is_silent sweep is =
     let takes = map take_remark sweep.takes in
@@ -409,14 +409,14 @@ swept_is_silent sweep is =
     (each_is_silent (λ (k : LimitKey). IsTrue (is_name (name_of_key k))) cut_key_remark cut_key_is_silent sweep.cut.keys is.keys))
     (each_is_silent IsOfferNo cut_offer_remark cut_offer_is_silent sweep.cut.offers is.offers)
 
--- words with a blank after each, and a last one, are a line
+-- words, each followed by a space, and a last one are a line
 pub words-last : (words : List (List ℕ)) (last : List ℕ) → flat_map word words ++ last_word last ≡ line_of (words ++ last ∷ [])
 words-last [] last = refl
 words-last (first ∷ []) last = ap (λ (t : List ℕ). t ++ last_word last) (append-nil (word first))
 words-last (first ∷ next ∷ others) last =
     append_assoc (word first) (flat_map word (next ∷ others)) (last_word last) ∙ ap (λ (t : List ℕ). word first ++ t) (words-last (next ∷ others) last)
 
--- ---- what is appended
+-- ---- appending
 
 -- the lines of comments
 lines_of_each : {X : Type 0} (remark : X → List (List ℕ)) (xs : List X) → flat_map (λ x. line_of (remark x)) xs ≡ flat_map line_of (map remark xs)
@@ -453,7 +453,7 @@ pair_text-more [] l = ap (λ (t : List ℕ). word l.account.name ++ t) (append-n
 pair_text-more (first ∷ others) l =
     ap (λ (t : List ℕ). word first.account.name ++ (word (decimal first.lots) ++ t)) (pair_text-more others l) ∙ sym (simp append_assoc)
 
--- a give-up's line more
+-- one more line of a give-up
 pub pairs_more : (old : List ℕ) (front : List GiveUpLine) (l : GiveUpLine)
     → ((old ++ flat_map word (pair_words front)) ++ word l.account.name) ++ word (decimal l.lots) ≡ old ++ flat_map word (pair_words (front ++ l ∷ []))
 pairs_more old front l =
@@ -461,11 +461,11 @@ pairs_more old front l =
     ∙ append_assoc old (flat_map word (pair_words front)) (word l.account.name ++ word (decimal l.lots))
     ∙ ap (λ (t : List ℕ). old ++ t) (sym (pair_text-more front l))
 
--- words with a blank after each have bytes
+-- words, each followed by a space, have bytes
 pub some_bytes : (words : List (List ℕ)) → 1 ≤ length words → 1 ≤ length (flat_map word words)
 some_bytes words some = omega (arith, ap (λ (t : List ℕ). length t) (words-joined words some), length-append (joined words) (32 ∷ []))
 
--- the blank after the last word is taken away, and the line ends
+-- the space after the last word is removed, and the line ends
 pub line_ended : (old rest : List ℕ) (popped : Option ℕ) (words : List (List ℕ)) → 1 ≤ length words → IsSome popped
     → old ++ flat_map word words ≡ rest ++ option_to_list popped → rest ++ 10 ∷ [] ≡ old ++ line_of words
 line_ended old rest None words some there is = cc

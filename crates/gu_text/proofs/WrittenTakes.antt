@@ -1,4 +1,4 @@
--- The takes and the cut of a written sheet are those that it was written of.
+-- The takes and the cut of a written sheet are those that it was made from.
 use Rattle.std.proofs.Common.{◌≡◌, ◌+◌, ◌==◌, ◌&&◌, ◌||◌, ℕ, Bool, true, false, List, [], ◌∷◌, filter, map, sum_by, refl, sym, ap, ◌∙◌, subst, inl, inr}
 use Rattle.std.specs.Prelude.{All, IsTrue, if◌then◌else◌}
 use Rattle.std.specs.List.{AllByRecursion, list_any}
@@ -19,14 +19,14 @@ use Rattle.gu_view.specs.declared.view.ViewOffer.{ViewOffer}
 use Rattle.gu_view.specs.declared.view.Room.{Room}
 use Rattle.gu_text.specs.WrittenSheets.{cut_of, takes_of}
 
--- a fact of both, where the second follows from the first
+-- both of two properties, if the second follows from the first
 second_follows : (b c : Bool) → (b ≡ true → c ≡ true) → (b && c) ≡ b
 second_follows true c h = h refl
 second_follows false c h = refl
 
 -- ---- takes
 
--- of an offer of the view, as many lots as were taken; of others none
+-- the lots taken from an offer of the view are read back; none are from any other
 lots_told : (takes : List Take) (offers : List ViewOffer) (n : ℕ) → lots_of (map (λ (o : ViewOffer). record { offer = o.number; lots = lots_of takes o.number }) offers) n ≡ (if has_offer offers n then lots_of takes n else 0)
 lots_told takes [] n = refl
 lots_told takes (o ∷ offers) n =
@@ -35,7 +35,7 @@ lots_told takes (o ∷ offers) n =
       | inr miss ↦ rw miss (lots_told takes offers n)
     ]
 
--- of an offer that the view lacks, nothing is taken
+-- nothing is taken from an offer that the view lacks
 pub none_taken : (takes : List Take) (offers : List ViewOffer) (n : ℕ) → AllByRecursion (λ (t : Take). has_offer offers t.offer ≡ true) takes → has_offer offers n ≡ false → lots_of takes n ≡ 0
 none_taken [] offers n known none = refl
 none_taken (t ∷ takes) offers n known none =
@@ -47,7 +47,7 @@ none_taken (t ∷ takes) offers n known none =
       | inr miss ↦ rw miss (none_taken takes offers n known.1 none)
     ]
 
--- takes of the view's offers alone are told as they are
+-- takes that name only the view's offers come back with the same lots
 pub same_lots : (view : GroupView) (takes : List Take) (n : ℕ) → All (λ t. IsTrue (has_offer view.offers t.offer)) takes → lots_of (takes_of view takes) n ≡ lots_of takes n
 same_lots view takes n known =
     lots_told takes view.offers n
@@ -58,7 +58,7 @@ same_lots view takes n known =
 
 -- ---- the cut
 
--- a key is told where the cut has it and the view has its room
+-- a key comes back if the cut has it and the view has its room
 key_told : (keys : List LimitKey) (rooms : List Room) (k : LimitKey) → has_key (map (λ (r : Room). r.key) (filter (λ (r : Room). has_key keys r.key) rooms)) k ≡ (has_key keys k && has_room rooms k)
 key_told keys [] k = by (has_key keys k)
   where
@@ -90,13 +90,13 @@ key_known (j ∷ keys) rooms k known has =
       | inr miss ↦ key_known keys rooms k known.1 (sym (rw miss refl) ∙ has)
     ]
 
--- the keys that are told are those of the cut
+-- the keys that come back are those of the cut
 pub same_key : (view : GroupView) (cut : CutLists) (k : LimitKey) → All (λ j. IsTrue (has_room view.rooms j)) cut.keys → has_key (cut_of view cut).keys k ≡ has_key cut.keys k
 same_key view cut k known =
     key_told cut.keys view.rooms k
     ∙ second_follows (has_key cut.keys k) (has_room view.rooms k) (key_known cut.keys view.rooms k (recursion_from_All (λ (j : LimitKey). IsTrue (has_room view.rooms j)) cut.keys known))
 
--- a number is told where the cut has it and the view has its offer
+-- a number comes back if the cut has it and the view has its offer
 number_told : (numbers : List ℕ) (offers : List ViewOffer) (n : ℕ) → has_number (map (λ (o : ViewOffer). o.number) (filter (λ (o : ViewOffer). has_number numbers o.number) offers)) n ≡ (has_number numbers n && has_offer offers n)
 number_told numbers [] n = by (has_number numbers n)
   where
@@ -128,19 +128,19 @@ number_known (m ∷ numbers) offers n known has =
       | inr miss ↦ number_known numbers offers n known.1 (sym (rw miss refl) ∙ has)
     ]
 
--- the numbers that are told are those of the cut
+-- the numbers that come back are those of the cut
 pub same_number : (view : GroupView) (cut : CutLists) (n : ℕ) → All (λ m. IsTrue (has_offer view.offers m)) cut.offers → has_number (cut_of view cut).offers n ≡ has_number cut.offers n
 same_number view cut n known =
     number_told cut.offers view.offers n
     ∙ second_follows (has_number cut.offers n) (has_offer view.offers n) (number_known cut.offers view.offers n (recursion_from_All (λ (m : ℕ). IsTrue (has_offer view.offers m)) cut.offers known))
 
--- ---- what is told is the view's own
+-- ---- what comes back is the view's own
 
 either : (b c : Bool) → c ≡ true → (b || c) ≡ true
 either true c h = refl
 either false c h = h
 
--- each offer is among the view's, and each room
+-- each offer is one of the view's, and so is each room
 own_offers : (offers : List ViewOffer) → AllByRecursion (λ (o : ViewOffer). has_offer offers o.number ≡ true) offers
 own_offers [] = tt
 own_offers (o ∷ offers) = (
@@ -155,7 +155,7 @@ own_rooms (r ∷ rooms) = (
   along (λ (q : Room). has_room rooms q.key ≡ true) (λ (q : Room). has_room (r ∷ rooms) q.key ≡ true) rooms (λ q h. either (key_eq r.key q.key) (has_room rooms q.key) h) (own_rooms rooms),
 )
 
--- a fact of what is made of each, and of what passes a test
+-- a property of each image, and of the elements that pass a test
 mapped : {X Y : Type 0} (P : Y → Type 0) (f : X → Y) (xs : List X) → AllByRecursion (λ x. P (f x)) xs → AllByRecursion P (map f xs)
 mapped P f [] h = tt
 mapped P f (x ∷ xs) h = (h.0, mapped P f xs h.1)
@@ -168,7 +168,7 @@ passing P p (x ∷ xs) h =
       | inr miss ↦ rw miss (passing P p xs h.1)
     ]
 
--- takes and a cut that are right are told as takes and a cut that are right, of as many lots
+-- right takes and a right cut come back right, with as many lots
 pub right_again : (view : GroupView) (takes : List Take) (cut : CutLists) (lots : ℕ) → IsRight view takes cut lots → IsRight view (takes_of view takes) (cut_of view cut) lots
 right_again view takes cut lots right = record {
   takes_known = All-from_recursion (λ (t : Take). IsTrue (has_offer view.offers t.offer)) (takes_of view takes)

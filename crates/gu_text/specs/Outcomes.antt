@@ -13,23 +13,22 @@ use Rattle.gu_text.specs.Replies.{reply_text}
 use Rattle.gu_text.specs.SheetText.{sheet_text}
 use Rattle.gu_text.specs.Texts.{line_of}
 
--- `number SWEPT group lots`, and the sheet, where the view is known that the group had just before
+-- `number SWEPT group lots`, followed by the sheet if the group's view just before is known
 abbrev pub swept_text : Option GroupView → ℕ → SweepEntry → List ℕ
 swept_text before number sweep =
     line_of (decimal number ∷ codes "SWEPT" ∷ sweep.group.name ∷ decimal sweep.lots ∷ [])
     ++ option_map_or (λ view. sheet_text view sweep.takes sweep.cut) before []
 
--- what was entered, with its number
+-- an entry and its number
 abbrev pub entry_text : Option GroupView → ℕ → Entry → List ℕ
 entry_text before number (AskedEntry command reply) = reply_text number reply
 entry_text before number (SweptEntry sweep) = swept_text before number sweep
 
--- the group that was looked at
+-- the name of the group that was looked at, if there is one
 abbrev pub group_words : Option Group → List (List ℕ)
 group_words looked = option_map_or (λ group. group.name ∷ []) looked []
 
--- what came of a step: of a look with the group that was looked at, of a sweep with its sheet, where the view is known that the group had
--- just before
+-- the outcome of a step: for a look with the group, and for a sweep with its sheet if the group's view just before it is known
 abbrev pub outcome_text : Option GroupView → Option Group → Outcome → List ℕ
 outcome_text before looked (Asked receipt) = entry_text before receipt.number receipt.entry
 outcome_text before looked Full = line_of (codes "FULL" ∷ [])

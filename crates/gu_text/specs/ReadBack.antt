@@ -1,4 +1,4 @@
--- What is written, and what is read of it.
+-- Reading back what was written.
 use Rattle.std.specs.Prelude.{◌≡◌, ℕ, ◌<◌, ◌≤◌, ◌^◌, ◌||◌, ◌==◌, ◌++◌, Bool, false, not, List, [], ◌∷◌, Some, All, IsTrue, filter, length, map}
 use Rattle.std.specs.List.{AllPass, flat_map, list_all}
 use Rattle.std.specs.Str.Lines.{lines}
@@ -17,7 +17,7 @@ use Rattle.gu_text.specs.Words.{is_ragged, words_of}
 use Rattle.gu_text.specs.declared.sheet_line.SheetLine.{SheetLine}
 use Rattle.gu_text.specs.declared.sheet_line.SheetLine.TheVariants as line
 
--- a byte that may be in a word: no blank, no LF and no CR
+-- a byte that may be in a word: not a space, LF or CR
 abbrev pub is_word_byte : ℕ → Bool
 is_word_byte b = not (b == 32 || b == 10 || b == 13)
 
@@ -31,27 +31,27 @@ pub record AreWords (words : List (List ℕ)) : Type 0 where
   pub some : 1 ≤ length words
   pub each : All IsWord words
 
--- a line without its LF: words with a blank between two of them
+-- a line without its LF: words separated by single spaces
 abbrev pub joined : List (List ℕ) → List ℕ
 joined [] = []
 joined (last ∷ []) = last
 joined (first ∷ next ∷ others) = word first ++ joined (next ∷ others)
 
--- of a line that words make, these words are read, and it begins and ends with none but them
+-- a line made of these words is read as these words, and has no space at either end
 pub record IsReadBack (words : List (List ℕ)) : Type 0 where
   pub words_are : words_of (joined words) ≡ words
   pub even : is_ragged (joined words) ≡ false
 
--- a line of these words is one, and says this in a sheet
+-- these words make a line, which has this content in a sheet
 pub record IsLineOf (words : List (List ℕ)) (said : SheetLine) : Type 0 where
   pub are : AreWords words
   pub says_it : says (joined words) ≡ Some said
 
--- a text that is written line by line, each of some words, has these lines
+-- a text written line by line, each line of some words, has these lines
 abbrev pub HasLines : List (List (List ℕ)) → Type 0
 HasLines rows = lines (flat_map line_of rows) ≡ map joined rows
 
--- names are names, paths are paths, and numbers have twelve digits at most
+-- names are valid, paths are paths, and numbers have at most twelve digits
 pub record IsWritable (view : GroupView) (takes : List Take) : Type 0 where
   pub group : IsTrue (is_name view.group.name)
   pub version : view.version < 10 ^ 12
@@ -63,7 +63,7 @@ pub record IsWritable (view : GroupView) (takes : List Take) : Type 0 where
   pub rooms : All (λ r. r.lots < 10 ^ 12) view.rooms
   pub taken : (number : ℕ) → lots_of takes number < 10 ^ 12
 
--- what a sheet says: its head, its offers, its rooms, a take of each offer, the keys and the offers of its cut, and the end
+-- the content of a sheet: its head, its offers, its rooms, a take for each offer, the keys and the offers of its cut, and the end
 abbrev pub said_of : GroupView → List Take → CutLists → List SheetLine
 said_of view takes cut =
     line.Sheet (record { group = view.group; version = view.version }) ∷ []
@@ -74,6 +74,6 @@ said_of view takes cut =
     ++ map (λ o. line.CutOffer o.number) (filter (λ o. has_number cut.offers o.number) view.offers)
     ++ line.End ∷ []
 
--- the lines of a sheet that is written say that
+-- the lines of a written sheet have that content
 abbrev pub IsReadAsWritten : GroupView → List Take → CutLists → Type 0
 IsReadAsWritten view takes cut = said_in (lines (sheet_text view takes cut)) ≡ said_of view takes cut

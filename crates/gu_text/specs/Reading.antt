@@ -40,21 +40,21 @@ most_offers = 4097
 abbrev pub most_rooms : ℕ
 most_rooms = 20481
 
--- what is kept of parts: offers and rooms up to one more than a view may have, and all else
+-- the parts as stored: offers and rooms up to one more than a view may have, and everything else
 abbrev pub kept : SheetParts → SheetParts
 kept parts = record parts { offers = take most_offers parts.offers; rooms = take most_rooms parts.rooms }
 
--- offers that are kept, with one more
+-- the stored offers with one more, if there is room for it
 abbrev pub more_offers : List ViewOffer → Option ViewOffer → List ViewOffer
 more_offers offers None = offers
 more_offers offers (Some offer) = if nat_lt (length offers) most_offers then offers ++ offer ∷ [] else offers
 
--- rooms that are kept, with one more
+-- the stored rooms with one more, if there is room for it
 abbrev pub more_rooms : List Room → Option Room → List Room
 more_rooms rooms None = rooms
 more_rooms rooms (Some room) = if nat_lt (length rooms) most_rooms then rooms ++ room ∷ [] else rooms
 
--- what is kept of parts, with one more line
+-- the stored parts with one more line
 abbrev pub with_kept : SheetParts → SheetLine → SheetParts
 with_kept parts line = record (with_line parts line) {
   offers = more_offers parts.offers (offer_in line);
@@ -74,11 +74,11 @@ is_ended parts = is_end parts.last
 abbrev pub line_fits : SheetParts → List ℕ → Bool
 line_fits parts line = is_silent line || option_map_or (fits_after parts) (says line) false
 
--- the parts with what a line says
+-- the parts with the content of one more line
 abbrev pub with_text_line : SheetParts → List ℕ → SheetParts
 with_text_line parts line = option_map_or (with_line parts) (says line) parts
 
--- what is kept of parts, with what a line says
+-- the stored parts with the content of one more line
 abbrev pub with_kept_line : SheetParts → List ℕ → SheetParts
 with_kept_line parts line = option_map_or (with_kept parts) (says line) parts
 
@@ -90,22 +90,22 @@ pub record IsMadeOf (parts : SheetParts) (sheet : Sheet) : Type 0 where
   pub takes : AreTakes parts.takes sheet.takes
   pub cut : sheet.cut ≡ parts.cut
 
--- why offers and rooms make no view at the end, which has this number: for want of memory, or because they can't
+-- why offers and rooms make no view at the end, which has this number: out of memory, or they can't
 abbrev pub MakesNoView : List ViewOffer → List Room → ℕ → TextError → Type 0
 MakesNoView offers rooms number Memory = Unit {0}
 MakesNoView offers rooms number (BadLine n) = (n ≡ number) × (¬ MakesView offers rooms)
 
--- why parts make no sheet at the end
+-- why parts make no sheet at the end, which has this number
 abbrev pub MakesNone : SheetParts → ℕ → TextError → Type 0
 MakesNone parts number error = MakesNoView parts.offers parts.rooms number error
 
--- these lines are right, the end isn't among them, and that is what is kept of their parts
+-- these lines are right, the end isn't among them, and these are their parts as stored
 pub record AreOpen (lines : List (List ℕ)) (parts : SheetParts) : Type 0 where
   pub right : AreRight lines
   pub unended : is_ended parts ≡ false
   pub parts_are : parts ≡ kept (parts_of (said_in lines))
 
--- what lines gave so far: parts, up to the end, and then the sheet
+-- the content of the lines so far: parts before the end, the sheet after it
 abbrev pub IsReadTo : List (List ℕ) → SheetSoFar → Type 0
 IsReadTo lines (Open parts) = AreOpen lines parts
 IsReadTo lines (Ended sheet) = IsSheetOf lines sheet

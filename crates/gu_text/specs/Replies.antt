@@ -12,12 +12,12 @@ use Rattle.gu_terms.specs.declared.reply.Reply.{Reply}
 use Rattle.gu_terms.specs.declared.reply.Reply.TheVariants.{Accepted, Denied}
 use Rattle.gu_text.specs.Texts.{line_of}
 
--- a key as two words: its kind and its name
+-- a key in two words: its kind and its name
 abbrev pub key_words : LimitKey → List (List ℕ)
 key_words key = kind_of key ∷ name_of_key key ∷ []
 
--- what an accepted command did: of a report whether it matched, of a give-up its first offer and its last, and the lots that were
--- claimed, closed or taken back
+-- the effect of an accepted command: whether a report matched, the first and the last offer of a give-up, or the lots claimed, refused or
+-- moved back
 abbrev pub done_words : Done → List (List ℕ)
 done_words Opened = []
 done_words LimitSet = []
@@ -27,15 +27,15 @@ done_words (Claimed lots) = codes "LOTS" ∷ decimal lots ∷ []
 done_words (Refused lots) = codes "LOTS" ∷ decimal lots ∷ []
 done_words (Reversed lots) = codes "LOTS" ∷ decimal lots ∷ []
 
--- why a command was refused: the refusal's number, its name and the key that it names
+-- the reason that a command was refused: the refusal's number, its name and the key that it names, if it names one
 abbrev pub refusal_words : Refusal → List (List ℕ)
 refusal_words refusal = decimal (number_of refusal) ∷ name_of refusal ∷ option_map_or key_words (key_in refusal) []
 
--- the words of a reply: `OK` and what was done, or `NO` and why not
+-- the words of a reply: `OK` and the effect, or `NO` and the reason
 abbrev pub reply_words : Reply → List (List ℕ)
 reply_words (Accepted done) = codes "OK" ∷ done_words done
 reply_words (Denied refusal) = codes "NO" ∷ refusal_words refusal
 
--- the reply to the command of an entry, after the entry's number
+-- an entry's number, followed by the reply to its command
 abbrev pub reply_text : ℕ → Reply → List ℕ
 reply_text number reply = line_of (decimal number ∷ reply_words reply)

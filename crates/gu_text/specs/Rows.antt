@@ -21,6 +21,6 @@ abbrev pub limit_text : Group → LimitRow → List ℕ
 limit_text group row =
     line_of (codes "LIMIT" ∷ group.name ∷ key_words row.key ++ decimal row.limit ∷ decimal row.used ∷ decimal row.room ∷ [])
 
--- `UNKNOWN`: a name that the reference lacks
+-- `UNKNOWN`: the reference lacks the name
 abbrev pub unknown_text : List ℕ
 unknown_text = line_of (codes "UNKNOWN" ∷ [])

@@ -1,5 +1,5 @@
--- Machinery: the forms of a script's lines, while one is read. (No other crate names this file.)
-use Rattle.std.specs.Prelude.{◌≡◌, ◌≤◌, ℕ, ℤ, false, List, [], ◌∷◌, codes, length, IsTrue, MatchOption, Option, Some, None, Result, Ok, Err, nat_le, if◌then◌else◌}
+-- Machinery: the forms of script lines, while one is read. (No other crate names this file.)
+use Rattle.std.specs.Prelude.{◌≡◌, ◌≤◌, ℕ, false, List, [], ◌∷◌, codes, length, IsTrue, MatchOption, Option, Some, None, Result, Ok, Err, nat_le, if◌then◌else◌}
 use Rattle.std.specs.List.{find}
 use Rattle.std.specs.Option.{option_and_then}
 use Rattle.std.specs.Str.{bytes_eq}
@@ -32,15 +32,15 @@ use Rattle.gu_text.specs.declared.script_forms.Form.TheVariants as form
 use Rattle.gu_text.specs.declared.script_line.Line.{Line}
 use Rattle.gu_text.specs.declared.script_line.Line.TheVariants as line
 
--- the worker that a word writes, among those that scripts can name
+-- the worker in a word, among those that scripts can name
 abbrev pub worker_said : List ℕ → Option ℕ
 worker_said word = option_and_then (λ n. if nat_le n 62 then Some n else None) (number_of word)
 
--- a word writes the number of a reason
+-- a word is the number of a reason
 abbrev pub WritesReject : List ℕ → AllocReject → Type 0
 WritesReject word reject = number_of word ≡ Some (reject_number reject)
 
--- the word that the lines of a form begin with
+-- the first word of a form's lines
 abbrev pub form_word : Form → List ℕ
 form_word form.Day = codes "DAY"
 form_word form.Limit = codes "LIMIT"
@@ -63,11 +63,11 @@ forms =
     form.Day ∷ form.Limit ∷ form.Report ∷ form.GiveUp ∷ form.Claim ∷ form.Refuse ∷ form.Reverse ∷ form.See ∷ form.Propose ∷ form.Commit
     ∷ form.Sweep ∷ form.Position ∷ form.Interest ∷ form.Limits ∷ []
 
--- the form whose lines begin with a word
+-- the form with this first word
 abbrev pub form_begun : List ℕ → Option Form
 form_begun word = find (λ f. bytes_eq (form_word f) word) forms
 
--- the form of what a line says
+-- the form of a line with this content
 abbrev pub form_of : Line → Form
 form_of (line.Step (Enter (OpenDay opening))) = form.Day
 form_of (line.Step (Enter (SetLimit limit))) = form.Limit
@@ -84,7 +84,7 @@ form_of (line.Position account symbol) = form.Position
 form_of (line.Interest symbol) = form.Interest
 form_of (line.Limits group) = form.Limits
 
--- words write nothing of a form
+-- these words are no line of this form
 abbrev pub WriteNone : Form → List (List ℕ) → Type 0
 WriteNone form.Day words = (opening : OpenDayOf) → ¬ Writes words (line.Step (Enter (OpenDay opening)))
 WriteNone form.Limit words = (limit : SetLimitOf) → ¬ Writes words (line.Step (Enter (SetLimit limit)))
@@ -101,39 +101,39 @@ WriteNone form.Position words = (account : AccountId) (symbol : Symbol) → ¬ W
 WriteNone form.Interest words = (symbol : Symbol) → ¬ Writes words (line.Interest symbol)
 WriteNone form.Limits words = (group : Group) → ¬ Writes words (line.Limits group)
 
--- what is read of the words after the word of a form, if they write anything
+-- the line read from the words after a form's first word, or none if they are no line of it
 abbrev pub Reads : Form → List (List ℕ) → Option Line → Type 0
 Reads form words read = MatchOption read (WriteNone form (form_word form ∷ words)) (Writes (form_word form ∷ words))
 
--- what is read of the words after the word of a form, in the line with this number, over what was said before: what they write; or they write
--- nothing, or an allocation failed, and what was said is as it was
+-- the result of reading the words after a form's first word, in the line with this number, over what was read before: their line; or, if
+-- they are no line or an allocation failed, what was read before is unchanged
 abbrev pub ReadsOver : Form → List (List ℕ) → ℕ → Result (Unit {0}) TextError → Option Line → Option Line → Type 0
 ReadsOver form words number (Ok done) old new = MatchOption new ⊥ (Writes (form_word form ∷ words))
 ReadsOver form words number (Err (BadLine n)) old new = ((n ≡ number) × WriteNone form (form_word form ∷ words)) × (new ≡ old)
 ReadsOver form words number (Err Memory) old new = new ≡ old
 
--- what is read of words, if they write anything
+-- the line read from words, or none if they are none
 abbrev pub ReadsWords : List (List ℕ) → Option Line → Type 0
 ReadsWords words read = MatchOption read ((said : Line) → ¬ Writes words said) (Writes words)
 
--- what is read of words as the lines of a give-up
+-- the lines of a give-up read from words, or none if they aren't one to sixteen lines
 abbrev pub ReadsLines : List (List ℕ) → Option (List GiveUpLine) → Type 0
 ReadsLines words read =
     MatchOption read ((lines : List GiveUpLine) → AreLines lines → ¬ WriteLines words lines)
     (λ lines. AreLines lines × WriteLines words lines)
 
--- words begin with an account and its lots, and these come after
+-- words begin with an account and its lots, followed by these
 pub record WritesLine (words : List (List ℕ)) (first : GiveUpLine) (behind : List (List ℕ)) : Type 0 where
   pub lots_text : List ℕ
   pub words_are : words ≡ first.account.name ∷ lots_text ∷ behind
   pub name : IsTrue (is_name first.account.name)
   pub lots : MeansLots lots_text first.lots
 
--- words begin with no line of a give-up
+-- words don't begin with a line of a give-up
 abbrev pub WritesNoLine : List (List ℕ) → Type 0
 WritesNoLine words = (first : GiveUpLine) (others : List GiveUpLine) → ¬ WriteLines words (first ∷ others)
 
--- a line isn't silent, has at most 1,024 bytes and no blank at its ends, and its words are the word of a form and these after it
+-- a line isn't silent, has at most 1,024 bytes and no space at either end, and consists of a form's first word and these words
 pub record IsBegun (text : List ℕ) (form : Form) (words : List (List ℕ)) : Type 0 where
   pub speaks : is_silent text ≡ false
   pub short : length text ≤ longest_line

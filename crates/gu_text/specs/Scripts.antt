@@ -1,4 +1,4 @@
--- What a line of a script says: a step, a whole sweep, or a question.
+-- The content of a script line: a step, a whole sweep, or a question.
 use Rattle.std.specs.Prelude.{◌≡◌, ℕ, ◌≤◌, ◌&&◌, false, List, [], ◌∷◌, codes, length, Some, None, IsTrue}
 use Rattle.gu_terms.specs.AllocRejects.{reject_number}
 use Rattle.gu_terms.specs.Days.{WritesDay}
@@ -19,7 +19,7 @@ use Rattle.gu_text.specs.Words.{is_ragged, words_of}
 use Rattle.gu_text.specs.declared.script_line.Line.{Line}
 use Rattle.gu_text.specs.declared.script_line.Line.TheVariants as line
 
--- a word writes the number of a worker that scripts can name: 0 to 62
+-- a word is the number of a worker that scripts can name: 0 to 62
 abbrev pub WritesWorker : List ℕ → ℕ → Type 0
 WritesWorker text worker = (number_of text ≡ Some worker) × (worker ≤ 62)
 
@@ -28,14 +28,14 @@ abbrev pub side_word : Side → List ℕ
 side_word Buy = codes "B"
 side_word Sell = codes "S"
 
--- pairs of words write the lines of a give-up: an account, and its lots
+-- pairs of words are the lines of a give-up: an account and its lots
 abbrev pub WriteLines : List (List ℕ) → List GiveUpLine → Type 0
 WriteLines [] [] = Unit {0}
 WriteLines (account ∷ lots ∷ words) (first ∷ others) =
     (account ≡ first.account.name) × IsTrue (is_name account) × MeansLots lots first.lots × WriteLines words others
 WriteLines words lines = ⊥
 
--- words write a command: its own word, and after it names, ids and numbers; a report is of the open day
+-- words are a command: its first word, followed by names, ids and numbers; a report is for the open day
 abbrev pub WritesCommand : List (List ℕ) → Command → Type 0
 WritesCommand words (OpenDay opening) =
     (text : List ℕ) × (words ≡ codes "DAY" ∷ text ∷ []) × WritesDay text opening.day.year opening.day.month opening.day.day
@@ -62,7 +62,7 @@ WritesCommand words (Refuse refusal) =
 WritesCommand words (Reverse reversal) =
     (text : List ℕ) × (words ≡ codes "REVERSE" ∷ reversal.firm.name ∷ text ∷ []) × IsTrue (is_name reversal.firm.name) × (offer_no_of text ≡ Some reversal.offer)
 
--- words write a step
+-- words are a step
 abbrev pub WritesStep : List (List ℕ) → Step → Type 0
 WritesStep words (Enter command) = WritesCommand words command
 WritesStep words (See worker group) =
@@ -70,7 +70,7 @@ WritesStep words (See worker group) =
 WritesStep words (Propose worker) = (text : List ℕ) × (words ≡ codes "PROPOSE" ∷ text ∷ []) × WritesWorker text worker
 WritesStep words (Commit worker) = (text : List ℕ) × (words ≡ codes "COMMIT" ∷ text ∷ []) × WritesWorker text worker
 
--- words write a line: a step, a whole sweep, or a question
+-- words are a line: a step, a whole sweep, or a question
 abbrev pub Writes : List (List ℕ) → Line → Type 0
 Writes words (line.Step step) = WritesStep words step
 Writes words (line.Sweep group) = (words ≡ codes "SWEEP" ∷ group.name ∷ []) × IsTrue (is_name group.name)
@@ -79,14 +79,14 @@ Writes words (line.Position account symbol) =
 Writes words (line.Interest symbol) = (words ≡ codes "INTEREST" ∷ symbol.name ∷ []) × IsTrue (is_name symbol.name)
 Writes words (line.Limits group) = (words ≡ codes "LIMITS" ∷ group.name ∷ []) × IsTrue (is_name group.name)
 
--- a line says this: it isn't silent, has at most 1,024 bytes and no blank at its ends, and its words write it
+-- a line has this content: it isn't silent, has at most 1,024 bytes and no space at either end, and its words are that
 pub record Says (text : List ℕ) (said : Line) : Type 0 where
   pub speaks : is_silent text ≡ false
   pub short : length text ≤ longest_line
   pub even : is_ragged text ≡ false
   pub writes : Writes (words_of text) said
 
--- a line is bad: it isn't silent, and says nothing
+-- a line is bad: it isn't silent, and has no content
 pub record IsBad (text : List ℕ) : Type 0 where
   pub speaks : is_silent text ≡ false
   pub nothing : (said : Line) → ¬ Says text said

@@ -1,4 +1,4 @@
--- What a line of a sweep sheet says.
+-- The content of a sheet line.
 use Rattle.std.specs.Prelude.{ℕ, Bool, ◌&&◌, ◌||◌, nat_le, nat_lt, List, [], ◌∷◌, codes, length, Option, Some, None, if◌then◌else◌}
 use Rattle.std.specs.Char.{is_digit}
 use Rattle.std.specs.List.{list_all}
@@ -19,19 +19,19 @@ use Rattle.gu_text.specs.declared.sheet_line.SheetLine.TheVariants as line
 abbrev pub is_number : List ℕ → Bool
 is_number word = nat_le 1 (length word) && nat_le (length word) 12 && list_all (λ byte. is_digit byte 10) word
 
--- the whole number that a word writes
+-- the whole number in a word
 abbrev pub number_of : List ℕ → Option ℕ
 number_of word = if is_number word then Some (digits_value 10 word) else None
 
--- the number of an offer that a word writes: 1 to 16,000,000
+-- the offer number in a word: 1 to 16,000,000
 abbrev pub offer_no_of : List ℕ → Option ℕ
 offer_no_of word = option_and_then (λ n. if nat_le 1 n && nat_le n 16000000 then Some n else None) (number_of word)
 
--- the name that a word is
+-- the name in a word
 abbrev pub name_of : List ℕ → Option (List ℕ)
 name_of word = if is_name word then Some word else None
 
--- the key that a kind and a name say
+-- the key with this kind and this name
 abbrev pub key_said : List ℕ → List ℕ → Option LimitKey
 key_said kind word = option_and_then (key_of kind) (name_of word)
 
@@ -43,13 +43,13 @@ sheet_said (group ∷ version ∷ []) =
     (name_of group)
 sheet_said _ = None
 
--- the guarantor of an offer's carrying firm: none, where no word names one
+-- the guarantor of an offer's carrying firm: none if there is no further word
 abbrev pub guarantor_said : List (List ℕ) → Option (Option FirmId)
 guarantor_said [] = Some None
 guarantor_said (firm ∷ []) = option_map (λ name. Some (record { name = name })) (name_of firm)
 guarantor_said _ = None
 
--- the path of an offer: executing firm, agreement, account, carrying firm, and its guarantor, where it has one
+-- the path of an offer: executing firm, agreement, account, carrying firm, and its guarantor if it has one
 abbrev pub path_said : List ℕ → List (List ℕ) → Option (List LimitKey)
 path_said agreement (executing ∷ account ∷ carrying ∷ rest) =
     if is_name executing && is_name account && is_name carrying
@@ -97,7 +97,7 @@ abbrev pub end_said : List (List ℕ) → Option SheetLine
 end_said [] = Some line.End
 end_said _ = None
 
--- what the first word of a line and the words after it say
+-- the content of a line with this first word and these words after it
 abbrev pub words_say : List ℕ → List (List ℕ) → Option SheetLine
 words_say kind words =
     if bytes_eq kind (codes "SHEET") then sheet_said words
@@ -108,15 +108,15 @@ words_say kind words =
     else if bytes_eq kind (codes "END") then end_said words
     else None
 
--- what words say
+-- the content of words
 abbrev pub said_by : List (List ℕ) → Option SheetLine
 said_by [] = None
 said_by (kind ∷ words) = words_say kind words
 
--- what a line of words says: it is at most 1,024 bytes long, and no blank is at its ends
+-- the content of a line of words: it has at most 1,024 bytes, and no space at either end
 abbrev pub spoken : List ℕ → Option SheetLine
 spoken line = if nat_lt longest_line (length line) || is_ragged line then None else said_by (words_of line)
 
--- what a line says: nothing where it is silent
+-- the content of a line; none if it is silent
 abbrev pub says : List ℕ → Option SheetLine
 says line = if is_silent line then None else spoken line

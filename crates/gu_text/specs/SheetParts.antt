@@ -1,4 +1,4 @@
--- What the lines of a sweep sheet give, part by part.
+-- The content of the lines of a sweep sheet, part by part.
 use Rattle.std.specs.Prelude.{ℕ, List, map, Option, Some, None}
 use Rattle.std.specs.List.{filter_map, last_or}
 use Rattle.gu_terms.specs.Cuts.{CutLists}
@@ -22,7 +22,7 @@ part_of (line.CutKey key) = part.Cut
 part_of (line.CutOffer number) = part.Cut
 part_of line.End = part.End
 
--- the parts come in this order
+-- the parts in order
 abbrev pub rank_of : Part → ℕ
 rank_of part.Head = 0
 rank_of part.Offers = 1
@@ -31,7 +31,7 @@ rank_of part.Takes = 3
 rank_of part.Cut = 4
 rank_of part.End = 5
 
--- what the lines of a sheet give, part by part
+-- the content of the lines of a sheet, part by part
 pub record SheetParts : Type 0 where
   pub last : Option Part
   pub header : Option Header
@@ -40,37 +40,37 @@ pub record SheetParts : Type 0 where
   pub takes : List Take
   pub cut : CutLists
 
--- the header that a line gives
+-- the header in a line
 abbrev pub header_in : SheetLine → Option Header
 header_in (line.Sheet header) = Some header
 header_in _ = None
 
--- the offer that a line gives
+-- the offer in a line
 abbrev pub offer_in : SheetLine → Option ViewOffer
 offer_in (line.Offer offer) = Some offer
 offer_in _ = None
 
--- the room that a line gives
+-- the room in a line
 abbrev pub room_in : SheetLine → Option Room
 room_in (line.Room room) = Some room
 room_in _ = None
 
--- the take that a line gives
+-- the take in a line
 abbrev pub take_in : SheetLine → Option Take
 take_in (line.Take t) = Some t
 take_in _ = None
 
--- the key that a line puts into the cut
+-- the key that a line adds to the cut
 abbrev pub key_in : SheetLine → Option LimitKey
 key_in (line.CutKey key) = Some key
 key_in _ = None
 
--- the offer that a line puts into the cut
+-- the offer that a line adds to the cut
 abbrev pub number_in : SheetLine → Option ℕ
 number_in (line.CutOffer number) = Some number
 number_in _ = None
 
--- what lines give: the part of the last of them, the header, and offers, rooms, takes and the cut's members in the order of their lines
+-- the content of lines: the last line's part, the last header, and offers, rooms, takes and the cut's members in the order of their lines
 abbrev pub parts_of : List SheetLine → SheetParts
 parts_of said = record {
   last = last_or None (map part_of said);

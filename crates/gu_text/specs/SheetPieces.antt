@@ -1,4 +1,4 @@
--- Sweep sheets that are read piece by piece.
+-- Reading sweep sheets piece by piece.
 use Rattle.std.specs.Prelude.{◌≡◌, ℕ, List, ◌++◌, length}
 use Rattle.std.specs.Str.Lines.{lines}
 use Rattle.gu_text.specs.LineFeeds.{LeavesOpen}
@@ -6,7 +6,7 @@ use Rattle.gu_text.specs.Reading.{IsReadTo}
 use Rattle.gu_text.specs.Sheets.{IsFirstBad}
 use Rattle.gu_text.specs.declared.sheet_so_far.SheetSoFar.{SheetSoFar}
 
--- how far a sheet is read: what its lines gave, how many they are, and the bytes after the last LF
+-- a place in a sheet: the content of the lines so far, their number, and the bytes after the last LF
 pub record SheetPlace : Type 0 where
   pub so_far : SheetSoFar
   pub count : ℕ
@@ -19,7 +19,7 @@ pub record IsReadUpTo (text : List ℕ) (so_far : SheetSoFar) (count : ℕ) (lef
   pub read : IsReadTo ended so_far
   pub count_is : count ≡ length ended
 
--- a text is read: its ended lines, and its rest waits
+-- a text is read so far: its ended lines are read, and the rest waits
 abbrev pub IsReadSoFar : List ℕ → SheetPlace → Type 0
 IsReadSoFar text place = IsReadUpTo text place.so_far place.count place.rest
 
@@ -28,6 +28,6 @@ pub record IsReadWhole (text : List ℕ) (so_far : SheetSoFar) (count : ℕ) : T
   pub read : IsReadTo (lines text) so_far
   pub count_is : count ≡ length (lines text)
 
--- whatever comes after a text, its first bad line has this number
+-- whatever follows a text, its first bad line has this number
 abbrev pub IsBadHowever : List ℕ → ℕ → Type 0
 IsBadHowever text number = (more : List ℕ) → IsFirstBad (lines (text ++ more)) number

@@ -1,4 +1,4 @@
--- A sweep sheet as it is written: a view, takes and a cut, line by line, each part in the order of the view.
+-- A written sweep sheet: a view, takes and a cut, line by line, each part in the order of the view.
 use Rattle.std.specs.Prelude.{ℕ, List, [], ◌∷◌, ◌++◌, codes, map, if◌then◌else◌}
 use Rattle.std.specs.Fmt.{decimal}
 use Rattle.std.specs.List.{flat_map}
@@ -17,12 +17,12 @@ use Rattle.gu_text.specs.Texts.{line_of}
 abbrev pub head_words : GroupView → List (List ℕ)
 head_words view = codes "SHEET" ∷ view.group.name ∷ decimal view.version ∷ []
 
--- the names on a path but its agreement's: executing firm, account, carrying firm, and the guarantor where there is one
+-- the names on a path except its agreement's: executing firm, account, carrying firm, and the guarantor if there is one
 abbrev pub path_words : List LimitKey → List (List ℕ)
 path_words (executing ∷ agreement ∷ others) = name_of_key executing ∷ map name_of_key others
 path_words _ = []
 
--- `OFFER number lots agreement`, and the path
+-- `OFFER number lots agreement`, and the rest of the path
 abbrev pub offer_words : ViewOffer → List (List ℕ)
 offer_words offer = codes "OFFER" ∷ decimal offer.number ∷ decimal offer.lots ∷ offer.agreement.name ∷ path_words offer.path
 
@@ -42,7 +42,7 @@ cut_key_words key = codes "CUT" ∷ key_words key
 abbrev pub cut_offer_words : ℕ → List (List ℕ)
 cut_offer_words number = codes "CUT" ∷ codes "OFFER" ∷ decimal number ∷ []
 
--- the lines of these words: the head, an offer, and the room of a key
+-- the lines for the head, an offer and a room
 abbrev pub head_line : GroupView → List ℕ
 head_line view = line_of (head_words view)
 
@@ -52,15 +52,15 @@ offer_line offer = line_of (offer_words offer)
 abbrev pub room_line : Room → List ℕ
 room_line room = line_of (room_words room)
 
--- the lots that are taken of an offer, 0 too
+-- the lots taken from an offer, even if 0
 abbrev pub take_line : List Take → ViewOffer → List ℕ
 take_line takes offer = line_of (take_words offer.number (lots_of takes offer.number))
 
--- the key of a room, where it is in the cut
+-- the key of a room if it is in the cut
 abbrev pub cut_key_line : CutLists → Room → List ℕ
 cut_key_line cut room = if has_key cut.keys room.key then line_of (cut_key_words room.key) else []
 
--- the number of an offer, where it is in the cut
+-- the number of an offer if it is in the cut
 abbrev pub cut_offer_line : CutLists → ViewOffer → List ℕ
 cut_offer_line cut offer = if has_number cut.offers offer.number then line_of (cut_offer_words offer.number) else []
 
@@ -68,8 +68,8 @@ cut_offer_line cut offer = if has_number cut.offers offer.number then line_of (c
 abbrev pub end_line : List ℕ
 end_line = line_of (codes "END" ∷ [])
 
--- the sheet of takes and a cut of a view: its head, its offers, its rooms, a take for each offer, the cut's keys in the order of the
--- rooms, the cut's offers in the order of the offers, and the end
+-- the sheet of takes and a cut of a view: its head, its offers, its rooms, a take for each offer, the cut's keys in the order of the rooms,
+-- the cut's offers in the order of the offers, and the end
 abbrev pub sheet_text : GroupView → List Take → CutLists → List ℕ
 sheet_text view takes cut =
     head_line view ++ flat_map offer_line view.offers ++ flat_map room_line view.rooms ++ flat_map (take_line takes) view.offers

@@ -18,32 +18,32 @@ use Rattle.gu_text.specs.declared.sheet_line.Part.TheVariants as part
 use Rattle.gu_text.specs.declared.sheet_line.SheetLine.{SheetLine}
 use Rattle.gu_text.specs.declared.sheet_line.SheetLine.TheVariants as line
 
--- the head comes first, nothing comes after the end, and no line after one of a later part
+-- the head is first and occurs once, nothing follows the end, and no line follows one of a later part
 abbrev pub comes_after : Option Part → Part → Bool
 comes_after None next = rank_of next == 0
 comes_after (Some last) next = nat_lt 0 (rank_of next) && nat_lt (rank_of last) 5 && nat_le (rank_of last) (rank_of next)
 
--- a take of this offer, or this member of the cut, came before
+-- there was already a take from this offer, or this member of the cut
 abbrev pub is_repeated : SheetParts → SheetLine → Bool
 is_repeated parts (line.Take t) = has_number (map (λ (s : Take). s.offer) parts.takes) t.offer
 is_repeated parts (line.CutKey key) = has_key parts.cut.keys key
 is_repeated parts (line.CutOffer number) = has_number parts.cut.offers number
 is_repeated parts _ = false
 
--- a line may come after those that gave these parts, apart from the view that is whole at the end
+-- a line may follow those with these parts, apart from the test that the end makes
 abbrev pub fits_after : SheetParts → SheetLine → Bool
 fits_after parts line = comes_after parts.last (part_of line) && not (is_repeated parts line)
 
--- and at the end, the offers and rooms make a view
+-- a line may follow these: it fits, and if it is the end, the offers and rooms make a view
 pub record MayFollow (said : List SheetLine) (next : SheetLine) : Type 0 where
   pub fits : IsTrue (fits_after (parts_of said) next)
   pub view : next ≡ line.End → MakesView (parts_of said).offers (parts_of said).rooms
 
--- what lines say
+-- the content of these lines
 abbrev pub said_in : List (List ℕ) → List SheetLine
 said_in lines = filter_map says lines
 
--- a line is silent, or it says what may follow
+-- a line is silent, or its content may follow
 abbrev pub IsRightAfter : List SheetLine → List ℕ → Type 0
 IsRightAfter said line = IsTrue (is_silent line) ⊎ ((next : SheetLine) × (says line ≡ Some next) × MayFollow said next)
 
@@ -60,23 +60,23 @@ pub record IsFirstBad (lines : List (List ℕ)) (number : ℕ) : Type 0 where
   pub bad : ¬ IsRightAfter (said_in (take place lines)) line
   pub number_is : number ≡ place + 1
 
--- each line is right and the end is missing: this is the number after the last line
+-- each line is right but the end is missing; this is the number after the last line
 pub record IsUnended (lines : List (List ℕ)) (number : ℕ) : Type 0 where
   pub right : AreRight lines
   pub unended : ¬ ((parts_of (said_in lines)).last ≡ Some part.End)
   pub number_is : number ≡ length lines + 1
 
--- why a text is no sheet: for want of memory, or by its first bad line
+-- why a text isn't a sheet: out of memory, its first bad line, or a missing end
 abbrev pub Refuses : List ℕ → TextError → Type 0
 Refuses text Memory = Unit {0}
 Refuses text (BadLine number) = IsFirstBad (lines text) number ⊎ IsUnended (lines text) number
 
--- these takes, offers ascending
+-- the same takes, in ascending order of offers
 pub record AreTakes (listed takes : List Take) : Type 0 where
   pub same : IsPermutation listed takes
   pub ascending : IsAscending takes
 
--- the sheet that lines make: they are right and the last is the end; they give the view, the takes and the cut
+-- the sheet that lines make: they are right, the last is the end, and they give the view, the takes and the cut
 pub record IsSheetOf (lines : List (List ℕ)) (sheet : Sheet) : Type 0 where
   pub right : AreRight lines
   pub ended : (parts_of (said_in lines)).last ≡ Some part.End
@@ -86,6 +86,6 @@ pub record IsSheetOf (lines : List (List ℕ)) (sheet : Sheet) : Type 0 where
   pub takes : AreTakes (parts_of (said_in lines)).takes sheet.takes
   pub cut : sheet.cut ≡ (parts_of (said_in lines)).cut
 
--- the sheet that a text is
+-- the sheet in a text
 abbrev pub IsSheet : List ℕ → Sheet → Type 0
 IsSheet text sheet = IsSheetOf (lines text) sheet

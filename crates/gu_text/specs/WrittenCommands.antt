@@ -1,4 +1,4 @@
--- Commands and sweeps that are written as lines of a script.
+-- Commands and sweeps written as script lines.
 use Rattle.std.specs.Prelude.{ℕ, ◌<◌, ◌^◌, List, [], ◌∷◌, ◌++◌, codes, map, None, IsTrue}
 use Rattle.std.specs.Fmt.{decimal}
 use Rattle.std.specs.List.{AllByRecursion}
@@ -23,12 +23,12 @@ use Rattle.gu_text.specs.SheetText.{cut_key_words, cut_offer_words, take_words}
 use Rattle.gu_text.specs.Texts.{line_of}
 use Rattle.gu_text.specs.declared.script_line.Line.{Line}
 
--- the words of a give-up's lines: of each its account and its lots
+-- the words of a give-up's lines: the account and the lots of each
 abbrev pub pair_words : List GiveUpLine → List (List ℕ)
 pair_words [] = []
 pair_words (first ∷ others) = first.account.name ∷ decimal first.lots ∷ pair_words others
 
--- the words of a command: its own word, and after it names, ids and numbers; the day that a report names has none
+-- the words of a command: its first word, followed by names, ids and numbers; there is no word for the day that a report names
 abbrev pub command_words : Command → List (List ℕ)
 command_words (OpenDay opening) = codes "DAY" ∷ date_text opening.day.year opening.day.month opening.day.day ∷ []
 command_words (SetLimit limit) = codes "LIMIT" ∷ limit.group.name ∷ kind_of limit.key ∷ name_of_key limit.key ∷ decimal limit.lots ∷ []
@@ -43,7 +43,7 @@ command_words (Reverse reversal) = codes "REVERSE" ∷ reversal.firm.name ∷ de
 abbrev pub sweep_words : Group → List (List ℕ)
 sweep_words group = codes "SWEEP" ∷ group.name ∷ []
 
--- the words of comments: the lots that a sweep takes of an offer, a key of its cut, and an offer of its cut
+-- the words of comments: the lots that a sweep takes from an offer, a key of its cut, and an offer of its cut
 abbrev pub take_remark : Take → List (List ℕ)
 take_remark take = codes "#" ∷ take_words take.offer take.lots
 
@@ -53,7 +53,7 @@ cut_key_remark key = codes "#" ∷ cut_key_words key
 abbrev pub cut_offer_remark : ℕ → List (List ℕ)
 cut_offer_remark offer = codes "#" ∷ cut_offer_words offer
 
--- what a sweep takes, and its cut, as comments, each as words
+-- a sweep's takes and its cut as comments, each as words
 abbrev pub sweep_remarks : SweepEntry → List (List (List ℕ))
 sweep_remarks sweep = map take_remark sweep.takes ++ map cut_key_remark sweep.cut.keys ++ map cut_offer_remark sweep.cut.offers
 
@@ -61,7 +61,7 @@ sweep_remarks sweep = map take_remark sweep.takes ++ map cut_key_remark sweep.cu
 abbrev pub sweep_rows : SweepEntry → List (List (List ℕ))
 sweep_rows sweep = sweep_words sweep.group ∷ sweep_remarks sweep
 
--- the words of a comment: a report, and the day that it names
+-- the words of a comment with a report and the day that it names
 abbrev pub remark_words : Command → Day → List (List ℕ)
 remark_words report day = codes "#" ∷ command_words report ++ date_text day.year day.month day.day ∷ []
 
@@ -75,20 +75,20 @@ cut_key_remark_text key = line_of (cut_key_remark key)
 abbrev pub cut_offer_remark_text : ℕ → List ℕ
 cut_offer_remark_text offer = line_of (cut_offer_remark offer)
 
--- the line of a command, and of a comment
+-- the line for a command, and the comment line for a report and its day
 abbrev pub command_text : Command → List ℕ
 command_text command = line_of (command_words command)
 
 abbrev pub remark_text : Command → Day → List ℕ
 remark_text report day = line_of (remark_words report day)
 
--- a report as one that names no day, so of the open one; any other command as it is
+-- a report without the day that it names, so for the open day; any other command unchanged
 abbrev pub undated : Command → Command
 undated (ReportSide report) = ReportSide (record report { day = None })
 undated command = command
 
--- what the types of commands keep: names are names, ids are ids, and lots, prices and numbers of offers are in their ranges; and what a script
--- asks for besides: a limit has twelve digits at most
+-- the invariants of commands: names, ids, lots, prices and offer numbers are valid; and one requirement of scripts: a limit has at most
+-- twelve digits
 abbrev pub IsWritableCommand : Command → Type 0
 IsWritableCommand (OpenDay opening) = Unit {0}
 IsWritableCommand (SetLimit limit) = IsTrue (is_name limit.group.name) × IsTrue (is_name (name_of_key limit.key)) × (limit.lots < 10 ^ 12)
@@ -101,20 +101,19 @@ IsWritableCommand (Claim claim) = IsTrue (is_name claim.firm.name) × IsOfferNo 
 IsWritableCommand (Refuse refusal) = IsTrue (is_name refusal.firm.name) × IsOfferNo refusal.offer
 IsWritableCommand (Reverse reversal) = IsTrue (is_name reversal.firm.name) × IsOfferNo reversal.offer
 
--- what the types of sweeps keep: names are names, and numbers of offers are in their range; and what a script asks for besides: lots have
--- twelve digits at most
+-- the invariants of sweeps: names and offer numbers are valid; and one requirement of scripts: lots have at most twelve digits
 pub record IsWritableSweep (sweep : SweepEntry) : Type 0 where
   pub group : IsTrue (is_name sweep.group.name)
   pub takes : AllByRecursion (λ (t : Take). IsOfferNo t.offer × (t.lots < 10 ^ 12)) sweep.takes
   pub keys : AllByRecursion (λ (k : LimitKey). IsTrue (is_name (name_of_key k))) sweep.cut.keys
   pub offers : AllByRecursion IsOfferNo sweep.cut.offers
 
--- a line of these words is one, and says nothing in a script
+-- these words make a line, which says nothing in a script
 pub record IsSilentLineOf (words : List (List ℕ)) : Type 0 where
   pub are : AreWords words
   pub silent : IsTrue (is_silent (joined words))
 
--- a line of these words is one, and says this in a script
+-- these words make a line, which has this content in a script
 pub record IsScriptLineOf (words : List (List ℕ)) (said : Line) : Type 0 where
   pub are : AreWords words
   pub says : Says (joined words) said

@@ -10,7 +10,7 @@ use Rattle.gu_terms.specs.declared.takes.Take.{Take}
 use Rattle.gu_view.specs.View.{GroupView}
 use Rattle.gu_text.specs.declared.sheet.Sheet.{Sheet}
 
--- a take of each offer of a view, of the lots that are taken of it, 0 too
+-- a take from each offer of a view, with the lots taken from it, even if 0
 abbrev pub takes_of : GroupView → List Take → List Take
 takes_of view takes = map (λ o. record { offer = o.number; lots = lots_of takes o.number }) view.offers
 
@@ -22,11 +22,11 @@ cut_of view cut =
       offers = map (λ o. o.number) (filter (λ o. has_number cut.offers o.number) view.offers);
     }
 
--- the sheet: the view as it was, the takes of each of its offers, and the cut in its order
+-- the sheet: the same view, a take from each of its offers, and the cut in the order of the view
 abbrev pub sheet_of : GroupView → List Take → CutLists → Sheet
 sheet_of view takes cut = record { view = view; takes = takes_of view takes; cut = cut_of view cut }
 
--- a view's group and the keys on its paths have names, and its offers numbers: what their types keep
+-- the names of a view's group and of the keys on its paths are valid, and so are its offer numbers: the invariants of their types
 pub record IsNamed (view : GroupView) : Type 0 where
   pub group : IsTrue (is_name view.group.name)
   pub numbers : All (λ o. IsOfferNo o.number) view.offers

@@ -15,7 +15,7 @@ use gu_terms::{
 };
 use std::alloc::AllocError;
 
-/// The letter of a side.
+/// Returns the letter of a side.
 fn side_word(side: Side) -> &'static [u8]
     ensures { result.now ≡ side_word side }
 {
@@ -25,7 +25,7 @@ fn side_word(side: Side) -> &'static [u8]
     }
 }
 
-/// Appends the words of a limit, each with a blank after it.
+/// Appends the words of a limit, each followed by a space.
 fn append_limit(output: &mut Vec<u8>, limit: &SetLimit) -> Result<(), AllocError>
     ensures { OnOk result (output.new.items ≡ output.old.items ++ flat_map word (command_words (Command.SetLimit limit.now))) }
 {
@@ -36,7 +36,7 @@ fn append_limit(output: &mut Vec<u8>, limit: &SetLimit) -> Result<(), AllocError
     append_number(output, limit.lots)
 }
 
-/// Appends the first words of what a firm gives an id of its own, with the other id, each with a blank after it.
+/// Appends the first words of a report or a give-up: its word, its firm, its own id and the other id, each followed by a space.
 fn append_own(
     output: &mut Vec<u8>,
     name: &[u8],
@@ -52,7 +52,7 @@ fn append_own(
     append_word(output, other.get())
 }
 
-/// Appends the words of a report after its ids, each with a blank after it. Its day has none.
+/// Appends the words of a report after its ids, each followed by a space. There is no word for its day.
 fn append_side(output: &mut Vec<u8>, report: &ReportSide) -> Result<(), AllocError>
     ensures { OnOk result (output.new.items ≡ output.old.items
         ++ flat_map word (side_word report.now.side ∷ report.now.symbol.name ∷ decimal report.now.lots ∷ price_text report.now.price
@@ -65,7 +65,7 @@ fn append_side(output: &mut Vec<u8>, report: &ReportSide) -> Result<(), AllocErr
     append_word(output, report.account.get())
 }
 
-/// Appends the words of a give-up's lines, each with a blank after it.
+/// Appends the words of a give-up's lines, each followed by a space.
 fn append_pairs(output: &mut Vec<u8>, lines: &[Line]) -> Result<(), AllocError>
     ensures { OnOk result (output.new.items ≡ output.old.items ++ flat_map word (pair_words lines.now)) }
 {
@@ -76,7 +76,7 @@ fn append_pairs(output: &mut Vec<u8>, lines: &[Line]) -> Result<(), AllocError>
     Ok(())
 }
 
-/// Appends the words of a carrying firm's response to an offer, each with a blank after it.
+/// Appends the words of a carrying firm's response to an offer, each followed by a space.
 fn append_response(
     output: &mut Vec<u8>,
     name: &[u8],
@@ -90,7 +90,7 @@ fn append_response(
     append_number(output, offer.get())
 }
 
-/// Appends the words of a command, each with a blank after it.
+/// Appends the words of a command, each followed by a space.
 fn append_command_words(output: &mut Vec<u8>, command: &Command) -> Result<(), AllocError>
     ensures { OnOk result (output.new.items ≡ output.old.items ++ flat_map word (command_words command.now)) }
 {
@@ -117,12 +117,12 @@ fn append_command_words(output: &mut Vec<u8>, command: &Command) -> Result<(), A
     }
 }
 
-/// Appends the line of a script that makes a command. It is of the open day, whatever day a report names.
+/// Appends the script line that makes a command. It uses the open day, whatever day a report names.
 pub fn append_command(output: &mut Vec<u8>, command: &Command) -> Result<(), AllocError>
     ensures { OnOk result (output.new.items ≡ output.old.items ++ command_text command.now) }
 {
     append_command_words(output, command)?;
-    // The last word has a blank after it, in whose place the line ends.
+    // The last word is followed by a space, which the end of the line replaces.
     let _ = output.pop();
     output.push(b'\n')?;
     Ok(())
@@ -138,7 +138,7 @@ pub fn append_remark(output: &mut Vec<u8>, report: &Command, day: Day) -> Result
     Ok(())
 }
 
-/// Appends a comment with the lots that a sweep takes of an offer.
+/// Appends a comment with the lots that a sweep takes from an offer.
 fn append_take(output: &mut Vec<u8>, take: &Take) -> Result<(), AllocError>
     ensures { OnOk result (output.new.items ≡ output.old.items ++ take_remark_text take.now) }
 {
@@ -168,7 +168,7 @@ fn append_cut_offer(output: &mut Vec<u8>, offer: &OfferNo) -> Result<(), AllocEr
     append_last_number(output, offer.get())
 }
 
-/// Appends the lots that a sweep takes, a comment for each offer.
+/// Appends the lots that a sweep takes, one comment for each offer.
 fn append_takes(output: &mut Vec<u8>, takes: &[Take]) -> Result<(), AllocError>
     ensures { OnOk result (output.new.items ≡ output.old.items ++ flat_map take_remark_text takes.now) }
 {
@@ -178,7 +178,7 @@ fn append_takes(output: &mut Vec<u8>, takes: &[Take]) -> Result<(), AllocError>
     Ok(())
 }
 
-/// Appends the keys of a cut, a comment for each.
+/// Appends the keys of a cut, one comment for each.
 fn append_cut_keys(output: &mut Vec<u8>, keys: &[LimitKey]) -> Result<(), AllocError>
     ensures { OnOk result (output.new.items ≡ output.old.items ++ flat_map cut_key_remark_text keys.now) }
 {
@@ -188,7 +188,7 @@ fn append_cut_keys(output: &mut Vec<u8>, keys: &[LimitKey]) -> Result<(), AllocE
     Ok(())
 }
 
-/// Appends the offers of a cut, a comment for each.
+/// Appends the offers of a cut, one comment for each.
 fn append_cut_offers(output: &mut Vec<u8>, offers: &[OfferNo]) -> Result<(), AllocError>
     ensures { OnOk result (output.new.items ≡ output.old.items ++ flat_map cut_offer_remark_text offers.now) }
 {
@@ -198,7 +198,7 @@ fn append_cut_offers(output: &mut Vec<u8>, offers: &[OfferNo]) -> Result<(), All
     Ok(())
 }
 
-/// Appends the line of a script that sweeps a group.
+/// Appends the script line that sweeps a group.
 fn append_sweep_line(output: &mut Vec<u8>, group: Group) -> Result<(), AllocError>
     ensures { OnOk result (output.new.items ≡ output.old.items ++ line_of (sweep_words group)) }
 {
@@ -206,7 +206,7 @@ fn append_sweep_line(output: &mut Vec<u8>, group: Group) -> Result<(), AllocErro
     append_last_word(output, group.get())
 }
 
-/// Appends the lines of a committed sweep: the line of a script that sweeps its group, and as comments its takes and its cut.
+/// Appends the lines of a committed sweep: the script line that sweeps its group, with its takes and its cut as comments.
 pub fn append_sweep(output: &mut Vec<u8>, sweep: &SweepEntry) -> Result<(), AllocError>
     ensures { OnOk result (output.new.items ≡ output.old.items ++ flat_map line_of (sweep_rows sweep.now)) }
 {

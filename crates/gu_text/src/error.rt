@@ -1,15 +1,15 @@
-//! Why a text isn't read.
+//! Why a text is refused.
 
 use std::alloc::AllocError;
 use thiserror::Error;
 
-/// Why a text isn't read.
+/// The reason that a text is refused.
 #[derive(Clone, Copy, Debug, Drop, PartialEq, Eq, Error)]
 pub enum TextError {
     /// An allocation failed.
     #[error("Memory")]
     Memory,
-    /// This line, counted from 1, may not be there; where the end of a sheet is missing, it is the number after the last line.
+    /// This line, counted from 1, is not allowed; if a sheet's end is missing, it is the number after the last line.
     #[error("BadLine {0}")]
     BadLine(u64),
 }

@@ -1,4 +1,4 @@
-//! Laws of scripts, and of what is written.
+//! Laws of scripts, and of written texts.
 
 ghost use Rattle.std.specs.Prelude.{◌≡◌, ◌<◌, ◌^◌, ℕ, List, All, IsTrue};
 ghost use Rattle.std.specs.List.{AllByRecursion};
@@ -27,30 +27,30 @@ ghost use Rattle.gu_world.specs.declared.step.Step.TheVariants.{Enter};
 ghost use Rattle.gu_view.specs.Check.{IsRight, has_offer, has_room};
 ghost use Rattle.gu_view.specs.View.{GroupView, IsNested, IsView};
 
-/// A line of a script says one thing at most.
+/// A line of a script says at most one thing.
 pub fn a_line_says_one_thing()
     ensures { (text : List ℕ) (a b : LineOf) → Says text a → Says text b → a ≡ b }
 {}
 
-/// A line that words make is read as these words, and a text that is written line by line has these lines.
+/// A line made of words is read as those words, and a text written line by line has those lines.
 pub fn written_words_are_read_back()
     ensures words { (words : List (List ℕ)) → AreWords words → IsReadBack words }
     ensures lines { (rows : List (List (List ℕ))) → All AreWords rows → HasLines rows }
 {}
 
-/// The lines of a sheet that is written say what it was made of: its head, offers, rooms, takes and cut, and the end.
+/// The lines of a written sheet say what it was made of: its head, offers, rooms, takes and cut, and the end.
 pub fn a_written_sheet_says_what_it_is()
     ensures { (view : GroupView) (takes : List Take) (cut : CutLists) → IsWritable view takes → IsReadAsWritten view takes cut }
 {}
 
-/// A text is one sheet at most, and one that is a sheet is refused for want of memory alone.
+/// A text is at most one sheet, and a text that is a sheet is refused only for lack of memory.
 pub fn a_text_is_one_sheet()
     ensures one { (text : List ℕ) (a b : SheetOf) → IsSheet text a → IsSheet text b → a ≡ b }
     ensures accepted { (text : List ℕ) (sheet : SheetOf) (error : ErrorOf) → IsSheet text sheet → Refuses text error → error ≡ Memory }
 {}
 
-/// A sheet that is written is read as one: of the view, a take of each of its offers, and the cut in its order. Takes and a cut that name
-/// only the view's own are told as they are.
+/// A written sheet is read back as a sheet of the view, with a take for each of its offers, and the cut in its order. Takes and a cut that
+/// name only what the view has come back with the same lots and the same members.
 pub fn a_written_sheet_is_read_back()
     ensures sheet { (view : GroupView) (takes : List Take) (cut : CutLists) → IsView view → IsWritable view takes
         → IsSheet (sheet_text view takes cut) (sheet_of view takes cut) }
@@ -66,7 +66,7 @@ pub fn a_written_sheet_is_read_back()
     ensures right { (view : GroupView) (takes : List Take) (cut : CutLists) (lots : ℕ)
         → IsRight view takes cut lots → IsRight view (takes_of view takes) (cut_of view cut) lots }
 
-    // What is right can be written so: its version apart, by what the types of names and of numbers keep.
+    // Right takes and cuts can be written so, apart from the version, by the invariants of names and numbers.
     ensures writable { (view : GroupView) (takes : List Take) (cut : CutLists) (lots : ℕ)
         → IsView view
         → IsNested view
@@ -76,7 +76,7 @@ pub fn a_written_sheet_is_read_back()
         → IsWritable view takes }
 {}
 
-/// A command that is written is read back as it is, a report as one of the open day, and so is a sweep. Remarks say nothing.
+/// A written command is read back unchanged, a report as one for the open day; so is a sweep. Comments say nothing.
 pub fn a_written_command_is_read_back()
     ensures command { (command : CommandOf) → IsWritableCommand command
         → IsScriptLineOf (command_words command) (line.Step (Enter (undated command))) }

@@ -1,4 +1,4 @@
-//! Texts of the desk: scripts and sweep sheets that are read; replies, outcomes, rows, sheets and verdicts that are written.
+//! Texts of the desk: scripts and sweep sheets, which are read; replies, outcomes, rows, sheets and verdicts, which are written.
 #![tactic(auto)]
 
 mod command_lines;

@@ -7,10 +7,10 @@ ghost use Rattle.gu_text.specs.Lines.{is_silent};
 
 use memchr::memchr;
 
-/// The bytes that a line has at most.
+/// The most bytes in a line.
 pub(crate) const LONGEST_LINE: usize = 1_024;
 
-/// The line without the CR at its end.
+/// Returns the line without a CR at its end.
 pub fn without_return(line: &[u8]) -> &[u8]
     ensures { result.now ≡ strip_carriage_return line.now }
 {
@@ -20,14 +20,14 @@ pub fn without_return(line: &[u8]) -> &[u8]
     }
 }
 
-/// The place of the first LF.
+/// Returns the position of the first LF.
 pub(crate) fn end_of_line(text: &[u8]) -> Option<usize>
     ensures { result ≡ position (λ b. b == 10) text.now }
 {
     memchr(b'\n', text)
 }
 
-/// Whether a line says nothing: it is empty, or a comment.
+/// Returns whether a line says nothing: it is empty or a comment.
 pub(crate) fn is_silent(line: &[u8]) -> bool
     ensures { result ≡ is_silent line.now }
 {

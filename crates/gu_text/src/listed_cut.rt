@@ -1,4 +1,4 @@
-//! The cut that the lines of a sheet list.
+//! The cut listed by the lines of a sheet.
 
 ghost use Rattle.std.specs.Prelude.{◌≡◌, ◌++◌, ◌∷◌, [], not, IfOk, if◌then◌else◌};
 ghost use Rattle.gu_terms.specs.Cuts.{has_number};
@@ -27,7 +27,7 @@ impl Model for ListedCut {
     ghost view = { λ c. record { keys = c.keys.keys; offers = c.offers } };
 }
 
-/// The keys of a set, in order.
+/// Returns the keys of a set, in order.
 fn keys_in(alloc: Global, set: &IndexSet<ListedKey, Seed>) -> Result<Vec<LimitKey>, AllocError>
     ensures { IfOk result (λ keys. keys.items ≡ set.now.keys) }
 {
@@ -39,7 +39,7 @@ fn keys_in(alloc: Global, set: &IndexSet<ListedKey, Seed>) -> Result<Vec<LimitKe
 }
 
 impl ListedCut {
-    /// An empty cut. The seed is for the table of its keys.
+    /// Returns an empty cut. The seed is for the hashes of its keys.
     pub(crate) fn new(alloc: Global, seed: Seed) -> Self
         ensures { result ≡ record { keys = []; offers = [] } }
     {
@@ -50,7 +50,7 @@ impl ListedCut {
         }
     }
 
-    /// Adds a key, and answers whether it was new.
+    /// Adds a key, and returns whether it was new.
     pub(crate) fn add_key(&mut self, key: LimitKey) -> Result<bool, AllocError>
         ensures new { IfOk result (λ new. new ≡ not (has_key self.old.keys key)) }
         ensures keys { IfOk result (λ new. self.new.keys ≡ (if new then self.old.keys ++ key ∷ [] else self.old.keys)) }
@@ -60,7 +60,7 @@ impl ListedCut {
         Ok(new)
     }
 
-    /// Adds an offer, and answers whether it was new.
+    /// Adds an offer, and returns whether it was new.
     pub(crate) fn add_offer(&mut self, offer: OfferNo) -> Result<bool, AllocError>
         ensures new { IfOk result (λ new. new ≡ not (has_number self.old.offers offer)) }
         ensures offers { IfOk result (λ new. self.new.offers ≡ (if new then self.old.offers ++ offer ∷ [] else self.old.offers)) }
@@ -69,7 +69,7 @@ impl ListedCut {
         self.offers.add(offer)
     }
 
-    /// The cut. Its tables are made once what was used for the reading is gone.
+    /// Returns the cut. Its tables are made after those used for reading are freed.
     pub(crate) fn into_cut(self, alloc: Global) -> Result<Cut, AllocError>
         ensures { IfOk result (λ cut. cut ≡ self) }
     {

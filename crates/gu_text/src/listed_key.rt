@@ -1,4 +1,4 @@
-//! Keys by which the cut of a sheet is looked up while it is read.
+//! Keys for looking up a sheet's cut while it is read.
 
 ghost use Rattle.std.specs.Prelude.{◌≡◌};
 ghost use Rattle.std.specs.Cmp.{partial_equiv_from_equiv};
@@ -11,8 +11,8 @@ use gu_terms::LimitKey;
 use std::hash::{Hash, Hasher};
 use std::marker::Model;
 
-/// A key, with one hash for all keys of its kind whose names differ from its own in the last byte alone, 37 at most. So names that are
-/// numbered are looked up next to one another, and a table that is larger than the processor's caches is seldom waited for.
+/// A key with one hash for all keys of its kind, at most 37, whose names differ from its own only in the last byte. So consecutively
+/// numbered names are looked up next to each other, and a table larger than the processor's caches rarely stalls.
 #[derive(Clone, Copy)]
 pub(crate) struct ListedKey {
     pub(crate) key: LimitKey,
@@ -42,7 +42,7 @@ impl Eq for ListedKey {
     ghost laws = { keys.laws-law };
 }
 
-/// A text without its last byte.
+/// Returns a text without its last byte.
 fn all_but_last(text: &[u8]) -> &[u8]
     ensures { result.now ≡ all_but_last text.now }
 {

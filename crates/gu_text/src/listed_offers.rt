@@ -1,4 +1,4 @@
-//! The offers that the lines of a sheet put into its cut.
+//! The offers that the lines of a sheet list in its cut.
 
 ghost use Rattle.std.specs.Prelude.{◌≡◌, ◌++◌, ◌∷◌, [], not, nat_eq, IfOk, if◌then◌else◌};
 ghost use Rattle.std.specs.List.{IsDistinct};
@@ -9,11 +9,11 @@ use gu_terms::OfferNo;
 use std::alloc::{AllocError, Global};
 use std::marker::Model;
 
-/// Offers in the order of their lines, each once. To a contract it is the list of them.
+/// Offers in the order of their lines, each once. To a contract it is their list.
 #[derive(Drop)]
 pub(crate) struct ListedOffers {
     list: Vec<OfferNo>,
-    /// The offers of the list: a table of them would need four times what the list needs.
+    /// The offers in the list: a hash table would need four times the memory of the list.
     marks: OfferSet,
 }
 
@@ -30,7 +30,7 @@ impl Model for ListedOffers {
 
 impl ListedOffers {
     #[tactic(auto, using(crate::proofs::OfferSetLemmas::marks_none))]
-    /// No offers.
+    /// Returns no offers.
     pub(crate) fn new(alloc: Global) -> Self
         ensures { result ≡ [] }
     {
@@ -40,7 +40,7 @@ impl ListedOffers {
         }
     }
 
-    /// Adds an offer, and answers whether it was new.
+    /// Adds an offer, and returns whether it was new.
     pub(crate) fn add(&mut self, offer: OfferNo) -> Result<bool, AllocError>
         ensures new { IfOk result (λ new. new ≡ not (has_number self.old offer)) }
         ensures added { IfOk result (λ new. self.new ≡ (if new then self.old ++ offer ∷ [] else self.old)) }
@@ -54,7 +54,7 @@ impl ListedOffers {
         Ok(true)
     }
 
-    /// The offers, without their marks.
+    /// Returns the offers without their marks.
     pub(crate) fn into_list(self) -> Vec<OfferNo>
         ensures offers { result.items ≡ self }
         ensures apart { IsDistinct nat_eq self }

@@ -1,4 +1,4 @@
-//! The takes that the lines of a sheet list.
+//! The takes listed by the lines of a sheet.
 
 ghost use Rattle.std.specs.Prelude.{◌≡◌, ◌++◌, ◌∷◌, [], not, map, nat_eq, IfOk, if◌then◌else◌};
 ghost use Rattle.std.specs.List.{IsDistinct};
@@ -9,11 +9,11 @@ use gu_terms::Take;
 use std::alloc::{AllocError, Global};
 use std::marker::Model;
 
-/// Takes in the order of their lines, each of another offer. To a contract it is the list of them.
+/// Takes in the order of their lines, each from a different offer. To a contract it is their list.
 #[derive(Drop)]
 pub(crate) struct ListedTakes {
     list: Vec<Take>,
-    /// The offers of the takes: a table of them would need three times what the takes need.
+    /// The offers of the takes: a hash table would need three times the memory of the takes.
     offers: OfferSet,
 }
 
@@ -31,7 +31,7 @@ impl Model for ListedTakes {
 
 impl ListedTakes {
     #[tactic(auto, using(crate::proofs::OfferSetLemmas::marks_none))]
-    /// No takes.
+    /// Returns no takes.
     pub(crate) fn new(alloc: Global) -> Self
         ensures { result ≡ [] }
     {
@@ -41,7 +41,7 @@ impl ListedTakes {
         }
     }
 
-    /// Adds a take, and answers whether its offer was new.
+    /// Adds a take, and returns whether its offer was new.
     pub(crate) fn add(&mut self, take: Take) -> Result<bool, AllocError>
         ensures new { IfOk result (λ new. new ≡ not (has_number (map (λ t. t.offer) self.old) take.offer)) }
         ensures added { IfOk result (λ new. self.new ≡ (if new then self.old ++ take ∷ [] else self.old)) }
@@ -56,7 +56,7 @@ impl ListedTakes {
         Ok(true)
     }
 
-    /// The takes, without the table of their offers.
+    /// Returns the takes without the set of their offers.
     pub(crate) fn into_list(self) -> Vec<Take>
         ensures takes { result.items ≡ self }
         ensures apart { IsDistinct nat_eq (map (λ t. t.offer) self) }

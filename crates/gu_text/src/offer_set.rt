@@ -7,7 +7,7 @@ use gu_terms::OfferNo;
 use std::alloc::{AllocError, Global};
 use std::marker::Model;
 
-/// Offers, a bit for each number up to the greatest of them. To a contract it is the words of these bits.
+/// A set of offers, one bit for each number up to the highest. To a contract it is the words of these bits.
 #[derive(Drop)]
 pub(crate) struct OfferSet {
     words: Vec<u64>,
@@ -22,7 +22,7 @@ impl Model for OfferSet {
 }
 
 impl OfferSet {
-    /// No offers.
+    /// Returns an empty set.
     pub(crate) fn new(alloc: Global) -> Self
         ensures { (offer : ℕ) → is_marked result offer ≡ false }
     {
@@ -31,7 +31,7 @@ impl OfferSet {
         }
     }
 
-    /// Whether an offer is among these.
+    /// Returns whether an offer is in the set.
     pub(crate) fn has(&self, offer: OfferNo) -> bool
         ensures { result ≡ is_marked self.now offer }
     {
@@ -54,7 +54,7 @@ impl OfferSet {
         Ok(())
     }
 
-    /// Adds an offer that there is room for.
+    /// Adds an offer for which there is room.
     pub(crate) fn add(&mut self, offer: OfferNo)
         requires { offer / 64 < length self.old }
         ensures { (other : ℕ) → is_marked self.new other ≡ (other == offer || is_marked self.old other) }

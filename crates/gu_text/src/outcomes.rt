@@ -14,7 +14,7 @@ use gu_view::View;
 use gu_world::Outcome;
 use std::alloc::{AllocError, Global};
 
-/// Appends a sweep that was entered with this number, and its sheet, where the view before it is known.
+/// Appends a sweep that was entered with this number, and its sheet if the view before it is known.
 fn append_sweep(
     output: &mut Vec<u8>,
     before: Option<&View>,
@@ -33,7 +33,7 @@ fn append_sweep(
     }
 }
 
-/// Appends what was entered with this number.
+/// Appends the text of the entry with this number.
 fn append_entry(
     output: &mut Vec<u8>,
     before: Option<&View>,
@@ -48,7 +48,7 @@ fn append_entry(
     }
 }
 
-/// Appends what a worker saw: the group that it looked at, and the group's version.
+/// Appends a worker's look: the group that it looked at, and the group's version.
 fn append_seen(output: &mut Vec<u8>, looked: Option<Group>, version: u64) -> Result<(), AllocError>
     ensures { OnOk result (output.new.items
         ≡ output.old.items ++ line_of (codes "SEEN" ∷ group_words looked ++ decimal version ∷ [])) }
@@ -63,8 +63,7 @@ fn append_seen(output: &mut Vec<u8>, looked: Option<Group>, version: u64) -> Res
     }
 }
 
-/// Appends the outcome of a step: of a look with the group that was looked at, of a sweep with its sheet, where the view is
-/// known that the group had just before.
+/// Appends the outcome of a step: for a look with the group, and for a sweep with its sheet if the group's view just before it is known.
 pub fn append_outcome(
     output: &mut Vec<u8>,
     before: Option<&View>,
@@ -98,7 +97,7 @@ pub fn append_outcome(
     }
 }
 
-/// The outcome of a step.
+/// Returns the text of a step's outcome.
 pub fn outcome_text(
     alloc: Global,
     before: Option<&View>,

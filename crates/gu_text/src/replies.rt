@@ -13,7 +13,7 @@ use gu_terms::{Done, LimitKey, Lots, OfferNo, Refusal, Reply};
 use itoa::Buffer;
 use std::alloc::{AllocError, Global};
 
-/// The word for a key's kind.
+/// Returns the word for a key's kind.
 #[inline(always)]
 pub(crate) fn kind_word(key: &LimitKey) -> &'static [u8]
     ensures word { result.now ≡ kind_of key.now }
@@ -22,7 +22,7 @@ pub(crate) fn kind_word(key: &LimitKey) -> &'static [u8]
     key.kind().as_bytes()
 }
 
-/// Puts a key, which ends the line, onto room that is there.
+/// Appends a key, which ends the line. There is room for it.
 pub(crate) fn put_key(output: &mut Vec<u8>, key: &LimitKey)
     requires { vec_len output.old + 42 ≤ vec_capacity output.old }
     ensures { output.new.items ≡ output.old.items ++ line_of (key_words key.now) }
@@ -40,7 +40,7 @@ pub(crate) fn append_key(output: &mut Vec<u8>, key: LimitKey) -> Result<(), Allo
     Ok(())
 }
 
-/// Puts the number of the last of so many offers, which ends the line, onto room that is there.
+/// Appends the number of the last of `count` offers, which ends the line. There is room for it.
 fn put_last_offer(output: &mut Vec<u8>, first: OfferNo, count: u8)
     requires { vec_len output.old + 42 ≤ vec_capacity output.old }
     ensures { output.new.items ≡ output.old.items ++ last_word (decimal (first + count - 1)) }
@@ -48,7 +48,7 @@ fn put_last_offer(output: &mut Vec<u8>, first: OfferNo, count: u8)
     put_last_number(output, first.get() + u64::from(count) - 1);
 }
 
-/// Puts lots, which end the line, onto room that is there.
+/// Appends lots, which end the line. There is room for them.
 fn put_lots(output: &mut Vec<u8>, lots: Lots)
     requires { vec_len output.old + 63 ≤ vec_capacity output.old }
     ensures { output.new.items ≡ output.old.items ++ line_of (codes "OK" ∷ codes "LOTS" ∷ decimal lots ∷ []) }
@@ -57,7 +57,7 @@ fn put_lots(output: &mut Vec<u8>, lots: Lots)
     put_last_number(output, lots.get());
 }
 
-/// Puts what an accepted command did, which ends the line, onto room that is there.
+/// Appends the effect of an accepted command, which ends the line. There is room for it.
 fn put_done(output: &mut Vec<u8>, done: Done)
     requires { vec_len output.old + 105 ≤ vec_capacity output.old }
     ensures { output.new.items ≡ output.old.items ++ line_of (codes "OK" ∷ done_words done) }
@@ -81,7 +81,7 @@ fn put_done(output: &mut Vec<u8>, done: Done)
     }
 }
 
-/// Puts why a command was refused, which ends the line, onto room that is there.
+/// Appends the reason that a command was refused, which ends the line. There is room for it.
 fn put_refusal(output: &mut Vec<u8>, refusal: Refusal)
     requires { vec_len output.old + 105 ≤ vec_capacity output.old }
     ensures { output.new.items ≡ output.old.items ++ line_of (codes "NO" ∷ refusal_words refusal) }
@@ -99,7 +99,7 @@ fn put_refusal(output: &mut Vec<u8>, refusal: Refusal)
 }
 
 #[tactic(auto, using(crate::proofs::JoinedWords::reply_line))]
-/// Appends the reply to the command of an entry with this number.
+/// Appends the reply to the command in the entry with this number.
 pub fn append_reply(output: &mut Vec<u8>, number: u64, reply: &Reply) -> Result<(), AllocError>
     ensures text { OnOk result (output.new.items ≡ output.old.items ++ reply_text number reply.now) }
 {
@@ -112,7 +112,7 @@ pub fn append_reply(output: &mut Vec<u8>, number: u64, reply: &Reply) -> Result<
     Ok(())
 }
 
-/// The reply to the command of an entry with this number.
+/// Returns the text of the reply to the command in the entry with this number.
 pub fn reply_text(alloc: Global, number: u64, reply: &Reply) -> Result<Vec<u8>, AllocError>
     ensures text { IfOk result (λ text. text.items ≡ reply_text number reply.now) }
 {

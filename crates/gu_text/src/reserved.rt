@@ -1,4 +1,4 @@
-//! Words and numbers onto room that is there.
+//! Appending words and numbers for which there is room.
 
 ghost use Rattle.std.specs.Prelude.{◌≡◌, ◌+◌, ◌≤◌, ◌++◌, ◌∷◌, [], length, vec_capacity, vec_len};
 ghost use Rattle.std.specs.Fmt.{decimal};
@@ -6,10 +6,10 @@ ghost use Rattle.gu_text.specs.Texts.{word, last_word};
 
 use itoa::Buffer;
 
-/// The room that a line is given: eight words of at most 20 bytes, each with the byte that ends it.
+/// The room reserved for a line: eight words of at most 20 bytes, each with the byte that ends it.
 pub(crate) const LINE_ROOM: usize = 168;
 
-/// Puts bytes after a text.
+/// Appends bytes to a text.
 #[inline(always)]
 pub(crate) fn put(output: &mut Vec<u8>, bytes: &[u8])
     requires { vec_len output.old + length bytes.now ≤ vec_capacity output.old }
@@ -22,7 +22,7 @@ pub(crate) fn put(output: &mut Vec<u8>, bytes: &[u8])
     };
 }
 
-/// Puts a word and the byte that ends it after a text.
+/// Appends a word and the byte that ends it to a text.
 #[inline(always)]
 pub(crate) fn put_ended(output: &mut Vec<u8>, bytes: &[u8], end: u8)
     requires { vec_len output.old + length bytes.now + 1 ≤ vec_capacity output.old }
@@ -34,7 +34,7 @@ pub(crate) fn put_ended(output: &mut Vec<u8>, bytes: &[u8], end: u8)
     output.push_reserved(end);
 }
 
-/// Puts a word and a blank after a text.
+/// Appends a word and a space to a text.
 #[inline(always)]
 pub(crate) fn put_word(output: &mut Vec<u8>, bytes: &[u8])
     requires short { length bytes.now ≤ 20 }
@@ -46,7 +46,7 @@ pub(crate) fn put_word(output: &mut Vec<u8>, bytes: &[u8])
     put_ended(output, bytes, b' ');
 }
 
-/// Puts a word and the end of the line after a text.
+/// Appends a word and the end of the line to a text.
 #[inline(always)]
 pub(crate) fn put_last_word(output: &mut Vec<u8>, bytes: &[u8])
     requires short { length bytes.now ≤ 20 }
@@ -58,7 +58,7 @@ pub(crate) fn put_last_word(output: &mut Vec<u8>, bytes: &[u8])
     put_ended(output, bytes, b'\n');
 }
 
-/// Puts a number and a blank after a text.
+/// Appends a number and a space to a text.
 #[inline(always)]
 pub(crate) fn put_number(output: &mut Vec<u8>, number: u64)
     requires { vec_len output.old + 21 ≤ vec_capacity output.old }
@@ -70,7 +70,7 @@ pub(crate) fn put_number(output: &mut Vec<u8>, number: u64)
     put_word(output, digits.format(number).as_bytes());
 }
 
-/// Puts a number and the end of the line after a text.
+/// Appends a number and the end of the line to a text.
 #[inline(always)]
 pub(crate) fn put_last_number(output: &mut Vec<u8>, number: u64)
     requires { vec_len output.old + 21 ≤ vec_capacity output.old }

@@ -9,7 +9,7 @@ use crate::texts::append_last_word;
 use gu_terms::{AccountId, Group, LimitRow, Symbol};
 use std::alloc::{AllocError, Global};
 
-/// Appends what an account holds of an instrument.
+/// Appends an account's position in an instrument.
 pub fn append_position(
     output: &mut Vec<u8>,
     account: &AccountId,
@@ -28,7 +28,7 @@ pub fn append_position(
     Ok(())
 }
 
-/// What an account holds of an instrument, as a line.
+/// Returns an account's position in an instrument, as a line.
 pub fn position_text(
     alloc: Global,
     account: &AccountId,
@@ -54,7 +54,7 @@ pub fn append_interest(output: &mut Vec<u8>, symbol: &Symbol, lots: u64) -> Resu
     Ok(())
 }
 
-/// The open interest of an instrument, as a line.
+/// Returns the open interest of an instrument, as a line.
 pub fn interest_text(alloc: Global, symbol: &Symbol, lots: u64) -> Result<Vec<u8>, AllocError>
     ensures text { IfOk result (λ text. text.items ≡ interest_text symbol.now lots) }
 {
@@ -78,7 +78,7 @@ pub fn append_limit(output: &mut Vec<u8>, group: &Group, row: &LimitRow) -> Resu
     Ok(())
 }
 
-/// A limit in a group, with its use and its room, as a line.
+/// Returns a limit in a group, with its use and its room, as a line.
 pub fn limit_text(alloc: Global, group: &Group, row: &LimitRow) -> Result<Vec<u8>, AllocError>
     ensures text { IfOk result (λ text. text.items ≡ limit_text group.now row.now) }
 {
@@ -87,7 +87,7 @@ pub fn limit_text(alloc: Global, group: &Group, row: &LimitRow) -> Result<Vec<u8
     Ok(output)
 }
 
-/// Appends what answers a question for a name that the reference lacks.
+/// Appends the answer to a question about a name that the reference lacks.
 pub fn append_unknown(output: &mut Vec<u8>) -> Result<(), AllocError>
     ensures text { OnOk result (output.new.items ≡ output.old.items ++ unknown_text) }
 {

@@ -1,4 +1,4 @@
-//! The forms of a script's lines.
+//! The forms of script lines.
 
 ghost use Rattle.std.specs.Prelude.{◌≡◌, ◌≢◌, ◌<◌, length, IfOk, IfSome, MatchOption};
 ghost use Rattle.gu_text.specs.ScriptForms.{form_word, ReadsLines, ReadsOver, WritesLine, WritesNoLine};
@@ -19,7 +19,7 @@ use gu_terms::{
 use gu_world::Step;
 use std::alloc::{AllocError, Global};
 
-/// What was read, or the end of the reading where nothing was. (`ok_or` and `?` would move it twice.)
+/// Gives what was read, or returns early with the end of the reading if nothing was. (`ok_or` and `?` would move it twice.)
 macro_rules! told {
     ($read:expr, $number:expr) => {
         match $read {
@@ -29,7 +29,7 @@ macro_rules! told {
     };
 }
 
-/// The forms of a script's lines, each with a word of its own in front.
+/// The forms of script lines. Each form has its own first word.
 #[derive(Clone, Copy)]
 pub(crate) enum Form {
     Day,
@@ -49,7 +49,7 @@ pub(crate) enum Form {
 }
 
 impl Form {
-    /// The form with this word in front.
+    /// Returns the form with this first word.
     #[inline(always)]
     pub(crate) fn begun(word: &[u8]) -> Option<Form>
         ensures { MatchOption result ((form : FormOf) → word.now ≢ form_word form) (λ form. word.now ≡ form_word form) }
@@ -74,7 +74,7 @@ impl Form {
     }
 }
 
-/// The day that is opened.
+/// Reads an opening: the day.
 #[inline(never)]
 pub(crate) fn day_said(said: &mut Option<Line>, words: &[u8], number: u64) -> Result<(), TextError>
     ensures { ReadsOver Form.Day (words_of words.now) number result said.old said.new }
@@ -85,7 +85,7 @@ pub(crate) fn day_said(said: &mut Option<Line>, words: &[u8], number: u64) -> Re
     Ok(())
 }
 
-/// A limit: its group, its key and its lots.
+/// Reads a limit: its group, its key and its lots.
 #[inline(never)]
 pub(crate) fn limit_said(
     said: &mut Option<Line>,
@@ -107,7 +107,7 @@ pub(crate) fn limit_said(
     Ok(())
 }
 
-/// A firm's side of a trade, of the open day.
+/// Reads a firm's side of a trade, for the open day.
 #[inline(never)]
 pub(crate) fn report_said(
     said: &mut Option<Line>,
@@ -141,7 +141,7 @@ pub(crate) fn report_said(
     Ok(())
 }
 
-/// The first two words as a line of a give-up, and the words after them.
+/// Returns the first two words as a line of a give-up, and the words that remain.
 fn pair_said(words: &[u8]) -> Option<(GiveUpLine, &[u8])>
     ensures line { MatchOption result (WritesNoLine (words_of words.now))
         (λ pair. WritesLine (words_of words.now) pair.0 (words_of pair.1.now)) }
@@ -155,7 +155,7 @@ fn pair_said(words: &[u8]) -> Option<(GiveUpLine, &[u8])>
     Some((GiveUpLine { account, lots }, rest))
 }
 
-/// The lines of a give-up.
+/// Returns the lines of a give-up.
 fn lines_said(alloc: Global, words: &[u8]) -> Result<Option<Lines>, AllocError>
     ensures { IfOk result (ReadsLines (words_of words.now)) }
 {
@@ -171,7 +171,7 @@ fn lines_said(alloc: Global, words: &[u8]) -> Result<Option<Lines>, AllocError>
     Ok(Lines::new(lines))
 }
 
-/// A give-up: the firm, its ids of the give-up and of the report, and accounts with lots.
+/// Reads a give-up: the firm, its ids for the give-up and the report, and accounts with lots.
 #[inline(never)]
 pub(crate) fn give_up_said(
     alloc: Global,
@@ -195,7 +195,7 @@ pub(crate) fn give_up_said(
     Ok(())
 }
 
-/// A claim: the firm, and the number of the offer.
+/// Reads a claim: the firm, and the number of the offer.
 #[inline(never)]
 pub(crate) fn claim_said(
     said: &mut Option<Line>,
@@ -214,7 +214,7 @@ pub(crate) fn claim_said(
     Ok(())
 }
 
-/// A refusal: the firm, the number of the offer, and why.
+/// Reads a refusal: the firm, the number of the offer, and the reason.
 #[inline(never)]
 pub(crate) fn refuse_said(
     said: &mut Option<Line>,
@@ -235,7 +235,7 @@ pub(crate) fn refuse_said(
     Ok(())
 }
 
-/// A reversal: the firm, and the number of the offer.
+/// Reads a reversal: the firm, and the number of the offer.
 #[inline(never)]
 pub(crate) fn reverse_said(
     said: &mut Option<Line>,
@@ -254,7 +254,7 @@ pub(crate) fn reverse_said(
     Ok(())
 }
 
-/// A look: the worker, and the group.
+/// Reads a look: the worker, and the group.
 #[inline(never)]
 pub(crate) fn see_said(said: &mut Option<Line>, words: &[u8], number: u64) -> Result<(), TextError>
     ensures { ReadsOver Form.See (words_of words.now) number result said.old said.new }
@@ -266,7 +266,7 @@ pub(crate) fn see_said(said: &mut Option<Line>, words: &[u8], number: u64) -> Re
     Ok(())
 }
 
-/// A proposal: the worker.
+/// Reads a proposal: the worker.
 #[inline(never)]
 pub(crate) fn propose_said(
     said: &mut Option<Line>,
@@ -281,7 +281,7 @@ pub(crate) fn propose_said(
     Ok(())
 }
 
-/// A commit: the worker.
+/// Reads a commit: the worker.
 #[inline(never)]
 pub(crate) fn commit_said(
     said: &mut Option<Line>,
@@ -296,7 +296,7 @@ pub(crate) fn commit_said(
     Ok(())
 }
 
-/// A whole sweep: the group.
+/// Reads a whole sweep: the group.
 #[inline(never)]
 pub(crate) fn sweep_said(
     said: &mut Option<Line>,
@@ -311,7 +311,7 @@ pub(crate) fn sweep_said(
     Ok(())
 }
 
-/// A question for a position: the account, and the instrument.
+/// Reads a question for a position: the account, and the instrument.
 #[inline(never)]
 pub(crate) fn position_said(
     said: &mut Option<Line>,
@@ -327,7 +327,7 @@ pub(crate) fn position_said(
     Ok(())
 }
 
-/// A question for the open interest: the instrument.
+/// Reads a question for the open interest: the instrument.
 #[inline(never)]
 pub(crate) fn interest_said(
     said: &mut Option<Line>,
@@ -342,7 +342,7 @@ pub(crate) fn interest_said(
     Ok(())
 }
 
-/// A question for limits: the group.
+/// Reads a question for limits: the group.
 #[inline(never)]
 pub(crate) fn limits_said(
     said: &mut Option<Line>,

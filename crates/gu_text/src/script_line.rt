@@ -1,4 +1,4 @@
-//! What a line of a script says.
+//! The content of a script line.
 
 ghost use Rattle.std.specs.Prelude.{◌≡◌, ℕ, false, IfOk, IsErrOf, IsTrue, MatchOption, OnErr, OnOk};
 ghost use Rattle.gu_text.specs.Lines.{is_silent};
@@ -17,23 +17,23 @@ use gu_terms::{AccountId, Group, Symbol};
 use gu_world::Step;
 use std::alloc::Global;
 
-/// What a line of a script says.
+/// The content of a script line.
 #[derive(Debug, Drop)]
 pub enum Line {
-    /// A step: a command, or what a worker from 0 to 62 does.
+    /// A step: a command, or a step of a worker from 0 to 62.
     Step(Step),
     /// A whole sweep of a group: a look, a proposal and its commit.
     Sweep(Group),
-    /// What does this account hold of this instrument?
+    /// A question: what does this account hold in this instrument?
     Position(AccountId, Symbol),
-    /// What is the open interest of this instrument?
+    /// A question: what is the open interest of this instrument?
     Interest(Symbol),
-    /// What limits are set in this group?
+    /// A question: what limits are set in this group?
     Limits(Group),
 }
 
 #[tactic(auto, using(crate::proofs::ScriptLemmas::is_begun))]
-/// The form of a line that isn't silent, and the words after the word of the form.
+/// Returns the form of a line that isn't silent, and the words after its first word.
 #[inline(always)]
 fn begun(line: &[u8]) -> Option<(Form, &[u8])>
     requires { is_silent line.now ≡ false }
@@ -48,8 +48,8 @@ fn begun(line: &[u8]) -> Option<(Form, &[u8])>
 }
 
 impl Line {
-    /// Reads what the line with this number says, nothing where it is silent, over what was said before. A result would be moved by each
-    /// call that returns it. After an error it is as it was.
+    /// Reads the line with this number over the content read before; a silent line has none. A returned value would be moved by each call
+    /// that returns it. After an error the content is unchanged.
     #[inline(always)]
     pub fn read_over(
         alloc: Global,
@@ -86,7 +86,7 @@ impl Line {
         }
     }
 
-    /// What the line with this number says: nothing where it is silent.
+    /// Returns the content of the line with this number, or None if the line is silent.
     pub fn read(alloc: Global, line: &[u8], number: u64) -> Result<Option<Line>, TextError>
         ensures said { IfOk result (λ said. MatchOption said (IsTrue (is_silent line.now)) (Says line.now)) }
         ensures bad { (n : ℕ) → IsErrOf result (TextError.BadLine n) → (n ≡ number) × IsBad line.now }

@@ -16,7 +16,7 @@ pub struct Sheet {
     pub cut: Cut,
 }
 
-// By hand, so that who holds a sheet lets it go by one call.
+// By hand, so that a sheet's owner drops it with one call.
 impl Drop for Sheet {
     fn drop(self) {
         let Sheet { view, takes, cut } = self;
@@ -27,7 +27,7 @@ impl Drop for Sheet {
 }
 
 impl Sheet {
-    /// The sheet that a text is.
+    /// Returns the sheet in a text.
     pub fn read(alloc: Global, text: &[u8]) -> Result<Sheet, TextError>
         ensures sheet { IfOk result (IsSheet text.now) }
         ensures refused { IfErr result (Refuses text.now) }

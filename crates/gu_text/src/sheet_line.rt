@@ -1,4 +1,4 @@
-//! What a line of a sheet says.
+//! The content of a sheet line.
 
 ghost use Rattle.std.specs.Prelude.{◌≡◌};
 ghost use Rattle.std.specs.Option.{option_map};
@@ -31,7 +31,7 @@ pub(crate) struct Header {
     pub(crate) version: u64,
 }
 
-/// What a line of a sheet says.
+/// The content of a sheet line.
 #[derive(Clone, Copy)]
 pub(crate) enum SheetLine {
     Sheet(Header),
@@ -57,7 +57,7 @@ pub(crate) enum Part {
 }
 
 impl Part {
-    /// Its place among the parts.
+    /// Returns its place among the parts.
     pub(crate) fn rank(self) -> u8
         ensures { result ≡ rank_of self }
     {
@@ -73,7 +73,7 @@ impl Part {
 }
 
 impl SheetLine {
-    /// The part that the line belongs to.
+    /// Returns the part that the line belongs to.
     pub(crate) fn part(self) -> Part
         ensures { result ≡ part_of self }
     {
@@ -88,7 +88,7 @@ impl SheetLine {
     }
 }
 
-/// The group and its version.
+/// Returns the head: the group and its version.
 fn sheet_said(words: &[u8]) -> Option<SheetLine>
     ensures { result ≡ sheet_said (words_of words.now) }
 {
@@ -99,7 +99,7 @@ fn sheet_said(words: &[u8]) -> Option<SheetLine>
     Some(SheetLine::Sheet(Header { group, version }))
 }
 
-/// The guarantor of an offer's carrying firm: none, where no word is left.
+/// Returns the guarantor of an offer's carrying firm, or Some(None) if no word is left.
 fn guarantor_said(words: &[u8]) -> Option<Option<FirmId>>
     ensures { result ≡ guarantor_said (words_of words.now) }
 {
@@ -113,7 +113,7 @@ fn guarantor_said(words: &[u8]) -> Option<Option<FirmId>>
     }
 }
 
-/// The path of an offer of an agreement.
+/// Returns the path of an offer under an agreement.
 fn path_said(agreement: Name, words: &[u8]) -> Option<Path>
     ensures { result ≡ path_said agreement (words_of words.now) }
 {
@@ -131,7 +131,7 @@ fn path_said(agreement: Name, words: &[u8]) -> Option<Path>
     ))
 }
 
-/// An offer: its number, its lots, its agreement and its path.
+/// Returns an offer: its number, its lots, its agreement and its path.
 fn offer_said(words: &[u8]) -> Option<SheetLine>
     ensures { result ≡ offer_said (words_of words.now) }
 {
@@ -149,7 +149,7 @@ fn offer_said(words: &[u8]) -> Option<SheetLine>
     }))
 }
 
-/// The room of a key.
+/// Returns the room of a key.
 fn room_said(words: &[u8]) -> Option<SheetLine>
     ensures { result ≡ room_said (words_of words.now) }
 {
@@ -159,7 +159,7 @@ fn room_said(words: &[u8]) -> Option<SheetLine>
     Some(SheetLine::Room(Room { key, lots }))
 }
 
-/// The lots that are taken of an offer.
+/// Returns the lots taken from an offer.
 fn take_said(words: &[u8]) -> Option<SheetLine>
     ensures { result ≡ take_said (words_of words.now) }
 {
@@ -169,7 +169,7 @@ fn take_said(words: &[u8]) -> Option<SheetLine>
     Some(SheetLine::Take(Take { offer, lots }))
 }
 
-/// A key or an offer of the cut.
+/// Returns a key or an offer of the cut.
 fn cut_said(words: &[u8]) -> Option<SheetLine>
     ensures { result ≡ cut_said (words_of words.now) }
 {
@@ -182,7 +182,7 @@ fn cut_said(words: &[u8]) -> Option<SheetLine>
     Some(SheetLine::CutKey(key))
 }
 
-/// The end, where no word comes after it.
+/// Returns the end, if no word follows it.
 fn end_said(words: &[u8]) -> Option<SheetLine>
     ensures { result ≡ end_said (words_of words.now) }
 {
@@ -192,7 +192,7 @@ fn end_said(words: &[u8]) -> Option<SheetLine>
     }
 }
 
-/// What the first word of a line and the words after it say.
+/// Returns the content of a line with this first word and these words after it.
 fn words_say(kind: &[u8], words: &[u8]) -> Option<SheetLine>
     ensures { result ≡ words_say kind.now (words_of words.now) }
 {
@@ -217,7 +217,7 @@ fn words_say(kind: &[u8], words: &[u8]) -> Option<SheetLine>
     None
 }
 
-/// What a line of words says.
+/// Returns the content of a line of words.
 pub(crate) fn spoken(line: &[u8]) -> Option<SheetLine>
     ensures { result ≡ spoken line.now }
 {

@@ -1,4 +1,4 @@
-//! The parts of a sheet, as far as its lines have come.
+//! The parts of a sheet, from the lines so far.
 
 ghost use Rattle.std.specs.Prelude.{◌≡◌, not, IfOk, IfErr, OnOk, IsSome, IsTrue};
 ghost use Rattle.gu_text.specs.Sheets.{comes_after, is_repeated, fits_after};
@@ -16,13 +16,13 @@ use gu_view::{Room, View, ViewError, ViewOffer};
 use std::alloc::{AllocError, Global};
 use std::marker::Model;
 
-/// The offers that are kept: one more than a view may have, so that it is refused.
+/// The most offers stored: one more than a view may have, so that the view is refused.
 const MOST_KEPT_OFFERS: usize = MOST_OPEN_OFFERS + 1;
 
-/// The rooms that are kept, likewise: an offer has five keys at most, and each key one room.
+/// The most rooms stored, likewise: an offer has at most five keys, and each key one room.
 const MOST_KEPT_ROOMS: usize = 5 * MOST_OPEN_OFFERS + 1;
 
-/// What the lines so far give: of the offers and the rooms as many as are kept. To a contract it is that.
+/// The content of the lines so far, with the offers and rooms that are stored. To a contract it is that content.
 pub(crate) struct Parts {
     last: Option<Part>,
     header: Option<Header>,
@@ -50,7 +50,7 @@ impl Model for Parts {
     ghost invariant = { λ p. IsSome p.last → IsSome p.header };
 }
 
-// By hand, so that who holds parts lets them go by one call.
+// By hand, so that their owner drops them with one call.
 impl Drop for Parts {
     fn drop(self) {
         let Parts {
@@ -68,7 +68,7 @@ impl Drop for Parts {
     }
 }
 
-/// Whether a line of a part may come after one of the last part.
+/// Returns whether a line of a part may follow one of the last part.
 fn comes_after(last: Option<Part>, next: Part) -> bool
     ensures { result ≡ comes_after last next }
 {
@@ -79,7 +79,7 @@ fn comes_after(last: Option<Part>, next: Part) -> bool
 }
 
 impl Parts {
-    /// The parts of no lines. The seed is for the tables of what they name.
+    /// Returns the parts of no lines. The seed is for the hashes of what they name.
     pub(crate) fn new(alloc: Global, seed: Seed) -> Self
         ensures { result ≡ no_parts }
     {
@@ -93,7 +93,7 @@ impl Parts {
         }
     }
 
-    /// Adds what a line gives, and answers whether it repeats none.
+    /// Adds the content of a line, and returns whether it is new.
     fn put(&mut self, line: SheetLine) -> Result<bool, AllocError>
         ensures new { IfOk result (λ new. new ≡ not (is_repeated self.old line)) }
         ensures put { IfOk result (λ new. IsTrue new → self.new ≡ record (with_kept self.old line) { last = self.old.last }) }
@@ -122,7 +122,7 @@ impl Parts {
         }
     }
 
-    /// Adds what a line gives, and answers whether the line may be there.
+    /// Adds the content of a line, and returns whether the line is allowed here.
     pub(crate) fn add(&mut self, line: SheetLine) -> Result<bool, AllocError>
         ensures fits { IfOk result (λ fits. fits ≡ fits_after self.old line) }
         ensures parts { IfOk result (λ fits. IsTrue fits → self.new ≡ with_kept self.old line) }
@@ -135,14 +135,14 @@ impl Parts {
         Ok(true)
     }
 
-    /// Whether the last line was the end.
+    /// Returns whether the last line was the end.
     pub(crate) fn are_ended(&self) -> bool
         ensures { result ≡ is_ended self.now }
     {
         matches!(self.last, Some(Part::End))
     }
 
-    /// The sheet that the parts make; this is the number of the end.
+    /// Returns the sheet that the parts make. `number` is the number of the end.
     pub(crate) fn into_sheet(self, alloc: Global, number: u64) -> Result<Sheet, TextError>
         requires { IsSome self.last }
         ensures made { IfOk result (IsMadeOf self) }
@@ -166,7 +166,7 @@ impl Parts {
     }
 }
 
-/// The view that offers and rooms make at the end, which has this number.
+/// Returns the view that offers and rooms make. `number` is the number of the end.
 fn view_at(
     alloc: Global,
     header: Header,

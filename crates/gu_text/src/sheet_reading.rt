@@ -1,4 +1,4 @@
-//! A sheet that is read piece by piece.
+//! Reading a sheet piece by piece.
 
 ghost use Rattle.std.specs.Prelude.{◌≡◌, ◌+◌, ◌^◌, ◌<◌, ◌≤◌, ◌++◌, ◌∷◌, [], ℕ, List, length, IfOk, IfErr, IsErrOf, OnOk};
 ghost use Rattle.std.specs.Str.Lines.{strip_carriage_return};
@@ -17,12 +17,12 @@ use gu_terms::Seed;
 use std::alloc::Global;
 use std::marker::Model;
 
-/// A sheet that is being read: what its lines gave so far, and what waits for more: a line and its CR at most.
-/// To a contract it is a place in a sheet.
+/// A sheet being read: the content of its lines so far, and an unfinished line of at most the longest line and a CR. To a contract it is a
+/// place in a sheet.
 pub struct SheetReading {
     alloc: Global,
     so_far: SheetSoFar,
-    /// How many lines are read, silent ones too.
+    /// The number of lines read, including silent ones.
     count: u64,
     /// The bytes after the last LF.
     rest: Vec<u8>,
@@ -40,7 +40,7 @@ impl Model for SheetReading {
     ghost invariant = { λ r. HasNoLineFeed r.rest.items × (length r.rest.items ≤ 1025) };
 }
 
-// By hand, so that a reading is dropped by one call.
+// By hand, so that a reading is dropped with one call.
 impl Drop for SheetReading {
     fn drop(self) {
         let SheetReading {
@@ -55,7 +55,7 @@ impl Drop for SheetReading {
 }
 
 impl SheetReading {
-    /// Before the first piece. The seed is for the tables of what a sheet names; what is read doesn't depend on it.
+    /// Returns a reading before the first piece. The seed is for the hashes of what a sheet names, and doesn't affect what is read.
     pub fn seeded(alloc: Global, seed: Seed) -> Self
         ensures fresh { result.count ≡ 0 }
         ensures read { IsReadSoFar [] result }
@@ -68,7 +68,7 @@ impl SheetReading {
         }
     }
 
-    /// Reads a line that an LF ends: the rest, and what comes before the LF. A line that is too long isn't copied.
+    /// Reads a line ended by an LF: the rest so far, followed by the bytes before the LF. A line that is too long isn't copied.
     fn end_line(&mut self, part: &[u8]) -> Result<(), TextError>
         requires room { self.old.count + 1 < 2 ^ 64 }
         requires none { HasNoLineFeed part.now }
@@ -91,7 +91,7 @@ impl SheetReading {
         Ok(())
     }
 
-    /// Keeps what comes after the last LF, unless it is longer than any good line.
+    /// Keeps the bytes after the last LF, unless they are longer than any valid line.
     fn keep(&mut self, bytes: &[u8]) -> Result<(), TextError>
         requires room { self.old.count + 1 < 2 ^ 64 }
         requires none { HasNoLineFeed bytes.now }
@@ -106,17 +106,17 @@ impl SheetReading {
         Ok(())
     }
 
-    /// Reads the lines that a piece ends, and keeps what comes after the last LF. After an error nothing is known of the reading.
+    /// Reads the lines that a piece ends, and keeps the bytes after the last LF. After an error nothing is known about the reading.
     pub fn take(&mut self, piece: &[u8]) -> Result<(), TextError>
         requires { self.old.count + length piece.now + 1 < 2 ^ 64 }
         ensures read { OnOk result ((text : List ℕ) → IsReadSoFar text self.old → IsReadSoFar (text ++ piece.now) self.new) }
         ensures counted { OnOk result (self.new.count ≤ self.old.count + length piece.now) }
 
-        // A bad line is bad whatever comes after the piece.
+        // A bad line is bad whatever follows the piece.
         ensures bad { (n : ℕ) → IsErrOf result (TextError.BadLine n)
             → (text : List ℕ) → IsReadSoFar text self.old → IsBadHowever (text ++ piece.now) n }
     {
-        // Shows the prover: what waits has no LF.
+        // Shows the prover: the unfinished line has no LF.
         let _waiting = self.rest.len();
         let mut left = piece;
         'lines: while let Some((part, after)) = split_at_line_feed(left) {
@@ -126,7 +126,7 @@ impl SheetReading {
         self.keep(left)
     }
 
-    /// Reads what came after the last LF, where nothing more comes, and gives how many lines there are.
+    /// Reads the bytes after the last LF, given that nothing more follows, and returns the number of lines.
     fn end_last(&mut self) -> Result<u64, TextError>
         requires { self.old.count + 1 < 2 ^ 64 }
         ensures read { IfOk result (λ count. (text : List ℕ) → IsReadSoFar text self.old → IsReadWhole text self.new.so_far count) }
@@ -140,7 +140,7 @@ impl SheetReading {
         Ok(self.count + 1)
     }
 
-    /// What the lines gave so far.
+    /// Returns the content of the lines so far.
     fn into_so_far(self) -> SheetSoFar
         ensures { result ≡ self.so_far }
     {
@@ -154,7 +154,7 @@ impl SheetReading {
         so_far
     }
 
-    /// The sheet, where nothing more comes.
+    /// Returns the sheet, given that nothing more follows.
     pub fn end(self) -> Result<Sheet, TextError>
         requires { self.count + 2 < 2 ^ 64 }
         ensures sheet { IfOk result (λ sheet. (text : List ℕ) → IsReadSoFar text self → IsSheet text sheet) }

@@ -1,4 +1,4 @@
-//! A sheet as far as its lines have come.
+//! A sheet, from the lines so far.
 
 ghost use Rattle.std.specs.Prelude.{◌≡◌, ◌++◌, ◌∷◌, [], false, ℕ, List, IfOk, IfErr, IsErrOf, IsSome, IsTrue, OnOk};
 ghost use Rattle.std.specs.Option.{option_map_or};
@@ -17,15 +17,15 @@ use gu_terms::Seed;
 use std::alloc::{AllocError, Global};
 use std::mem;
 
-/// A sheet as far as its lines have come.
+/// A sheet, from the lines so far.
 pub(crate) enum SheetSoFar {
-    /// The end is still to come.
+    /// The end is yet to come.
     Open(Parts),
-    /// The end was read, and its view is one.
+    /// The end was read, and offers and rooms make a view.
     Ended(Sheet),
 }
 
-// By hand, so that who holds a sheet so far lets it go by one call.
+// By hand, so that its owner drops it with one call.
 impl Drop for SheetSoFar {
     fn drop(self) {
         match self {
@@ -35,7 +35,7 @@ impl Drop for SheetSoFar {
     }
 }
 
-/// Adds what a line of words says, and answers whether the line may be there.
+/// Adds the content of a line of words, and returns whether the line is allowed here.
 fn add_spoken(parts: &mut Parts, line: &[u8]) -> Result<bool, AllocError>
     ensures fits { IfOk result (λ fits. fits ≡ option_map_or (fits_after parts.old) (spoken line.now) false) }
     ensures parts { IfOk result (λ fits. IsTrue fits → parts.new ≡ option_map_or (with_kept parts.old) (spoken line.now) parts.old) }
@@ -46,7 +46,7 @@ fn add_spoken(parts: &mut Parts, line: &[u8]) -> Result<bool, AllocError>
     }
 }
 
-/// Adds what a line says, and answers whether the line may be there.
+/// Adds the content of a line, and returns whether the line is allowed here.
 fn add_line(parts: &mut Parts, line: &[u8]) -> Result<bool, AllocError>
     ensures fits { IfOk result (λ fits. fits ≡ line_fits parts.old line.now) }
     ensures parts { IfOk result (λ fits. IsTrue fits → parts.new ≡ with_kept_line parts.old line.now) }
@@ -57,7 +57,7 @@ fn add_line(parts: &mut Parts, line: &[u8]) -> Result<bool, AllocError>
     add_spoken(parts, line)
 }
 
-/// Adds what a line says, which has this number, and answers whether it is the end.
+/// Adds the content of the line with this number, and returns whether it is the end.
 fn take_open(parts: &mut Parts, line: &[u8], number: u64) -> Result<bool, TextError>
     ensures fits { OnOk result (IsTrue (line_fits parts.old line.now)) }
     ensures parts { OnOk result (parts.new ≡ with_kept_line parts.old line.now) }
@@ -72,7 +72,7 @@ fn take_open(parts: &mut Parts, line: &[u8], number: u64) -> Result<bool, TextEr
     Ok(parts.are_ended())
 }
 
-/// A line after the end, which has this number: it says nothing.
+/// Accepts the line with this number after the end if it is silent.
 fn take_ended(line: &[u8], number: u64) -> Result<(), TextError>
     ensures silent { OnOk result (IsTrue (is_silent line.now)) }
     ensures number { (n : ℕ) → IsErrOf result (TextError.BadLine n) → n ≡ number }
@@ -86,14 +86,14 @@ fn take_ended(line: &[u8], number: u64) -> Result<(), TextError>
 }
 
 impl SheetSoFar {
-    /// Before the first line.
+    /// Returns a sheet before its first line.
     pub(crate) fn new(alloc: Global, seed: Seed) -> Self
         ensures { IsReadTo [] result }
     {
         SheetSoFar::Open(Parts::new(alloc, seed))
     }
 
-    /// The sheet of the parts, whose last line was the end, which has this number.
+    /// Returns the sheet that the parts make, given that the last line was the end and has this number.
     fn closed(self, alloc: Global, number: u64) -> Result<Self, TextError>
         requires { (parts : SheetParts) → self ≡ SheetSoFar.Open parts → IsSome parts.last }
         ensures made { IfOk result (λ new. (parts : SheetParts) → self ≡ SheetSoFar.Open parts
@@ -109,8 +109,8 @@ impl SheetSoFar {
         }
     }
 
-    /// Makes the sheet of the parts, whose last line was the end, which has this number. It is a function of its own, since each call
-    /// clears room for the sheet, and only the end needs it.
+    /// Makes the sheet of the parts, given that the last line was the end and has this number. It is a separate function because each call
+    /// clears room for the sheet, which only the end needs.
     fn close(&mut self, alloc: Global, number: u64) -> Result<(), TextError>
         requires { (parts : SheetParts) → self.old ≡ SheetSoFar.Open parts → IsSome parts.last }
         ensures made { OnOk result ((parts : SheetParts) → self.old ≡ SheetSoFar.Open parts
@@ -122,7 +122,7 @@ impl SheetSoFar {
         Ok(())
     }
 
-    /// Takes a line more, which has this number. After an error nothing is known of the sheet.
+    /// Takes the next line, which has this number. After an error nothing is known about the sheet.
     pub(crate) fn take(&mut self, alloc: Global, line: &[u8], number: u64) -> Result<(), TextError>
         ensures read { OnOk result ((before : List (List ℕ)) → IsReadTo before self.old → IsReadTo (before ++ line.now ∷ []) self.new) }
         ensures number { (n : ℕ) → IsErrOf result (TextError.BadLine n) → n ≡ number }
@@ -140,7 +140,7 @@ impl SheetSoFar {
         self.close(alloc, number)
     }
 
-    /// The sheet, where its end was read; else this is the number of the line that is missing.
+    /// Returns the sheet if its end was read; if not, `number` is the number of the missing line.
     pub(crate) fn into_sheet(self, number: u64) -> Result<Sheet, TextError>
         ensures sheet { IfOk result (λ sheet. self ≡ SheetSoFar.Ended sheet) }
         ensures missing { IfErr result (λ error. (error ≡ TextError.BadLine number) × ((parts : SheetParts) × (self ≡ SheetSoFar.Open parts))) }

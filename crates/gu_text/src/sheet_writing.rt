@@ -1,4 +1,4 @@
-//! Sweep sheets as they are written.
+//! Writing sweep sheets.
 
 ghost use Rattle.std.specs.Prelude.{◌≡◌, ◌<◌, ◌≤◌, ◌++◌, ◌∷◌, [], ◌+◌, codes, length, vec_capacity, vec_len, AllPairs, IfOk, OnOk};
 ghost use Rattle.std.specs.Fmt.{decimal};
@@ -15,7 +15,7 @@ use gu_terms::{Cut, OfferNo, Path, Take, Takes};
 use gu_view::{Room, View, ViewOffer};
 use std::alloc::{AllocError, Global};
 
-/// Appends the head of a sheet: the group, and its version.
+/// Appends the head of a sheet: the group and its version.
 fn append_head(output: &mut Vec<u8>, view: &View) -> Result<(), AllocError>
     ensures { OnOk result (output.new.items ≡ output.old.items ++ head_line view.now) }
 {
@@ -27,7 +27,7 @@ fn append_head(output: &mut Vec<u8>, view: &View) -> Result<(), AllocError>
     Ok(())
 }
 
-/// Puts the names on a path but its agreement's, which end the line, onto room that is there.
+/// Appends the names on a path except its agreement's, which end the line. There is room for them.
 fn put_path(output: &mut Vec<u8>, path: &Path)
     requires { vec_len output.old + 84 ≤ vec_capacity output.old }
     ensures path { output.new.items ≡ output.old.items ++ line_of (path_words path.now) }
@@ -95,7 +95,7 @@ fn append_rooms(output: &mut Vec<u8>, rooms: &[Room]) -> Result<(), AllocError>
     Ok(())
 }
 
-/// Appends the lots that are taken of an offer.
+/// Appends the lots taken from an offer.
 fn append_take(output: &mut Vec<u8>, offer: OfferNo, lots: u64) -> Result<(), AllocError>
     ensures { OnOk result (output.new.items ≡ output.old.items ++ line_of (codes "TAKE" ∷ decimal offer ∷ decimal lots ∷ [])) }
 {
@@ -106,7 +106,7 @@ fn append_take(output: &mut Vec<u8>, offer: OfferNo, lots: u64) -> Result<(), Al
     Ok(())
 }
 
-/// Appends a take for each offer, walking both side by side.
+/// Appends a take for each offer, going through both lists side by side.
 fn append_takes(
     output: &mut Vec<u8>,
     takes: &[Take],
@@ -124,7 +124,7 @@ fn append_takes(
     Ok(())
 }
 
-/// Appends the key of a room, where it is in the cut.
+/// Appends the key of a room if it is in the cut.
 fn append_cut_key(output: &mut Vec<u8>, cut: &Cut, room: &Room) -> Result<(), AllocError>
     ensures { OnOk result (output.new.items ≡ output.old.items ++ cut_key_line cut.now room.now) }
 {
@@ -147,7 +147,7 @@ fn append_cut_keys(output: &mut Vec<u8>, cut: &Cut, rooms: &[Room]) -> Result<()
     Ok(())
 }
 
-/// Appends the number of an offer, where it is in the cut.
+/// Appends the number of an offer if it is in the cut.
 fn append_cut_offer(output: &mut Vec<u8>, cut: &Cut, offer: &ViewOffer) -> Result<(), AllocError>
     ensures { OnOk result (output.new.items ≡ output.old.items ++ cut_offer_line cut.now offer.now) }
 {
@@ -175,7 +175,7 @@ fn append_cut_offers(
     Ok(())
 }
 
-/// Appends the sheet of takes and a cut of a view. What they name and the view lacks isn't in it.
+/// Appends the sheet of takes and a cut of a view. It omits what they name and the view lacks.
 pub fn append_sheet(
     output: &mut Vec<u8>,
     view: &View,
@@ -193,7 +193,7 @@ pub fn append_sheet(
     append_last_word(output, b"END")
 }
 
-/// The sheet of takes and a cut of a view.
+/// Returns the sheet of takes and a cut of a view.
 pub fn sheet_text(
     alloc: Global,
     view: &View,

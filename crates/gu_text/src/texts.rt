@@ -1,4 +1,4 @@
-//! Words and numbers after a text.
+//! Appending words and numbers to a text.
 
 ghost use Rattle.std.specs.Prelude.{◌≡◌, ◌++◌, ◌∷◌, [], OnErr, OnOk};
 ghost use Rattle.std.specs.Fmt.{decimal};
@@ -8,7 +8,7 @@ use crate::reserved::put_ended;
 use itoa::Buffer;
 use std::alloc::AllocError;
 
-/// Appends a word and the byte that ends it, with one growth at most.
+/// Appends a word and the byte that ends it, with at most one allocation.
 fn append_ended(output: &mut Vec<u8>, bytes: &[u8], end: u8) -> Result<(), AllocError>
     ensures ok { OnOk result (output.new.items ≡ output.old.items ++ (bytes.now ++ end ∷ [])) }
     ensures refused { OnErr result (output.new.items ≡ output.old.items) }
@@ -18,7 +18,7 @@ fn append_ended(output: &mut Vec<u8>, bytes: &[u8], end: u8) -> Result<(), Alloc
     Ok(())
 }
 
-/// Appends a word and a blank.
+/// Appends a word and a space.
 pub fn append_word(output: &mut Vec<u8>, bytes: &[u8]) -> Result<(), AllocError>
     ensures ok { OnOk result (output.new.items ≡ output.old.items ++ word bytes.now) }
     ensures refused { OnErr result (output.new.items ≡ output.old.items) }
@@ -34,7 +34,7 @@ pub fn append_last_word(output: &mut Vec<u8>, bytes: &[u8]) -> Result<(), AllocE
     append_ended(output, bytes, b'\n')
 }
 
-/// Appends a number and a blank.
+/// Appends a number and a space.
 pub fn append_number(output: &mut Vec<u8>, number: u64) -> Result<(), AllocError>
     ensures ok { OnOk result (output.new.items ≡ output.old.items ++ word (decimal number)) }
     ensures refused { OnErr result (output.new.items ≡ output.old.items) }

@@ -1,4 +1,4 @@
-//! Values that words write: numbers, names, keys, sides, lots, prices, days and workers.
+//! Values of words: numbers, names, keys, sides, lots, prices, days and workers.
 
 ghost use Rattle.std.specs.Prelude.{◌≡◌, ◌≢◌, ℕ, ℤ, MatchOption};
 ghost use Rattle.std.specs.Option.{option_map};
@@ -17,23 +17,23 @@ use gu_terms::{
 };
 use gu_world::Worker;
 
-/// The digits that a whole number has at most.
+/// The most digits in a whole number.
 const MOST_DIGITS: usize = 12;
 
-/// The greatest number of so many digits.
+/// The highest number with this many digits.
 const MOST: u64 = 999_999_999_999;
 
 /// The last worker that scripts can name.
 const LAST_WORKER: u64 = 62;
 
-/// Whether a word is one to twelve digits.
+/// Returns whether a word is one to twelve digits.
 fn is_number(word: &[u8]) -> bool
     ensures { result ≡ is_number word.now }
 {
     !word.is_empty() && word.len() <= MOST_DIGITS && are_digits(word)
 }
 
-/// The whole number that a word writes.
+/// Returns the whole number in a word.
 #[tactic(auto, using(crate::proofs::NumberLemmas::number_digits))]
 pub(crate) fn number_of(word: &[u8]) -> Option<u64>
     ensures { result ≡ number_of word.now }
@@ -45,7 +45,7 @@ pub(crate) fn number_of(word: &[u8]) -> Option<u64>
     }
 }
 
-/// The number of an offer that a word writes.
+/// Returns the offer number in a word.
 pub(crate) fn offer_no_of(word: &[u8]) -> Option<OfferNo>
     ensures { result ≡ offer_no_of word.now }
 {
@@ -53,14 +53,14 @@ pub(crate) fn offer_no_of(word: &[u8]) -> Option<OfferNo>
     OfferNo::new(number)
 }
 
-/// The name that a word is.
+/// Returns the name in a word.
 pub(crate) fn name_of(word: &[u8]) -> Option<Name>
     ensures { result ≡ name_of word.now }
 {
     Name::new(word)
 }
 
-/// The key that a kind and a name say.
+/// Returns the key with this kind and this name.
 pub(crate) fn key_said(kind: &[u8], word: &[u8]) -> Option<LimitKey>
     ensures { result ≡ key_said kind.now word.now }
 {
@@ -68,7 +68,7 @@ pub(crate) fn key_said(kind: &[u8], word: &[u8]) -> Option<LimitKey>
     LimitKey::of(kind, name)
 }
 
-/// The worker that a word writes, among those that scripts can name.
+/// Returns the worker in a word, among those that scripts can name.
 pub(crate) fn worker_of(word: &[u8]) -> Option<Worker>
     ensures { result ≡ worker_said word.now }
 {
@@ -79,7 +79,7 @@ pub(crate) fn worker_of(word: &[u8]) -> Option<Worker>
     Worker::new(number as u8)
 }
 
-/// The reason of a refusal that a word writes.
+/// Returns the reason of a refusal in a word.
 pub(crate) fn reject_of(word: &[u8]) -> Option<AllocReject>
     ensures { MatchOption result ((reject : RejectOf) → ¬ WritesReject word.now reject) (WritesReject word.now) }
 {
@@ -87,7 +87,7 @@ pub(crate) fn reject_of(word: &[u8]) -> Option<AllocReject>
     AllocReject::of(number)
 }
 
-/// The side whose letter a word is.
+/// Returns the side with this letter.
 pub(crate) fn side_of(word: &[u8]) -> Option<Side>
     ensures { MatchOption result ((side : SideOf) → word.now ≢ side_word side) (λ side. word.now ≡ side_word side) }
 {
@@ -98,7 +98,7 @@ pub(crate) fn side_of(word: &[u8]) -> Option<Side>
     }
 }
 
-/// The lots that a word means.
+/// Returns the lots in a word.
 pub(crate) fn lots_of(word: &[u8]) -> Option<Lots>
     ensures { MatchOption result ((n : ℕ) → ¬ MeansLots word.now n) (MeansLots word.now) }
 {
@@ -108,7 +108,7 @@ pub(crate) fn lots_of(word: &[u8]) -> Option<Lots>
     }
 }
 
-/// The price that a word means.
+/// Returns the price in a word.
 pub(crate) fn price_of(word: &[u8]) -> Option<Price>
     ensures { MatchOption result ((z : ℤ) → ¬ MeansPrice word.now z) (MeansPrice word.now) }
 {
@@ -118,7 +118,7 @@ pub(crate) fn price_of(word: &[u8]) -> Option<Price>
     }
 }
 
-/// The day that a word writes.
+/// Returns the day in a word.
 pub(crate) fn day_of(word: &[u8]) -> Option<Day>
     ensures { MatchOption result ((day : DayOf) → ¬ WritesDay word.now day.year day.month day.day)
         (λ day. WritesDay word.now day.year day.month day.day) }

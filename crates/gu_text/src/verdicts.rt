@@ -1,4 +1,4 @@
-//! The answer to a check as a line.
+//! The answer to a check, as a line.
 
 ghost use Rattle.std.specs.Prelude.{◌≡◌, ◌++◌, ◌∷◌, IfOk, OnOk};
 ghost use Rattle.gu_text.specs.Texts.{line_of};
@@ -24,7 +24,7 @@ fn append_lacking(output: &mut Vec<u8>, lacking: Unknown) -> Result<(), AllocErr
 }
 
 #[tactic(auto, using(crate::proofs::JoinedWords::lacking_line))]
-/// Appends a fault's name and what it names, which end the line.
+/// Appends a fault's name and the key or offer that it names, which end the line.
 fn append_fault(output: &mut Vec<u8>, fault: CutFault) -> Result<(), AllocError>
     ensures { OnOk result (output.new.items ≡ output.old.items ++ line_of (name_of fault ∷ named_words fault)) }
 {
@@ -64,7 +64,7 @@ fn append_verdict(output: &mut Vec<u8>, verdict: &Result<u64, CutFault>) -> Resu
     }
 }
 
-/// The line that says what a check answered.
+/// Returns the line with the answer to a check.
 pub fn verdict_text(alloc: Global, verdict: &Result<u64, CutFault>) -> Result<Vec<u8>, AllocError>
     ensures { IfOk result (λ text. text.items ≡ verdict_text verdict.now) }
 {

@@ -16,14 +16,14 @@ fn is_blank_at(line: &[u8], place: usize) -> bool
     }
 }
 
-/// Whether a line begins or ends with a blank.
+/// Returns whether a line begins or ends with a space.
 pub(crate) fn is_ragged(line: &[u8]) -> bool
     ensures { result ≡ is_ragged line.now }
 {
     is_blank_at(line, 0) || is_blank_at(line, line.len().saturating_sub(1))
 }
 
-/// The text without the blanks at its front, of which it has some.
+/// Returns the text without its leading spaces, of which there is at least one.
 #[inline(never)]
 fn after_blanks(text: &[u8]) -> &[u8]
     ensures words { words_of result.now ≡ words_of text.now }
@@ -37,7 +37,7 @@ fn after_blanks(text: &[u8]) -> &[u8]
     rest
 }
 
-/// The text without the blanks at its front.
+/// Returns the text without its leading spaces.
 #[inline(always)]
 fn without_blanks(text: &[u8]) -> &[u8]
     ensures words { words_of result.now ≡ words_of text.now }
@@ -51,7 +51,7 @@ fn without_blanks(text: &[u8]) -> &[u8]
     }
 }
 
-/// The place of the first blank, byte by byte.
+/// Returns the position of the first space, looking byte by byte.
 #[inline(never)]
 fn any_blank_place(text: &[u8]) -> Option<usize>
     ensures { result ≡ position is_blank text.now }
@@ -64,7 +64,7 @@ fn any_blank_place(text: &[u8]) -> Option<usize>
     None
 }
 
-/// The place of the lowest bit that is set, or 8 where none is.
+/// Returns the index of the lowest set bit, or 8 if none is set.
 #[inline(always)]
 fn lowest_bit(mask: u64) -> usize
     ensures { result ≡ (if mask == 0 then 8 else trailing_zeros w64 mask) }
@@ -76,7 +76,7 @@ fn lowest_bit(mask: u64) -> usize
     }
 }
 
-/// How many of the first eight bytes come before the first blank, by one comparison of all eight.
+/// Returns how many of the first eight bytes come before the first space, comparing all eight at once.
 #[inline(always)]
 fn run_in_eight(text: &[u8]) -> usize
     requires { 8 ≤ length text.now }
@@ -87,7 +87,7 @@ fn run_in_eight(text: &[u8]) -> usize
     lowest_bit(blanks.to_bitmask())
 }
 
-/// The place of the first blank. Most words have fewer than eight bytes, which are compared at once.
+/// Returns the position of the first space. Most words have fewer than eight bytes, which are compared at once.
 #[inline(always)]
 fn blank_place(text: &[u8]) -> Option<usize>
     ensures { result ≡ position is_blank text.now }
@@ -102,7 +102,7 @@ fn blank_place(text: &[u8]) -> Option<usize>
 }
 
 #[tactic(auto, using(crate::proofs::WordLemmas::word_in_front, crate::proofs::WordLemmas::word_alone))]
-/// The first word of a text, and the text after it.
+/// Returns the first word of a text, and the text that remains.
 #[inline(always)]
 pub(crate) fn first_word(text: &[u8]) -> Option<(&[u8], &[u8])>
     ensures words { MatchOption result (words_of text.now ≡ []) (λ found. words_of text.now ≡ found.0.now ∷ words_of found.1.now) }
@@ -118,14 +118,14 @@ pub(crate) fn first_word(text: &[u8]) -> Option<(&[u8], &[u8])>
     }
 }
 
-/// Whether a text has words.
+/// Returns whether a text has words.
 pub(crate) fn has_words(text: &[u8]) -> bool
     ensures { IsTrue result ↔ (words_of text.now ≢ []) }
 {
     !without_blanks(text).is_empty()
 }
 
-/// The first three words of a text, and the text after them.
+/// Returns the first three words of a text, and the text that remains.
 #[inline(always)]
 pub(crate) fn first_three_words(text: &[u8]) -> Option<(&[u8], &[u8], &[u8], &[u8])>
     ensures { MatchOption result (length (words_of text.now) < 3)
@@ -137,7 +137,7 @@ pub(crate) fn first_three_words(text: &[u8]) -> Option<(&[u8], &[u8], &[u8], &[u
     Some((first, second, third, rest))
 }
 
-/// The three words of a text that has three.
+/// Returns the words of a text with exactly three.
 pub(crate) fn three_words(text: &[u8]) -> Option<(&[u8], &[u8], &[u8])>
     ensures { MatchOption result (length (words_of text.now) ≢ 3)
         (λ found. words_of text.now ≡ found.0.now ∷ found.1.now ∷ found.2.now ∷ []) }
@@ -149,7 +149,7 @@ pub(crate) fn three_words(text: &[u8]) -> Option<(&[u8], &[u8], &[u8])>
     }
 }
 
-/// The two words of a text that has two.
+/// Returns the words of a text with exactly two.
 #[inline(always)]
 pub(crate) fn two_words(text: &[u8]) -> Option<(&[u8], &[u8])>
     ensures { MatchOption result (length (words_of text.now) ≢ 2) (λ found. words_of text.now ≡ found.0.now ∷ found.1.now ∷ []) }
@@ -162,7 +162,7 @@ pub(crate) fn two_words(text: &[u8]) -> Option<(&[u8], &[u8])>
     }
 }
 
-/// The only word of a text that has one.
+/// Returns the word of a text with exactly one.
 pub(crate) fn only_word(text: &[u8]) -> Option<&[u8]>
     ensures { MatchOption result (length (words_of text.now) ≢ 1) (λ word. words_of text.now ≡ word.now ∷ []) }
 {

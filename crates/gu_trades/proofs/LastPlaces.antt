@@ -1,4 +1,4 @@
--- The last report that passes a test, by its place: how it is found by numbers, and what it says of the list.
+-- The last report that passes a test, by position: how it is found by hashes, and what it means for the list.
 use Rattle.std.proofs.Common.{◌≡◌, ◌∙◌, sym, refl, ap, subst, ℕ, zero, suc, ◌+◌, ◌-◌, ◌<◌, ◌≤◌, Bool, true, false, cond, filter, List, [], ◌∷◌, ◌++◌, map, length, take, slice_get, Option, Some, None, inl, inr, eq-eqb, arith}
 use Rattle.std.specs.Prelude.{slice_index}
 use Rattle.std.specs.List.{AllByRecursion, IsDistinct, find}
@@ -14,11 +14,11 @@ use Rattle.gu_trades.specs.Rules.{are_sides}
 use Rattle.gu_trades.proofs.Rows.{last_before-le, last_before-narrow, last_before-passes}
 
 module _ {X : Type 0} (test : X → Bool) where
-  -- what stands at a place passes the test
+  -- the element at a position passes the test
   abbrev pub at : List X → ℕ → Bool
   at xs place = option_map_or test (slice_get xs place) false
 
-  -- what passes at a place is there
+  -- an element passes at a position of the list
   pub at-some : (xs : List X) (place : ℕ) → at xs place ≡ true → (x : X) × (slice_get xs place ≡ Some x) × (test x ≡ true)
   at-some xs place passes = by (slice_get xs place) refl
     where
@@ -26,7 +26,7 @@ module _ {X : Type 0} (test : X → Bool) where
       by None e = let never : false ≡ true = sym (ap (λ o. option_map_or test o false) e) ∙ passes in cc
       by (Some x) e = (x, e, sym (ap (λ o. option_map_or test o false) e) ∙ passes)
 
-  -- so the place is within
+  -- so the position is within the list
   pub within-at : (xs : List X) (place : ℕ) → at xs place ≡ true → place < length xs
   within-at xs place passes =
       elim (slice_get_cases xs place).1 [
@@ -34,7 +34,7 @@ module _ {X : Type 0} (test : X → Bool) where
         | inr past ↦ let there = at-some xs place passes in let never : None ≡ Some there.0 = sym past.1 ∙ there.1 in cc
       ]
 
-  -- ---- the last place, walked to by numbers
+  -- ---- the last position, found by walking over hashes
 
   module _ (of : X → ℕ) (number : ℕ) (agree : (x : X) → test x ≡ true → of x ≡ number) (xs : List X) (numbers : List ℕ) (kept : numbers ≡ map of xs) where
     number-at : (ys : List X) (place : ℕ) (x : X) → slice_get ys place ≡ Some x → slice_index (map of ys) place ≡ of x
@@ -42,13 +42,13 @@ module _ {X : Type 0} (test : X → Bool) where
     number-at (y ∷ ys) zero x e = let own : Some y ≡ Some x = e in let one : y ≡ x = cc in ap of one
     number-at (y ∷ ys) (suc place) x e = number-at ys place x e
 
-    -- what passes has the number
+    -- an element that passes has the hash
     pub has-own : (place : ℕ) → at xs place ≡ true → has_number numbers number place ≡ true
     has-own place passes =
         let there = at-some xs place passes in
         eq-eqb (slice_index numbers place) number (ap (λ ns. slice_index ns place) kept ∙ number-at xs place there.0 there.1 ∙ agree there.0 there.2)
 
-    -- a walk from the last place with the number
+    -- a walk from the last position with the hash
     pub walk-from : (bound from : ℕ) → from ≡ last_before (has_number numbers number) bound
         → (last_before (at xs) bound ≡ last_before (at xs) from) × (from ≤ bound) × (0 < from → slice_index numbers (from - 1) ≡ number)
     walk-from bound from is = (
@@ -59,7 +59,7 @@ module _ {X : Type 0} (test : X → Bool) where
           eqb-true (slice_index numbers (from - 1)) number (last_before-passes (has_number numbers number) bound (from - 1) (sym is ∙ one)),
     )
 
-    -- and on from a place
+    -- continuing from a position
     pub walk-on : (here next : ℕ) → 0 < here → slice_index numbers (here - 1) ≡ number
         → next ≡ last_before (has_number numbers (slice_index numbers (here - 1))) (here - 1)
         → (last_before (at xs) (here - 1) ≡ last_before (at xs) next) × (next < here) × (0 < next → slice_index numbers (next - 1) ≡ number)
@@ -67,16 +67,16 @@ module _ {X : Type 0} (test : X → Bool) where
         let walked = walk-from (here - 1) next (is ∙ ap (λ n. last_before (has_number numbers n) (here - 1)) own) in
         (walked.0, omega (arith, walked.1), walked.2)
 
-  -- a walk back from a place that doesn't pass
+  -- a walk back from a position that doesn't pass
   pub walk-back : (xs : List X) (here next : ℕ) → 0 < here → at xs (here - 1) ≡ false → last_before (at xs) (here - 1) ≡ last_before (at xs) next
       → last_before (at xs) here ≡ last_before (at xs) next
   walk-back xs here next some other on =
       let one : here ≡ suc (here - 1) = omega arith in
       ap (last_before (at xs)) one ∙ ap (λ b. cond b (suc (here - 1)) (last_before (at xs) (here - 1))) other ∙ on
 
-  -- ---- what passes up to a place
+  -- ---- the elements that pass up to a position
 
-  -- one more
+  -- one more element
   front-more : (xs : List X) (place : ℕ) (x : X) → slice_get xs place ≡ Some x → place < length xs
       → filter test (take (suc place) xs) ≡ filter test (take place xs) ++ cond (test x) (x ∷ []) []
   front-more xs place x here inside =
@@ -84,11 +84,11 @@ module _ {X : Type 0} (test : X → Bool) where
       ap (λ n. filter test (take n xs)) one ∙ filter_more test xs place x inside
       ∙ ap (λ (y : X). filter test (take place xs) ++ cond (test y) (y ∷ []) []) (get_or_from_slice_get xs place x x here)
 
-  -- what stands at a place passes where the place does
+  -- the element at a position passes if the position does
   pub at-is : (xs : List X) (place : ℕ) (x : X) → slice_get xs place ≡ Some x → at xs place ≡ test x
   at-is xs place x here = ap (λ o. option_map_or test o false) here
 
-  -- where no place passes, nothing does
+  -- if no position passes, no element does
   pub front-none : (xs : List X) (bound : ℕ) → bound ≤ length xs → last_before (at xs) bound ≡ 0 → filter test (take bound xs) ≡ []
   front-none xs zero inside none = refl
   front-none xs (suc place) inside none =
@@ -104,7 +104,7 @@ module _ {X : Type 0} (test : X → Bool) where
         | inr past ↦ absurd (omega arith)
       ]
 
-  -- and else what passes ends with what stands at the last one
+  -- otherwise the last element that passes is at the last position
   pub front-some : (xs : List X) (bound last : ℕ) (x : X) → bound ≤ length xs → last_before (at xs) bound ≡ suc last → slice_get xs last ≡ Some x
       → filter test (take bound xs) ≡ filter test (take last xs) ++ x ∷ []
   front-some xs zero last x inside is here = absurd (omega arith)
@@ -128,9 +128,9 @@ module _ {X : Type 0} (test : X → Bool) where
             ]
       ]
 
-  -- ---- the first one, where no two pass
+  -- ---- the first element, if no two pass
 
-  -- the last place of a list is that of its rest, or the first
+  -- the last position in a list is that in its rest, or the first
   abbrev one_or_none : Bool → ℕ
   one_or_none first = cond first 1 0
 
@@ -147,7 +147,7 @@ module _ {X : Type 0} (test : X → Bool) where
       ]
 
   module _ (same : X → X → Bool) (both : (a b : X) → test a ≡ true → test b ≡ true → same a b ≡ true) where
-    -- what is found among others is none of these
+    -- an element found in the rest isn't one of these
     apart-found : (x r : X) (xs : List X) → AllByRecursion (λ y. same x y ≡ false) xs → find test xs ≡ Some r → (same x r ≡ false) × (test r ≡ true)
     apart-found x r [] apart e = cc
     apart-found x r (y ∷ ys) apart e =
@@ -201,7 +201,7 @@ module _ {X : Type 0} (test : X → Bool) where
             let is_last : last ≡ suc earlier = omega arith in
             later again earlier e ∙ ap (slice_get (x ∷ xs)) (sym is_last)
 
--- the sides of a trade are two
+-- a trade has two sides
 pub two_sides : (before : List Report) (first second : Report) → are_sides ((before ++ first ∷ []) ++ second ∷ []) ≡ true → before ≡ []
 two_sides [] first second sound = refl
 two_sides (a ∷ []) first second sound = cc

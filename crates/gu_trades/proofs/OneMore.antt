@@ -1,4 +1,4 @@
--- The rules hold of no reports, and after one more that is new and doesn't conflict.
+-- The rules hold for no reports, and still hold after one more that is new and doesn't conflict.
 use Rattle.std.proofs.Common.{◌≡◌, ◌∙◌, sym, refl, ap, Bool, true, false, not, cond, List, [], ◌∷◌, ◌++◌}
 use Rattle.std.specs.List.{IsDistinct}
 use Rattle.std.proofs.lemmas.Slice.Eq.{bytes_eq-Decides}
@@ -10,12 +10,12 @@ use Rattle.gu_trades.specs.Reports.{has_report, with_match}
 use Rattle.gu_trades.specs.Rules.{IsSound, are_sides, same_report}
 use Rattle.gu_terms.specs.Same.{same_id}
 
--- the rules hold of no reports
+-- the rules hold for no reports
 pub sound-empty : IsSound []
 unfolding IsDistinct
 sound-empty = record { once = tt; sides = λ match_id. refl }
 
--- one more report is with its own match id, last
+-- one more report is the last with its match id
 pub with_match-push : (match_id : Id) (reports : List Report) (r : Report)
     → with_match match_id (reports ++ r ∷ []) ≡ cond (same_id r.match_id match_id) (with_match match_id reports ++ r ∷ []) (with_match match_id reports)
 with_match-push match_id [] r = refl
@@ -28,7 +28,7 @@ with_match-push match_id (first ∷ reports) r =
     by true false after before e = ap (λ l. first ∷ l) e
     by false new after before e = e
 
--- ids that are the same have the same reports
+-- equal ids have the same reports
 pub with_match-same : (one other : Id) (reports : List Report) → same_id one other ≡ true → with_match one reports ≡ with_match other reports
 with_match-same one other reports same = ap (λ id. with_match id reports) ((bytes_eq-Decides one other).0 same)
 

@@ -1,4 +1,4 @@
--- Whether another report has the match id of one, which is then a side of a trade.
+-- Whether another report has the same match id, which makes a report a side of a trade.
 use Rattle.std.proofs.Common.{◌≡◌, ◌∙◌, sym, ap, ℕ, zero, suc, ◌-◌, ◌<◌, ◌≤◌, ◌==◌, Bool, true, false, not, List, length, inl, inr, arith}
 use Rattle.std.proofs.lemmas.Bool.{cases_Bool, cases_eq, cases_lt, eqb-false, eqb-true}
 use Rattle.gu_terms.specs.declared.id.Id.{Id}
@@ -14,7 +14,7 @@ use Rattle.gu_trades.proofs.ReportPlaces.{trade-is}
 use Rattle.gu_trades.proofs.Rows.{last_before-le, last_before-passes}
 
 module _ (test : ℕ → Bool) where
-  -- what passes is at or before the last place that does
+  -- a position that passes is at or before the last that does
   pub last_before-above : (bound place : ℕ) → place < bound → test place ≡ true → place < last_before test bound
   last_before-above zero place below passes = absurd (omega arith)
   last_before-above (suc bound) place below passes =
@@ -27,12 +27,12 @@ module _ (test : ℕ → Bool) where
             ]
       ]
 
-  -- where two bounds have the same last place before them, none between them passes
+  -- if two bounds have the same last position before them, none between them passes
   pub none_between : (bound earlier place : ℕ) → last_before test bound ≡ last_before test earlier → place < bound → earlier ≤ place → test place ≡ true → ⊥
   none_between bound earlier place same below after passes =
       absurd (omega (arith, same, last_before-above bound place below passes, last_before-le test earlier))
 
-  -- one place alone passes from a bound on, and so it is from an earlier bound on
+  -- if only one position passes from a bound on, so it is from an earlier bound on
   pub alone-on : (place here next : ℕ) → 0 < here → ((other : ℕ) → here ≤ other → test other ≡ true → other ≡ place) → (test (here - 1) ≡ true → here - 1 ≡ place)
       → last_before test (here - 1) ≡ last_before test next → (other : ℕ) → next ≤ other → test other ≡ true → other ≡ place
   alone-on place here next some rest own on other after passes =
@@ -49,7 +49,7 @@ module _ (reports : List Report) (match_id : Id) (last first place : ℕ) (place
   abbrev test : ℕ → Bool
   test = is_with_at reports match_id
 
-  -- an earlier place than the last has it too
+  -- an earlier position has it too
   earlier_too : (earlier : ℕ) → earlier < last - 1 → test earlier ≡ true → is_trade (with_match match_id reports) ≡ true
   earlier_too earlier below passes =
       elim (cases_Bool (first == 0)) [
@@ -57,7 +57,7 @@ module _ (reports : List Report) (match_id : Id) (last first place : ℕ) (place
         | inr some ↦ sym (trade-is reports match_id last first placed sound) ∙ ap not some
       ]
 
-  -- where two places have it, they are sides of a trade
+  -- if two positions have it, they are sides of a trade
   pub trade-other : (other : ℕ) → (other ≡ place → ⊥) → test place ≡ true → test other ≡ true → is_trade (with_match match_id reports) ≡ true
   trade-other other apart own passes =
       let inside = within-at (λ (r : Report). same_id r.match_id match_id) reports place own in
@@ -73,7 +73,7 @@ module _ (reports : List Report) (match_id : Id) (last first place : ℕ) (place
         | inr differ ↦ earlier_too place (omega (arith, placed.last_is, above)) own
       ]
 
-  -- where one place alone has it, its report waits
+  -- if only one position has it, its report waits
   pub trade-alone : ((other : ℕ) → test other ≡ true → other ≡ place) → is_trade (with_match match_id reports) ≡ false
   trade-alone only =
       elim (cases_Bool (first == 0)) [

@@ -1,4 +1,4 @@
--- Reports as they are kept: what comes after their texts leaves them as they are.
+-- Stored reports are unchanged by texts added after theirs.
 use Rattle.std.proofs.Common.{◌≡◌, ℕ, suc, ◌+◌, ◌≤◌, List, [], ◌∷◌, ◌++◌, All, length, map, take, drop, arith, refl, ap, subst, ◌∙◌, get_or, sym}
 use Rattle.std.proofs.lemmas.List.{append-nil, append_assoc, drop-append-le, length-append, length-drop, map-append, take-append-le}
 use Rattle.std.proofs.lemmas.List.Elements.{All-push}
@@ -8,13 +8,13 @@ use Rattle.gu_terms.specs.declared.report.Report.{Report}
 use Rattle.gu_trades.specs.PackedReports.{HasIdsAndNames, IsWithin, kept_at, report_of_kept, texts_of}
 use Rattle.gu_trades.specs.declared.packed.Packed.{Packed}
 
--- bytes within the texts stay, whatever comes after
+-- bytes within the texts are unchanged, whatever follows
 text_at-front : (texts more : List ℕ) (at len : ℕ) → at + len ≤ length texts → text_at (texts ++ more) at len ≡ text_at texts at len
 text_at-front texts more at len within =
     ap (take len) (drop-append-le at texts more (omega (arith, within)))
     ∙ take-append-le len (drop at texts) more (omega (arith, length-drop at texts, within))
 
--- and so do reports
+-- so are reports
 report-front : (texts more : List ℕ) (k : Packed) → k.at + k.own + k.matched + k.firm + k.symbol + k.account ≤ length texts
     → report_of_kept (texts ++ more) k ≡ report_of_kept texts k
 report-front texts more k h =
@@ -37,11 +37,11 @@ map-front texts more (k ∷ ks) h =
     ap (λ r. r ∷ map (report_of_kept (texts ++ more)) ks) (report-front texts more k (h 0 k (omega arith)).within)
     ∙ ap (λ rs. report_of_kept texts k ∷ rs) (map-front texts more ks (λ i d within. h (suc i) d (omega arith)))
 
--- a text after others is found where it stands
+-- a text after others is found at its position
 text_at-new : (before text more all : List ℕ) (at : ℕ) → all ≡ before ++ (text ++ more) → at ≡ length before → text_at all at (length text) ≡ text
 text_at-new before text more all at is there = rw (is, there, drop-append_seam before (text ++ more), take-append_seam text more) refl
 
--- and so is a report
+-- so is a report
 report-new : (texts : List ℕ) (r : Report) → report_of_kept (texts ++ texts_of r) (kept_at (length texts) r) ≡ r
 report-new texts r =
     let all : List ℕ = texts ++ texts_of r in
@@ -62,7 +62,7 @@ report-new texts r =
     (simp (append_assoc, append-nil)) (simp length-append) in
     rw (own, matched, firm, symbol, account) refl
 
--- a report more, whose texts come after the others
+-- one more report, whose texts follow the others
 module _ (texts later : List ℕ) (rows more : List Packed) (at : ℕ) (r : Report) (h : All (IsWithin texts) rows) (sound : HasIdsAndNames r)
     (there : at ≡ length texts) (longer : later ≡ texts ++ texts_of r) (one : more ≡ rows ++ kept_at at r ∷ []) where
   new : IsWithin (texts ++ texts_of r) (kept_at (length texts) r)

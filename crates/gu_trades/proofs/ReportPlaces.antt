@@ -1,4 +1,4 @@
--- Reports that are found by their places, and one more report.
+-- Reports found by their positions, and one more report.
 use Rattle.std.proofs.Common.{◌≡◌, ◌∙◌, sym, refl, ap, subst, ℕ, suc, ◌-◌, ◌<◌, Bool, true, false, not, filter, List, [], ◌∷◌, ◌++◌, map, length, take, slice_get, Option, Some, None, is_some, unwrap_or, inl, inr, eq-eqb, arith}
 use Rattle.std.specs.Option.{option_map}
 use Rattle.std.specs.Prelude.{◌==◌, if◌then◌else◌}
@@ -27,19 +27,19 @@ use Rattle.gu_trades.proofs.LastPlaces.{at-some, find-none, find-some, front-non
 use Rattle.gu_trades.proofs.OneMore.{sound-empty, sound-push}
 use Rattle.gu_trades.proofs.Rows.{last_before-le, last_before-passes}
 
--- ---- numbers
+-- ---- hashes
 
--- the firm's report with an id has the number of these
+-- the firm's report with an id has the hash of these
 pub by-agree : (seed : Seed) (firm : FirmId) (id : Id) (r : Report) → is_by firm id r ≡ true → id_number seed r.firm r.id ≡ id_number seed firm id
 by-agree seed firm id r own =
     let p = both (same_firm r.firm firm) (same_id r.id id) own in
     ap (λ f. id_number seed f r.id) (ap (λ n. record { name = n }) ((bytes_eq-Decides r.firm.name firm.name).0 p.0)) ∙ ap (id_number seed firm) ((bytes_eq-Decides r.id id).0 p.1)
 
--- a report with a match id has its number
+-- a report with a match id has its hash
 pub with-agree : (seed : Seed) (match_id : Id) (r : Report) → same_id r.match_id match_id ≡ true → match_number seed r.match_id ≡ match_number seed match_id
 with-agree seed match_id r own = ap (match_number seed) ((bytes_eq-Decides r.match_id match_id).0 own)
 
--- a firm's reports with one id are the same report
+-- a firm's reports with the same id are the same report
 by-both : (firm : FirmId) (id : Id) (a b : Report) → is_by firm id a ≡ true → is_by firm id b ≡ true → same_report a b ≡ true
 by-both firm id a b own other =
     let p = both (same_firm a.firm firm) (same_id a.id id) own in
@@ -48,7 +48,7 @@ by-both firm id a b own other =
     let ids : a.id ≡ b.id = (bytes_eq-Decides a.id id).0 p.1 ∙ sym ((bytes_eq-Decides b.id id).0 q.1) in
     rw ((bytes_eq-Decides a.firm.name b.firm.name).1 names, (bytes_eq-Decides a.id b.id).1 ids) refl
 
--- a walk that has come to a place that passes has found it
+-- a walk that has reached a position that passes has found it
 pub found-here : (test : ℕ → Bool) (here : ℕ) → 0 < here → test (here - 1) ≡ true → last_before test here ≡ here
 found-here test here some hit =
     let one : here ≡ suc (here - 1) = omega arith in
@@ -80,7 +80,7 @@ module _ (reports : List Report) (firm : FirmId) (id : Id) (last : ℕ) (sound :
             rw some (sym (ap is_some own.1) ∙ ap is_some (sym (by-found there)) ∙ is_some-find (is_by firm id) reports)
       ]
 
--- how a report stands, by its terms and by whether it is of a trade
+-- a report's status: its terms, and whether it is a side of a trade
 pub standing-is : (reports : List Report) (found : Option Report) (terms : Terms) (of_trade : Bool) → option_map terms_of found ≡ Some terms → option_map (is_of_trade reports) found ≡ Some of_trade
     → option_map (standing_in reports) found ≡ Some (record { terms = terms; is_of_trade = of_trade })
 standing-is reports None terms of_trade one two = cc
@@ -103,7 +103,7 @@ module _ (reports : List Report) (match_id : Id) (last : ℕ) (is : last ≡ las
   pub with-within : (last ≡ 0 → ⊥) → last - 1 < length reports
   with-within some = omega (arith, is, last_before-le (is_with_at reports match_id) (length reports))
 
-  -- the last one has it
+  -- the last position has it
   pub with-passes : (last ≡ 0 → ⊥) → is_with_at reports match_id (last - 1) ≡ true
   with-passes some = let one : last ≡ suc (last - 1) = omega arith in last_before-passes (is_with_at reports match_id) (length reports) (last - 1) (sym is ∙ one)
 
@@ -114,7 +114,7 @@ module _ (reports : List Report) (match_id : Id) (last : ℕ) (is : last ≡ las
       ap (filter (λ (r : Report). same_id r.match_id match_id)) (sym (take_all (length reports) reports (omega arith)))
       ∙ front-some (λ (r : Report). same_id r.match_id match_id) reports (length reports) (last - 1) r (omega arith) (sym is ∙ one) read
 
-  -- what one more does
+  -- the effect of one more report
   pub matching-is : (if last == 0 then Opened else Matched) ≡ matching_of (with_match match_id reports)
   matching-is =
       elim (cases_Bool (last == 0)) [
@@ -132,7 +132,7 @@ module _ (reports : List Report) (match_id : Id) (last first : ℕ) (placed : Ar
   first-within there =
       omega (arith, placed.last_is, placed.first_is, last_before-le (is_with_at reports match_id) (length reports), last_before-le (is_with_at reports match_id) (last - 1))
 
-  -- where there is an earlier one, there is a later one
+  -- if there is an earlier one, there is a later one
   last-there : (first ≡ 0 → ⊥) → last ≡ 0 → ⊥
   last-there there none = absurd (omega (arith, placed.first_is, last_before-le (is_with_at reports match_id) (last - 1)))
 
@@ -180,11 +180,11 @@ module _ (reports : List Report) (match_id : Id) (last first : ℕ) (placed : Ar
               rw some (sym (ap is_trade (two there).2))
         ]
 
-    -- and conflict with whatever comes
+    -- and conflict with any further report
     pub conflicting-is : (first ≡ 0 → ⊥) → (terms : Terms) → Conflicting ≡ counterpart_of (with_match match_id reports) terms
     conflicting-is there terms = sym (ap (λ (rs : List Report). counterpart_of rs terms) (two there).2)
 
-  -- one alone is met, or conflicts
+  -- a single report is the counterpart, or conflicts
   pub counterpart-one : (last ≡ 0 → ⊥) → first ≡ 0 → (waiting terms : Terms) → option_map terms_of (slice_get reports (last - 1)) ≡ Some waiting
       → counterpart_of (with_match match_id reports) terms ≡ (if have_other_sides waiting terms then Waiting waiting else Conflicting)
   counterpart-one some none waiting terms read =
@@ -193,7 +193,7 @@ module _ (reports : List Report) (match_id : Id) (last first : ℕ) (placed : Ar
       ap (λ (rs : List Report). counterpart_of rs terms) (with-one some own.0 own.1 none)
       ∙ ap (λ (t : Terms). if have_other_sides t terms then Waiting t else Conflicting) same
 
--- whether a report is of a trade, by its match id
+-- whether a report is a side of a trade, by its match id
 pub of_trade-is : (reports : List Report) (found : Option Report) (match_id : Id) → option_map (λ (r : Report). r.match_id) found ≡ Some match_id
     → option_map (is_of_trade reports) found ≡ Some (is_trade (with_match match_id reports))
 of_trade-is reports None match_id is = cc
@@ -201,9 +201,9 @@ of_trade-is reports (Some r) match_id is =
     let same : r.match_id ≡ match_id = ap (λ (m : Option Id). unwrap_or m match_id) is in
     ap (λ (m : Id). Some (is_trade (with_match m reports))) same
 
--- ---- what is kept
+-- ---- the table as stored
 
--- of no reports
+-- with no reports
 pub kept-empty : (kept : Inside) → kept.reports ≡ [] → kept.by_id.numbers ≡ [] → kept.by_match.numbers ≡ [] → IsKept kept
 kept-empty kept none nothing none_with = record {
   named = nothing ∙ sym (ap (map (λ (r : Report). id_number kept.seed r.firm r.id)) none);
@@ -211,7 +211,7 @@ kept-empty kept none nothing none_with = record {
   sound = subst IsSound (sym none) sound-empty;
 }
 
--- of one report more, which is new and doesn't conflict
+-- with one more report, which is new and doesn't conflict
 pub kept-push : (old new : Inside) (reports : List Report) (r : Report) → old.reports ≡ reports → IsKept old → has_report reports r.firm r.id ≡ false → conflicts (with_match r.match_id reports) r ≡ false
     → new.seed ≡ old.seed → new.reports ≡ old.reports ++ r ∷ []
     → new.by_id.numbers ≡ old.by_id.numbers ++ id_number old.seed r.firm r.id ∷ [] → new.by_match.numbers ≡ old.by_match.numbers ++ match_number old.seed r.match_id ∷ []

@@ -1,4 +1,4 @@
--- How many rows there are: a power of two, so that a mask finds a number's row.
+-- The number of rows: a power of two, so that a mask gives a hash's row.
 use Rattle.std.proofs.Common.{◌≡◌, ℕ, suc, ◌-◌, ◌*◌, ◌%◌, ◌<◌, inl, inr, arith, pow_pos}
 use Rattle.std.proofs.lemmas.Bool.{cases_lt}
 use Rattle.std.proofs.lemmas.Nat.{and_mask}
@@ -6,15 +6,15 @@ use Rattle.std.specs.Int.{IsPowerOfTwo}
 use Rattle.std.specs.Int.Bits.{bit_and}
 use Rattle.std.specs.Prelude.{max}
 
--- there is one
+-- there is at least one row
 pub some_rows : (rows : ℕ) → IsPowerOfTwo rows → 0 < rows
 some_rows rows power = omega (arith, power.1, pow_pos power.0)
 
--- the mask is the remainder
+-- the mask gives the remainder
 pub mask-rows : (number rows : ℕ) → IsPowerOfTwo rows → bit_and number (rows - 1) ≡ number % rows
 mask-rows number rows power = rw power.1 (and_mask number power.0)
 
--- twice as many are a power of two
+-- doubling keeps a power of two
 pub twice_rows : (rows : ℕ) → (0 < rows → IsPowerOfTwo rows) → IsPowerOfTwo (max (2 * rows) 16)
 twice_rows rows power =
     elim (cases_lt 8 rows) [

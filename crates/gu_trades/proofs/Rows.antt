@@ -1,4 +1,4 @@
--- Places that are linked along rows: the last one that passes a test, and one more place.
+-- Positions linked along rows: the last that passes a test, and one more position.
 use Rattle.std.proofs.Common.{◌≡◌, ◌∙◌, sym, refl, ap, subst, ℕ, zero, suc, ◌+◌, ◌-◌, ◌%◌, ◌<◌, ◌≤◌, ◌==◌, Bool, true, false, cond, List, [], ◌∷◌, ◌++◌, length, get_or, set, take, inl, inr, eq-eqb, arith, get_or-set_same, get_or-set_other, length-append}
 use Rattle.std.proofs.lemmas.Bool.{cases_Bool, cases_eq, eqb-true, false_from_ne_true}
 use Rattle.std.proofs.lemmas.List.{get_or_append_left, get_or_push, get_or-map, get_or_default, length-map, length-set, length-take, map-append, take_more_set}
@@ -8,7 +8,7 @@ use Rattle.gu_trades.specs.Numbered.{has_number, last_before}
 use Rattle.gu_trades.specs.HashIndex.{EndsRows, IsLinked, is_in_row, numbers_of}
 use Rattle.gu_trades.specs.declared.hash_index.Link.{Link}
 
--- ---- the last place that passes a test
+-- ---- the last position that passes a test
 
 -- is below the bound
 pub last_before-le : (test : ℕ → Bool) (bound : ℕ) → last_before test bound ≤ bound
@@ -28,13 +28,13 @@ last_before-passes test (suc bound) place is =
       | inr miss ↦ last_before-passes test bound place (rw miss at is)
     ]
 
--- is decided by what the test says below the bound
+-- depends only on the test below the bound
 pub last_before-agree : (f g : ℕ → Bool) (bound : ℕ) → ((place : ℕ) → place < bound → f place ≡ g place) → last_before f bound ≡ last_before g bound
 last_before-agree f g zero agree = refl
 last_before-agree f g (suc place) agree =
     rw (agree place (omega arith), last_before-agree f g place (λ p below. agree p (omega arith))) refl
 
--- and is at or before the last that passes a wider test
+-- is at or before the last that passes a wider test
 pub last_before-narrow : (narrow wide : ℕ → Bool) (bound : ℕ) → ((place : ℕ) → place < bound → narrow place ≡ true → wide place ≡ true)
     → last_before narrow bound ≡ last_before narrow (last_before wide bound)
 last_before-narrow narrow wide zero within = refl
@@ -50,7 +50,7 @@ last_before-narrow narrow wide (suc place) within =
 
 -- ---- along a row
 
--- a step back along a row passes over no place with the number
+-- a step back along a row skips no position with the hash
 pub back : (links : List Link) (rows number place : ℕ) (d : Link) → IsLinked links rows → place < length links
     → slice_index (numbers_of links) place % rows ≡ number % rows → (has_number (numbers_of links) number place ≡ false)
     → (last_before (has_number (numbers_of links) number) (suc place) ≡ last_before (has_number (numbers_of links) number) (get_or links place d).before)
@@ -68,7 +68,7 @@ back links rows number place d linked inside row other =
       λ earlier is. eqb-true (slice_index numbers earlier % rows) here (last_before-passes (is_in_row numbers rows here) place earlier (sym to ∙ is)) ∙ row,
     )
 
--- a step back from a place whose number is another
+-- a step back from a position with another hash
 pub step-back : (links : List Link) (rows number at : ℕ) (d : Link) → IsLinked links rows → 0 < at → at ≤ length links
     → (0 < at → slice_index (numbers_of links) (at - 1) % rows ≡ number % rows) → ((get_or links (at - 1) d).number ≡ number → ⊥)
     → (last_before (has_number (numbers_of links) number) at ≡ last_before (has_number (numbers_of links) number) (get_or links (at - 1) d).before)
@@ -86,7 +86,7 @@ step-back links rows number at d linked some inside row other =
       λ more. step.2 ((get_or links (at - 1) d).before - 1) (omega arith),
     )
 
--- where a walk along a row begins
+-- the start of a walk along a row
 module _ (numbers : List ℕ) (rows in_row bound from : ℕ) (start : from ≡ last_before (is_in_row numbers rows in_row) bound) where
   pub start-within : (most : ℕ) → bound ≤ most → from ≤ most
   start-within most below = omega (arith, start, last_before-le (is_in_row numbers rows in_row) bound)
@@ -96,14 +96,14 @@ module _ (numbers : List ℕ) (rows in_row bound from : ℕ) (start : from ≡ l
       let one : from ≡ suc (from - 1) = omega arith in
       eqb-true (slice_index numbers (from - 1) % rows) in_row (last_before-passes (is_in_row numbers rows in_row) bound (from - 1) (sym start ∙ one))
 
-  -- and what it finds
+  -- the result of the walk
   pub found-along : (number result : ℕ) → in_row ≡ number % rows → result ≡ last_before (has_number numbers number) from → result ≡ last_before (has_number numbers number) bound
   found-along number result own is =
       is ∙ ap (last_before (has_number numbers number)) start
       ∙ sym (last_before-narrow (has_number numbers number) (is_in_row numbers rows in_row) bound
       (λ place below here. eq-eqb (slice_index numbers place % rows) in_row (ap (λ n. n % rows) (eqb-true (slice_index numbers place) number here) ∙ sym own)))
 
--- a link that is read, and the walk that begins after it
+-- a link read, and the walk that starts after it
 module _ (links : List Link) (rows place : ℕ) (link : Link) (linked : IsLinked links rows) (inside : place < length links) (is : link ≡ get_or links place link) where
   pub number-read : slice_index (numbers_of links) place ≡ link.number
   number-read = get_or-map (λ (link : Link). link.number) links place link 0 inside ∙ ap (λ (link : Link). link.number) (sym is)
@@ -113,19 +113,19 @@ module _ (links : List Link) (rows place : ℕ) (link : Link) (linked : IsLinked
       ap (λ (link : Link). link.before) is ∙ linked place link inside
       ∙ ap (λ n. last_before (is_in_row (numbers_of links) rows (n % rows)) place) number-read
 
--- the end of a row that is read
+-- the end of a row, as read
 pub end-start : (links : List Link) (last : List ℕ) (row from : ℕ) → EndsRows links last → row < length last → from ≡ get_or last row from
     → from ≡ last_before (is_in_row (numbers_of links) (length last) row) (length links)
 end-start links last row from ends inside is = is ∙ get_or_default last row from 0 inside ∙ ends row inside
 
--- ---- one more place
+-- ---- one more position
 
 module _ (links : List Link) (last : List ℕ) (number : ℕ) (linked : IsLinked links (length last)) (ends : EndsRows links last) (some : 0 < length last) where
-  -- the row of the number
+  -- the row of the hash
   abbrev row : ℕ
   row = number % length last
 
-  -- the new place
+  -- the new position
   abbrev link : Link
   link = record { number = number; before = slice_index last row }
 
@@ -135,24 +135,24 @@ module _ (links : List Link) (last : List ℕ) (number : ℕ) (linked : IsLinked
   length-numbers : length (numbers_of links) ≡ length links
   length-numbers = length-map links (λ (link : Link). link.number)
 
-  -- the places before keep their numbers
+  -- earlier positions keep their hashes
   kept : (place : ℕ) → place < length links → slice_index (numbers_of (links ++ link ∷ [])) place ≡ slice_index (numbers_of links) place
   kept place inside =
       ap (λ numbers. slice_index numbers place) numbers-push
       ∙ get_or_append_left (numbers_of links) (number ∷ []) 0 place (omega (arith, length-numbers))
 
-  -- and the new one has its own
+  -- the new position has its own
   own : slice_index (numbers_of (links ++ link ∷ [])) (length links) ≡ number
   own = ap (λ numbers. slice_index numbers (length links)) numbers-push ∙ get_or_push (numbers_of links) number 0 (length links) length-numbers
 
-  -- so the places before stand in the rows in which they stood
+  -- so earlier positions are in the same rows as before
   rows-kept : (rows in_row bound : ℕ) → bound ≤ length links
       → last_before (is_in_row (numbers_of (links ++ link ∷ [])) rows in_row) bound ≡ last_before (is_in_row (numbers_of links) rows in_row) bound
   rows-kept rows in_row bound inside =
       last_before-agree (is_in_row (numbers_of (links ++ link ∷ [])) rows in_row) (is_in_row (numbers_of links) rows in_row) bound
       (λ place below. ap (λ n. n % rows == in_row) (kept place (omega arith)))
 
-  -- the new place is linked, as the others are
+  -- the new position is linked like the others
   pub linked-push : IsLinked (links ++ link ∷ []) (length last)
   linked-push place d inside =
       elim (cases_eq place (length links)) [
@@ -175,7 +175,7 @@ module _ (links : List Link) (last : List ℕ) (number : ℕ) (linked : IsLinked
       row-within : row < length last
       row-within = omega arith
 
-  -- its row ends at it, and the other rows where they ended
+  -- its row ends at it, and the other rows end as before
   pub ends-push : EndsRows (links ++ link ∷ []) (set last row (length links + 1))
   ends-push other inside =
       let long : length (set last row (length links + 1)) ≡ length last = length-set last row (length links + 1) in
@@ -194,7 +194,7 @@ module _ (links : List Link) (last : List ℕ) (number : ℕ) (linked : IsLinked
       ended : slice_index (set last row (length links + 1)) row ≡ suc (length links)
       ended = get_or-set_same last row (length links + 1) 0 (omega arith) ∙ omega arith
 
--- what is kept after one more place
+-- the index after one more position
 pub places-push : (links new : List Link) (last : List ℕ) (number row count before : ℕ) → length last ≤ 2147483648 → IsLinked links (length last) → EndsRows links last → length links < length last
     → row ≡ number % length last → before ≡ get_or last row before → new ≡ links ++ (record { number = number; before = before }) ∷ [] → count ≡ length new
     → (length (set last row count) ≤ 2147483648) × (length new ≤ length (set last row count))
@@ -213,12 +213,12 @@ places-push links new last number row count before few linked ends room own_row 
       rw (counted, own_row, all) (ends-push links last number linked ends some),
     )
 
--- ---- all places again
+-- ---- relinking all positions
 
--- one place more is linked, and keeps its number
+-- one more position is linked, and keeps its hash
 module _ (links : List Link) (last : List ℕ) (place row : ℕ) (d : Link) (few : length last ≤ 2147483648) (room : length links < length last) (inside : place < length links)
     (linked : IsLinked (take place links) (length last)) (ends : EndsRows (take place links) last) (own_row : row ≡ (get_or links place d).number % length last) where
-  -- its number
+  -- its hash
   abbrev own_number : ℕ
   own_number = (get_or links place d).number
 

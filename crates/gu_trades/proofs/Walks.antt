@@ -1,4 +1,4 @@
--- Walks back along the places of a firm's reports with an id, or of the reports with a match id.
+-- Walks back along the positions of a firm's reports with an id, or of the reports with a match id.
 use Rattle.std.proofs.Common.{◌≡◌, ◌∙◌, ℕ, ◌-◌, ◌<◌, ◌≤◌, ap, map, length, List, true}
 use Rattle.std.specs.Prelude.{slice_index}
 use Rattle.std.proofs.lemmas.Bool.{eqb-true}
@@ -21,7 +21,7 @@ module _ (kept : Inside) (reports : List Report) (is_kept : IsKept kept) (view :
   numbers_by : kept.by_id.numbers ≡ map own_of reports
   numbers_by = is_kept.named ∙ ap (map own_of) view
 
-  -- from the last place with the number
+  -- from the last position with the hash
   pub by-start : (number from : ℕ) → number ≡ id_number kept.seed firm id → from ≡ last_before (has_number kept.by_id.numbers number) (length kept.by_id.numbers)
       → (last_before (is_by_at reports firm id) (length reports) ≡ last_before (is_by_at reports firm id) from) × (from ≤ length reports)
       × (0 < from → slice_index kept.by_id.numbers (from - 1) ≡ id_number kept.seed firm id)
@@ -30,7 +30,7 @@ module _ (kept : Inside) (reports : List Report) (is_kept : IsKept kept) (view :
       (is ∙ ap (λ n. last_before (has_number kept.by_id.numbers n) (length kept.by_id.numbers)) of
       ∙ ap (last_before (has_number kept.by_id.numbers (id_number kept.seed firm id))) (ap length numbers_by ∙ length-map reports own_of))
 
-  -- on from a place
+  -- continuing from a position
   pub by-on : (here next : ℕ) → 0 < here → slice_index kept.by_id.numbers (here - 1) ≡ id_number kept.seed firm id
       → next ≡ last_before (has_number kept.by_id.numbers (slice_index kept.by_id.numbers (here - 1))) (here - 1)
       → (last_before (is_by_at reports firm id) (here - 1) ≡ last_before (is_by_at reports firm id) next) × (next < here)
@@ -44,7 +44,7 @@ module _ (kept : Inside) (reports : List Report) (is_kept : IsKept kept) (view :
   numbers_with : kept.by_match.numbers ≡ map match_of reports
   numbers_with = is_kept.matched ∙ ap (map match_of) view
 
-  -- from the last place with the number
+  -- from the last position with the hash
   pub with-start : (number from : ℕ) → number ≡ match_number kept.seed match_id → from ≡ last_before (has_number kept.by_match.numbers number) (length kept.by_match.numbers)
       → (last_before (is_with_at reports match_id) (length reports) ≡ last_before (is_with_at reports match_id) from) × (from ≤ length reports)
       × (0 < from → slice_index kept.by_match.numbers (from - 1) ≡ match_number kept.seed match_id)
@@ -53,14 +53,14 @@ module _ (kept : Inside) (reports : List Report) (is_kept : IsKept kept) (view :
       (is ∙ ap (λ n. last_before (has_number kept.by_match.numbers n) (length kept.by_match.numbers)) of
       ∙ ap (last_before (has_number kept.by_match.numbers (match_number kept.seed match_id))) (ap length numbers_with ∙ length-map reports match_of))
 
-  -- on from a place
+  -- continuing from a position
   pub with-on : (here next : ℕ) → 0 < here → slice_index kept.by_match.numbers (here - 1) ≡ match_number kept.seed match_id
       → next ≡ last_before (has_number kept.by_match.numbers (slice_index kept.by_match.numbers (here - 1))) (here - 1)
       → (last_before (is_with_at reports match_id) (here - 1) ≡ last_before (is_with_at reports match_id) next) × (next < here)
       × (0 < next → slice_index kept.by_match.numbers (next - 1) ≡ match_number kept.seed match_id)
   with-on = walk-on (λ (r : Report). same_id r.match_id match_id) match_of (match_number kept.seed match_id) (with-agree kept.seed match_id) reports kept.by_match.numbers numbers_with
 
-  -- a place with the match id has its number
+  -- a position with the match id has its hash
   pub with-number : (place : ℕ) → is_with_at reports match_id place ≡ true → slice_index kept.by_match.numbers place ≡ match_number kept.seed match_id
   with-number place own =
       eqb-true (slice_index kept.by_match.numbers place) (match_number kept.seed match_id)

@@ -1,15 +1,15 @@
--- Machinery: reports as they are kept. The texts of all are in one list of bytes, and of each report it is known where its own are.
+-- Machinery: reports as stored. The texts of all are in one list of bytes, and each report says where its own are.
 use Rattle.std.specs.Prelude.{ℕ, ◌+◌, ◌≤◌, ◌++◌, List, length}
 use Rattle.gu_terms.specs.PackedEntries.{text_at}
 use Rattle.gu_terms.specs.Names.{IsId, IsName}
 use Rattle.gu_terms.specs.declared.report.Report.{Report}
 use Rattle.gu_trades.specs.declared.packed.Packed.{Packed}
 
--- the texts of a report, one after the other: its two ids, and the names of its firm, symbol and account
+-- the texts of a report, joined in order: its two ids, and the names of its firm, symbol and account
 abbrev pub texts_of : Report → List ℕ
 texts_of r = r.id ++ (r.match_id ++ (r.firm.name ++ (r.symbol.name ++ r.account.name)))
 
--- they are ids and names
+-- a report's texts are valid ids and names
 pub record HasIdsAndNames (r : Report) : Type 0 where
   pub own : IsId r.id
   pub matched : IsId r.match_id
@@ -17,7 +17,7 @@ pub record HasIdsAndNames (r : Report) : Type 0 where
   pub symbol : IsName r.symbol.name
   pub account : IsName r.account.name
 
--- what is kept of a report whose texts begin at a place
+-- the stored form of a report whose texts start at this position
 abbrev pub kept_at : ℕ → Report → Packed
 kept_at at r =
     record {
@@ -33,7 +33,7 @@ kept_at at r =
       price = r.price;
     }
 
--- the report that is kept so
+-- the report stored as this, with its texts taken from all texts
 abbrev pub report_of_kept : List ℕ → Packed → Report
 report_of_kept texts kept =
     record {
@@ -48,7 +48,7 @@ report_of_kept texts kept =
       account = record { name = text_at texts (kept.at + kept.own + kept.matched + kept.firm + kept.symbol) kept.account };
     }
 
--- its texts are within those of all, and are ids and names
+-- its texts lie within all texts, and are valid ids and names
 pub record IsWithin (texts : List ℕ) (kept : Packed) : Type 0 where
   pub within : kept.at + kept.own + kept.matched + kept.firm + kept.symbol + kept.account ≤ length texts
   pub sound : HasIdsAndNames (report_of_kept texts kept)

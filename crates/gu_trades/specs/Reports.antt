@@ -1,4 +1,4 @@
--- The reports that the house took in, by their firms' ids and by their match ids.
+-- The reports that the house accepted, by their firms' ids and by match id.
 use Rattle.std.specs.Prelude.{◌&&◌, Bool, List, Option, filter}
 use Rattle.std.specs.List.{find, list_any}
 use Rattle.gu_terms.specs.declared.account.AccountId.{AccountId}
@@ -13,7 +13,7 @@ use Rattle.gu_terms.specs.declared.side.Side.{Side}
 use Rattle.gu_terms.specs.declared.symbol.Symbol.{Symbol}
 use Rattle.gu_terms.specs.Same.{same_firm, same_id}
 
--- a report, from its nine words; the day is the one that was open
+-- a report made from its nine parts; the day is the one that was open
 abbrev pub report_of : FirmId → Id → Id → Symbol → Lots → Price → Day → Side → AccountId → Report
 report_of firm id match_id symbol lots price day side account =
     record {
@@ -28,7 +28,7 @@ report_of firm id match_id symbol lots price day side account =
       account = account;
     }
 
--- the report that a firm asks for, as it is made on a day
+-- the report that a firm submits, as made on this day
 abbrev pub made_on : Day → ReportSide → Report
 made_on today r = report_of r.firm r.id r.match_id r.symbol r.lots r.price today r.side r.account
 

@@ -1,4 +1,4 @@
--- The answer to the question for a match id, as a list of reports.
+-- The reports with a match id, as a list.
 use Rattle.std.specs.Prelude.{List, [], ◌∷◌}
 use Rattle.gu_terms.specs.declared.report.Report.{Report}
 use Rattle.gu_trades.specs.declared.sides.Sides.{Sides}

@@ -1,14 +1,14 @@
-//! What a new report meets under its match id.
+//! Counterparts of a new report.
 
 use crate::terms::Terms;
 
-/// What a new report meets under its match id.
+/// The counterpart of a new report under its match id.
 #[derive(Clone, Copy, Debug, PartialEq, Eq)]
 pub enum Counterpart {
-    /// No report.
+    /// There is no report with its match id.
     Nobody,
-    /// A report that waits for it, by its terms.
+    /// A report with these terms waits for it.
     Waiting(Terms),
-    /// Two reports, or one that isn't its other side.
+    /// There are two reports, or one that isn't its other side.
     Conflicting,
 }

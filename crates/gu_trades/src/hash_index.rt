@@ -1,4 +1,4 @@
-//! Places of a list, found by numbers that are kept of its elements.
+//! A hash index: finds positions in a list by the stored hashes of its elements.
 
 ghost use Rattle.std.specs.Int.{IsPowerOfTwo};
 ghost use Rattle.std.specs.Prelude.{◌≡◌, ◌+◌, ◌<◌, ◌≤◌, ◌++◌, ◌∷◌, ◌%◌, [], length, replicate, slice_index, OnOk, ◌-◌};
@@ -10,24 +10,24 @@ use std::alloc::{AllocError, Global};
 use std::hash::{BuildHasher, Hash};
 use std::marker::Model;
 
-/// As few rows as there are, and as many.
+/// The least and the greatest number of rows.
 const FEWEST_ROWS: usize = 16;
 
 const MOST_ROWS: usize = 1 << 31;
 
-/// The number of a place, and the place before it in its row, counted from 1; 0 where it is the first.
+/// The hash at a position, and the previous position in its row, counted from 1; 0 if it is the first.
 #[derive(Clone, Copy, Debug)]
 struct Link {
     number: u32,
     before: u32,
 }
 
-/// The places of a list, by numbers that are kept of its elements. To a contract it is the list of these numbers, and how many more
-/// can be kept without memory.
+/// An index of a list by the stored hashes of its elements. To a contract it is the list of hashes, and how many more fit without an
+/// allocation.
 #[derive(Drop)]
 pub(crate) struct HashIndex {
     links: Vec<Link>,
-    /// The last place of each row, counted from 1; 0 where the row is empty. A number's row is its remainder.
+    /// The last position in each row, counted from 1; 0 if the row is empty. A hash belongs to the row of its remainder.
     last: Vec<u32>,
 }
 
@@ -43,14 +43,14 @@ impl Model for HashIndex {
     ghost invariant = { IsHashIndex };
 }
 
-/// The number that is kept of a key.
+/// Returns the stored hash of a key.
 pub(crate) fn number_of<K: Hash + Drop>(seed: &Seed, key: K) -> u32
     ensures { result ≡ number_of seed.now (K.hash_input key) }
 {
     (seed.hash_one(key) >> 32) as u32
 }
 
-/// The row of a number. The rows are a power of two, so its remainder takes no division.
+/// Returns the row of a hash. The number of rows is a power of two, so the remainder needs no division.
 #[inline(always)]
 fn row_of(number: u32, rows: usize) -> usize
     requires { IsPowerOfTwo rows }
@@ -59,7 +59,7 @@ fn row_of(number: u32, rows: usize) -> usize
     number as usize & (rows - 1)
 }
 
-/// The last place with a number, from one back along its row. Places are counted from 1.
+/// Returns the last position with this hash, following its row back from `from`. Positions are counted from 1.
 fn along(links: &[Link], rows: usize, from: u32, number: u32) -> u32
     requires linked { IsLinked links.now rows }
     requires within { from ≤ length links.now }
@@ -77,7 +77,7 @@ fn along(links: &[Link], rows: usize, from: u32, number: u32) -> u32
     0
 }
 
-/// Links all places along these rows, which are empty, whatever they were linked along before.
+/// Links all positions into these rows, which are empty. Earlier links are overwritten.
 fn link_all(links: &mut [Link], last: &mut [u32])
     requires empty { last.old ≡ replicate (length last.old) 0 }
     requires few { length last.old ≤ MOST_ROWS }
@@ -98,7 +98,7 @@ fn link_all(links: &mut [Link], last: &mut [u32])
 }
 
 impl HashIndex {
-    /// No places.
+    /// Returns an empty index.
     pub(crate) fn new(alloc: Global) -> Self
         ensures { result.numbers ≡ [] }
     {
@@ -108,7 +108,7 @@ impl HashIndex {
         }
     }
 
-    /// The last place with a number, counted from 1; 0 where there is none.
+    /// Returns the last position with a hash, counted from 1; 0 if there is none.
     pub(crate) fn last(&self, number: u32) -> u32
         ensures { result ≡ last_before (has_number self.now.numbers number) (length self.now.numbers) }
     {
@@ -120,7 +120,7 @@ impl HashIndex {
         along(&self.links, rows, from, number)
     }
 
-    /// The number of a place.
+    /// Returns the hash at a position.
     pub(crate) fn number(&self, place: usize) -> u32
         requires { place < length self.now.numbers }
         ensures { result ≡ slice_index self.now.numbers place }
@@ -128,7 +128,7 @@ impl HashIndex {
         self.links[place].number
     }
 
-    /// The last place before this one with the same number, counted from 1; 0 where there is none.
+    /// Returns the previous position with the same hash, counted from 1; 0 if there is none.
     pub(crate) fn before(&self, place: usize) -> u32
         requires { place < length self.now.numbers }
         ensures { result ≡ last_before (has_number self.now.numbers (slice_index self.now.numbers place)) place }
@@ -137,7 +137,7 @@ impl HashIndex {
         along(&self.links, self.last.len(), link.before, link.number)
     }
 
-    /// Makes room for one more number.
+    /// Makes room for one more hash.
     #[inline(always)]
     pub(crate) fn reserve(&mut self) -> Result<(), AllocError>
         ensures numbers { self.new.numbers ≡ self.old.numbers }
@@ -149,7 +149,7 @@ impl HashIndex {
         self.grow()
     }
 
-    /// Doubles the rows, and links all places along them.
+    /// Doubles the number of rows, and links all positions into them.
     #[cold]
     fn grow(&mut self) -> Result<(), AllocError>
         ensures numbers { self.new.numbers ≡ self.old.numbers }
@@ -162,13 +162,13 @@ impl HashIndex {
         self.links.reserve(rows - self.links.len())?;
         self.last.reserve(rows - self.last.len())?;
         self.last.clear();
-        // There is room, so that this doesn't fail.
+        // There is room, so this can't fail.
         self.last.resize(rows, 0)?;
         link_all(&mut self.links, &mut self.last);
         Ok(())
     }
 
-    /// Keeps one more number, for which there is room.
+    /// Adds a hash, for which there is room.
     pub(crate) fn push(&mut self, number: u32)
         requires { 0 < self.old.spare }
         ensures numbers { self.new.numbers ≡ self.old.numbers ++ number ∷ [] }

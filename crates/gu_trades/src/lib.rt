@@ -1,4 +1,4 @@
-//! Trades: the accepted reports of the house, found by their firms' ids and by their match ids.
+//! Trades: the accepted reports of the house, by their firms' ids and by match id.
 #![tactic(auto)]
 
 mod counterpart;

@@ -1,4 +1,4 @@
-//! A report as it is kept: without the room that its texts leave empty.
+//! A report as stored: without the padding of its texts.
 
 ghost use Rattle.std.specs.Prelude.{◌≡◌, ◌+◌, ◌≤◌, length};
 ghost use Rattle.gu_terms.specs.Names.{IsId, IsName};
@@ -13,12 +13,12 @@ use crate::terms::Terms;
 use gu_terms::{AccountId, Day, FirmId, Id, Lots, Name, Price, Report, ReportSide, Side, Symbol};
 use std::marker::Model;
 
-/// A report without its ids and names, which are among the texts of all reports, one after the other.
+/// A report without its ids and names, which are stored in the texts of all reports.
 #[derive(Clone, Copy)]
 pub(crate) struct Packed {
-    /// Where its texts begin.
+    /// The position of its first text.
     at: u32,
-    /// How many bytes each has: its own id and its match id, and the names of its firm, symbol and account.
+    /// The lengths of its texts in bytes: its own id, its match id, and the names of its firm, symbol and account.
     own: u8,
     matched: u8,
     firm: u8,
@@ -30,7 +30,7 @@ pub(crate) struct Packed {
     price: Price,
 }
 
-/// A report where it is kept, beside the texts of all. To a contract it is the report.
+/// A reference to a stored report and the texts of all reports. To a contract it is the report.
 #[derive(Drop)]
 pub(crate) struct KeptRef<'a> {
     kept: &'a Packed,
@@ -49,7 +49,7 @@ impl<'a> Model for KeptRef<'a> {
 }
 
 impl Packed {
-    /// A report that is made on this day, as it is kept, where its texts begin at this place.
+    /// Returns the stored form of a report made on this day, with its texts starting at this position.
     pub(crate) fn of(report: &ReportSide, today: Day, at: u32) -> Self
         ensures kept { result ≡ kept_at at (made_on today report.now) }
         ensures sound { HasIdsAndNames (made_on today report.now) }
@@ -68,7 +68,7 @@ impl Packed {
         }
     }
 
-    /// Where the name of its firm begins.
+    /// Returns the position of its firm's name.
     fn names_at(self) -> usize
         ensures { result ≡ self.at + self.own + self.matched }
     {
@@ -76,7 +76,7 @@ impl Packed {
     }
 }
 
-/// So many bytes of the texts, from a place on.
+/// Returns `len` bytes of the texts, starting at `at`.
 fn text_at(texts: &[u8], at: usize, len: u8) -> &[u8]
     requires { at + len ≤ length texts.now }
     ensures { result.now ≡ text_at texts.now at len }
@@ -85,7 +85,7 @@ fn text_at(texts: &[u8], at: usize, len: u8) -> &[u8]
 }
 
 impl<'a> KeptRef<'a> {
-    /// The report that is kept so among these texts.
+    /// Returns a reference to the report stored with these texts.
     pub(crate) fn new(kept: &'a Packed, texts: &'a [u8]) -> Self
         requires { IsWithin texts.now kept.now }
         ensures { result ≡ report_of_kept texts.now kept.now }
@@ -93,7 +93,7 @@ impl<'a> KeptRef<'a> {
         KeptRef { kept, texts }
     }
 
-    /// The bytes of its own id.
+    /// Returns the bytes of its own id.
     fn own_id(&self) -> &[u8]
         ensures bytes { result.now ≡ self.now.id }
         ensures sound { IsId self.now.id }
@@ -101,7 +101,7 @@ impl<'a> KeptRef<'a> {
         text_at(self.texts, self.kept.at as usize, self.kept.own)
     }
 
-    /// The bytes of its match id.
+    /// Returns the bytes of its match id.
     pub(crate) fn match_bytes(&self) -> &[u8]
         ensures bytes { result.now ≡ self.now.match_id }
         ensures sound { IsId self.now.match_id }
@@ -110,7 +110,7 @@ impl<'a> KeptRef<'a> {
         text_at(self.texts, from, self.kept.matched)
     }
 
-    /// The bytes of its firm's name.
+    /// Returns the bytes of its firm's name.
     fn firm(&self) -> &[u8]
         ensures bytes { result.now ≡ self.now.firm.name }
         ensures sound { IsName self.now.firm.name }
@@ -118,35 +118,35 @@ impl<'a> KeptRef<'a> {
         text_at(self.texts, self.kept.names_at(), self.kept.firm)
     }
 
-    /// Whether it is the firm's with this id.
+    /// Returns whether it is this firm's report with this id.
     pub(crate) fn is_by(&self, firm: &FirmId, id: &Id) -> bool
         ensures { result ≡ is_by firm.now id.now self.now }
     {
         same_text(self.own_id(), id.get()) && self.firm() == firm.get()
     }
 
-    /// Whether it has this match id.
+    /// Returns whether it has this match id.
     pub(crate) fn is_with(&self, match_id: &Id) -> bool
         ensures { result ≡ same_id self.now.match_id match_id.now }
     {
         self.has_match(match_id.get())
     }
 
-    /// Whether these are the bytes of its match id.
+    /// Returns whether these are the bytes of its match id.
     pub(crate) fn has_match(&self, match_id: &[u8]) -> bool
         ensures { result ≡ same_id self.now.match_id match_id.now }
     {
         same_text(self.match_bytes(), match_id)
     }
 
-    /// Its match id.
+    /// Returns its match id.
     fn match_id(&self) -> Id
         ensures { result ≡ self.now.match_id }
     {
         Id::known(self.match_bytes())
     }
 
-    /// Its terms.
+    /// Returns its terms.
     pub(crate) fn terms(&self) -> Terms
         ensures { result ≡ terms_of self.now }
     {
@@ -167,7 +167,7 @@ impl<'a> KeptRef<'a> {
         }
     }
 
-    /// The whole report.
+    /// Returns the whole report.
     pub(crate) fn report(&self) -> Report
         ensures { result ≡ self.now }
     {

@@ -1,4 +1,4 @@
-//! Reports, as they are kept.
+//! Reports as stored.
 
 ghost use Rattle.std.specs.Prelude.{◌≡◌, ◌++◌, ◌∷◌, [], ◌<◌, All, length, map, slice_get, OnErr, OnOk, Some};
 ghost use Rattle.gu_terms.specs.declared.day.Day.{Day as DayOf};
@@ -10,17 +10,17 @@ use gu_terms::{Day, ReportSide, TextStore};
 use std::alloc::{AllocError, Global};
 use std::marker::Model;
 
-/// The bytes of texts that are kept at most, or a few more. A report that comes then is answered as for a failed allocation.
+/// The most bytes of texts, or a few more. A further report gets AllocError.
 const MOST_TEXTS: usize = 4_000_000_000;
 
-/// The bytes that the texts of a report have at most: two ids and three names.
+/// The most bytes in a report's texts: two ids and three names.
 const LONGEST_TEXTS: usize = 2 * 64 + 3 * 12;
 
-/// Reports, in the order in which they came. To a contract it is their list.
+/// A list of reports in the order of arrival. To a contract it is their list.
 #[derive(Drop)]
 pub(crate) struct Reports {
     rows: Vec<Packed>,
-    /// The ids and names of all reports, one after the other.
+    /// The ids and names of all reports, in order.
     texts: TextStore,
 }
 
@@ -36,7 +36,7 @@ impl Model for Reports {
     ghost invariant = { λ r. All (IsWithin r.texts.bytes) r.rows.items };
 }
 
-/// Appends the texts of a report, or none.
+/// Appends all texts of a report, or none.
 fn append_texts(texts: &mut TextStore, report: &ReportSide) -> Result<(), AllocError>
     ensures appended { OnOk result ((today : DayOf) → texts.new.bytes ≡ texts.old.bytes ++ texts_of (made_on today report.now)) }
     ensures refused { OnErr result (texts.new.bytes ≡ texts.old.bytes) }
@@ -50,7 +50,7 @@ fn append_texts(texts: &mut TextStore, report: &ReportSide) -> Result<(), AllocE
     Ok(())
 }
 
-/// Adds what is kept of a report that is made on this day after the others, and its texts after theirs. The allocations come first.
+/// Adds the stored form of a report made on this day, and its texts. All allocations come first.
 fn add(
     rows: &mut Vec<Packed>,
     texts: &mut TextStore,
@@ -74,7 +74,7 @@ fn add(
 }
 
 impl Reports {
-    /// No reports.
+    /// Returns an empty list.
     pub(crate) fn new(alloc: Global) -> Self
         ensures { result ≡ [] }
     {
@@ -84,7 +84,7 @@ impl Reports {
         }
     }
 
-    /// The report at a place, where it is kept.
+    /// Returns a reference to the report at an index.
     pub(crate) fn kept(&self, place: usize) -> KeptRef<'_>
         requires { place < length self.now }
         ensures { slice_get self.now place ≡ Some result }
@@ -92,7 +92,7 @@ impl Reports {
         KeptRef::new(&self.rows[place], self.texts.get())
     }
 
-    /// Puts a report that is made on this day after the others.
+    /// Adds a report made on this day after the others.
     pub(crate) fn push(&mut self, report: &ReportSide, today: Day) -> Result<(), AllocError>
         ensures added { OnOk result (self.new ≡ self.old ++ made_on today report.now ∷ []) }
         ensures refused { OnErr result (self.new ≡ self.old) }

@@ -1,10 +1,10 @@
-//! Short texts, compared by numbers of their bytes.
+//! Comparison of short texts, several bytes at a time.
 
 ghost use Rattle.std.specs.Prelude.{◌≡◌, ◌+◌, ◌≤◌, drop, length, take};
 ghost use Rattle.std.specs.Int.{from_le_bytes, w32, w64};
 ghost use Rattle.std.specs.Str.{bytes_eq};
 
-/// Four bytes from a place on, as one number.
+/// Returns the four bytes at a position as one number.
 fn four_at(text: &[u8], at: usize) -> u32
     requires { at + 4 ≤ length text.now }
     ensures { result ≡ from_le_bytes w32 (take 4 (drop at text.now)) }
@@ -12,7 +12,7 @@ fn four_at(text: &[u8], at: usize) -> u32
     u32::from_le_bytes([text[at], text[at + 1], text[at + 2], text[at + 3]])
 }
 
-/// Eight bytes from a place on, as one number.
+/// Returns the eight bytes at a position as one number.
 fn eight_at(text: &[u8], at: usize) -> u64
     requires { at + 8 ≤ length text.now }
     ensures { result ≡ from_le_bytes w64 (take 8 (drop at text.now)) }
@@ -29,7 +29,7 @@ fn eight_at(text: &[u8], at: usize) -> u64
     ])
 }
 
-/// Whether two texts of one length, which is 4 to 8, are the same: by their first four bytes and their last four.
+/// Returns whether two texts of the same length, 4 to 8, are equal: compares the first four bytes and the last four.
 fn same_by_fours(left: &[u8], right: &[u8]) -> bool
     requires one { length left.now ≡ length right.now }
     requires some { 4 ≤ length left.now }
@@ -40,7 +40,7 @@ fn same_by_fours(left: &[u8], right: &[u8]) -> bool
     four_at(left, 0) == four_at(right, 0) && four_at(left, rest) == four_at(right, rest)
 }
 
-/// Whether two texts of one length, which is 8 to 16, are the same: by their first eight bytes and their last eight.
+/// Returns whether two texts of the same length, 8 to 16, are equal: compares the first eight bytes and the last eight.
 fn same_by_eights(left: &[u8], right: &[u8]) -> bool
     requires one { length left.now ≡ length right.now }
     requires some { 8 ≤ length left.now }
@@ -51,7 +51,7 @@ fn same_by_eights(left: &[u8], right: &[u8]) -> bool
     eight_at(left, 0) == eight_at(right, 0) && eight_at(left, rest) == eight_at(right, rest)
 }
 
-/// Whether two texts are the same. Most ids are short, and need no loop.
+/// Returns whether two texts are equal. Most ids are short and need no loop.
 #[inline(always)]
 pub(crate) fn same_text(left: &[u8], right: &[u8]) -> bool
     ensures { result ≡ bytes_eq left.now right.now }

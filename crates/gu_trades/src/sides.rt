@@ -7,19 +7,19 @@ ghost use Rattle.gu_trades.specs.Matching.{conflicts};
 use crate::terms::Terms;
 use gu_terms::Report;
 
-/// The reports with one match id, in the order in which they came.
+/// The reports with one match id, in the order of arrival.
 #[derive(Clone, Copy, Debug, PartialEq, Eq)]
 pub enum Sides {
-    /// Nobody has reported it.
+    /// No report has this match id.
     Neither,
-    /// The first, which waits for its other side.
+    /// The first report, which waits for its other side.
     One(Report),
     /// A trade.
     Both(Report, Report),
 }
 
 impl Sides {
-    /// Whether a new report with this match id can't be taken in: there are two, or one that isn't its other side.
+    /// Returns whether a new report with this match id conflicts: there are two already, or one that isn't its other side.
     pub fn conflicts_with(&self, report: &Report) -> bool
         ensures { result ≡ conflicts (reports_in self.now) report.now }
     {

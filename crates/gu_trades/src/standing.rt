@@ -1,11 +1,11 @@
-//! A report among the others.
+//! A report's terms and status.
 
 use crate::terms::Terms;
 
-/// A report that was taken in, as it is among the others.
+/// An accepted report's terms, and whether it is a side of a trade.
 #[derive(Clone, Copy, Debug, PartialEq, Eq)]
 pub struct Standing {
     pub terms: Terms,
-    /// Whether its match id has two reports, which are a trade.
+    /// Whether two reports have its match id, and so make a trade.
     pub is_of_trade: bool,
 }

@@ -1,4 +1,4 @@
-//! The terms of a trade, as a report says them.
+//! The terms of a trade, as a report gives them.
 
 ghost use Rattle.std.specs.Prelude.{◌≡◌};
 ghost use Rattle.gu_trades.specs.Matching.{have_other_sides};
@@ -7,20 +7,20 @@ ghost use Rattle.gu_trades.specs.Terms.{terms_of};
 
 use gu_terms::{AccountId, Day, Lots, Price, Report, ReportSide, Side, Symbol};
 
-/// What a report says but its firm and its ids. The fields are ordered from small to large, so that they take little room.
+/// A report without its firm and its ids. Fields go from small to large, to save room.
 #[derive(Clone, Copy, Debug, PartialEq, Eq)]
 pub struct Terms {
     pub symbol: Symbol,
     pub account: AccountId,
     pub side: Side,
-    /// The day that was open when it was taken in.
+    /// The day that was open when it was accepted.
     pub day: Day,
     pub lots: Lots,
     pub price: Price,
 }
 
 impl Terms {
-    /// Those of a report.
+    /// Returns the terms of a report.
     pub(crate) fn of(report: &Report) -> Self
         ensures { result ≡ terms_of report.now }
     {
@@ -34,7 +34,7 @@ impl Terms {
         }
     }
 
-    /// Returns the terms of a report that is made on this day.
+    /// Returns the terms of a report made on this day.
     pub fn on(today: Day, report: &ReportSide) -> Self
         ensures { result ≡ terms_of (made_on today report.now) }
     {
@@ -48,7 +48,7 @@ impl Terms {
         }
     }
 
-    /// Whether these and others are of the two sides of one trade.
+    /// Returns whether these terms and the others are for the two sides of one trade.
     pub(crate) fn have_other_sides(&self, other: &Terms) -> bool
         ensures { result ≡ have_other_sides self.now other.now }
     {

@@ -1,4 +1,4 @@
-//! The reports of the house, in the order in which they were taken in.
+//! The house's reports, in the order in which they were accepted.
 
 ghost use Rattle.std.specs.Prelude.{◌≡◌, ◌++◌, ◌∷◌, [], false, Some, Contains, is_some, OnOk, OnErr, IfOk, ◌<◌, length, slice_get, true};
 ghost use Rattle.std.specs.Option.{option_map};
@@ -23,7 +23,7 @@ use gu_terms::{AccountId, Day, FirmId, Id, Lots, Price, Report, ReportSide, Seed
 use std::alloc::{AllocError, Global};
 use std::marker::Model;
 
-/// The reports that were taken in, each id of a firm once, and each match id once or as a trade. To a contract it is the list of them.
+/// The accepted reports: each id of a firm occurs once, and each match id once or as a trade. To a contract it is their list.
 pub struct Trades {
     reports: Reports,
     by_id: HashIndex,
@@ -58,14 +58,14 @@ impl Model for Trades {
     ghost invariant = { IsKept };
 }
 
-/// The number that is kept of a firm and an id.
+/// Returns the stored hash of a firm and an id.
 fn id_number(seed: &Seed, firm: &FirmId, id: &Id) -> u32
     ensures { result ≡ id_number seed.now firm.now id.now }
 {
     number_of(seed, (firm, id))
 }
 
-/// The number that is kept of a match id.
+/// Returns the stored hash of a match id.
 fn match_number(seed: &Seed, match_id: &Id) -> u32
     ensures { result ≡ match_number seed.now match_id.now }
 {
@@ -73,14 +73,14 @@ fn match_number(seed: &Seed, match_id: &Id) -> u32
 }
 
 impl Trades {
-    /// No reports.
+    /// Returns an empty table.
     pub fn new(alloc: Global) -> Self
         ensures { result ≡ [] }
     {
         Trades::seeded(alloc, Seed::new(0))
     }
 
-    /// No reports, with a seed by which ids are found. What is answered doesn't depend on it.
+    /// Returns an empty table whose id hashes use `seed`. The seed affects no answer.
     pub fn seeded(alloc: Global, seed: Seed) -> Self
         ensures { result ≡ [] }
     {
@@ -92,16 +92,16 @@ impl Trades {
         }
     }
 
-    /// The rules of all reports that were taken in. Each is the one that its firm and its id find.
+    /// Shows the prover the rules of all accepted reports: looking up a report's firm and id finds that report.
     pub fn rules(&self)
         ensures sound { IsSound self.now }
         ensures own { (report : ReportOf) → Contains self.now report → report_by self.now report.firm report.id ≡ Some report }
     {
-        // A field that is read shows what the type keeps.
+        // Reading a field shows the prover the invariant of its type.
         let _ = &self.reports;
     }
 
-    /// The place of the firm's last report with this id, counted from 1; 0 where there is none.
+    /// Returns the position of the firm's last report with this id, counted from 1; 0 if there is none.
     fn last_by(&self, firm: &FirmId, id: &Id) -> u32
         ensures placed { result ≡ last_before (is_by_at self.now firm.now id.now) (length self.now) }
         ensures sound { IsSound self.now }
@@ -117,7 +117,7 @@ impl Trades {
         0
     }
 
-    /// The places of the last two reports with this match id, counted from 1, the later one first; 0 where there is none.
+    /// Returns the positions of the last two reports with this match id, counted from 1, the later first; 0 if there is none.
     fn last_two(&self, match_id: &Id) -> (u32, u32)
         ensures placed { ArePlaced self.now match_id.now result.0 result.1 }
         ensures sound { are_sides (with_match match_id.now self.now) ≡ true }
@@ -137,7 +137,7 @@ impl Trades {
         (last, 0)
     }
 
-    /// The reports with this match id, two at most, in the order in which they came.
+    /// Returns the reports with this match id, at most two, in the order of arrival.
     pub fn trade(&self, match_id: Id) -> Sides
         ensures { reports_in result ≡ with_match match_id self.now }
     {
@@ -152,7 +152,7 @@ impl Trades {
         Sides::Both(self.reports.kept(first as usize - 1).report(), later)
     }
 
-    /// What a new report with this match id and these terms meets.
+    /// Returns the counterpart of a new report with this match id and these terms.
     pub fn counterpart(&self, match_id: &Id, terms: &Terms) -> Counterpart
         ensures { result ≡ counterpart_of (with_match match_id.now self.now) terms.now }
     {
@@ -171,7 +171,7 @@ impl Trades {
         }
     }
 
-    /// The firm's report with this id.
+    /// Returns the firm's report with this id.
     pub fn side_of(&self, firm: FirmId, id: Id) -> Option<Report>
         ensures found { result ≡ report_by self.now firm id }
         ensures known { is_some result ≡ has_report self.now firm id }
@@ -183,14 +183,14 @@ impl Trades {
         Some(self.reports.kept(at as usize - 1).report())
     }
 
-    /// Whether the firm has a report with this id.
+    /// Returns whether the firm has a report with this id.
     pub fn has(&self, firm: &FirmId, id: &Id) -> bool
         ensures { result ≡ has_report self.now firm.now id.now }
     {
         self.last_by(firm, id) != 0
     }
 
-    /// The terms of the firm's report with this id.
+    /// Returns the terms of the firm's report with this id.
     pub fn terms(&self, firm: &FirmId, id: &Id) -> Option<Terms>
         ensures { result ≡ option_map terms_of (report_by self.now firm.now id.now) }
     {
@@ -201,7 +201,7 @@ impl Trades {
         Some(self.reports.kept(at as usize - 1).terms())
     }
 
-    /// The firm's report with this id, as it is now.
+    /// Returns the firm's report with this id: its terms, and whether it is a side of a trade.
     pub fn standing(&self, firm: &FirmId, id: &Id) -> Option<Standing>
         ensures { result ≡ option_map (standing_in self.now) (report_by self.now firm.now id.now) }
     {
@@ -216,7 +216,7 @@ impl Trades {
         })
     }
 
-    /// Takes in a report whose id is new, and whose match id has no report or its other side alone.
+    /// Adds a report whose id is new and whose match id has no report, or only its other side.
     pub fn report(
         &mut self,
         firm: FirmId,
@@ -251,7 +251,7 @@ impl Trades {
         Ok(matching)
     }
 
-    /// Whether the report at a place is a side of a trade.
+    /// Returns whether the report at an index is a side of a trade.
     fn is_of_trade(&self, place: usize) -> bool
         requires { place < length self.now }
         ensures { option_map (is_of_trade self.now) (slice_get self.now place) ≡ Some result }
@@ -269,7 +269,7 @@ impl Trades {
         false
     }
 
-    /// What one more report with this match id does.
+    /// Returns the effect of one more report with this match id.
     fn matching(&self, match_id: &Id) -> Matching
         ensures { result ≡ matching_of (with_match match_id.now self.now) }
     {
@@ -277,14 +277,14 @@ impl Trades {
         Matching::behind(last)
     }
 
-    /// Takes in a report on this day as `report` does, without an answer: for a caller that knows the reports with its match id.
+    /// Adds a report on this day as `report` does, without returning its effect, for a caller that knows the reports with its match id.
     pub fn push(&mut self, report: &ReportSide, today: Day) -> Result<(), AllocError>
         requires new_id { has_report self.old report.now.firm report.now.id ≡ false }
         requires fits { conflicts (with_match report.now.match_id self.old) (made_on today report.now) ≡ false }
         ensures taken { OnOk result (self.new ≡ self.old ++ made_on today report.now ∷ []) }
         ensures refused { OnErr result (self.new ≡ self.old) }
     {
-        // The allocations come first, so that one that fails leaves all as it was.
+        // All allocations come first, so a failed one leaves everything unchanged.
         self.by_id.reserve()?;
         self.by_match.reserve()?;
         self.reports.push(report, today)?;

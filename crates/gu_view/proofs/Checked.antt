@@ -1,4 +1,4 @@
--- What the verdict on takes and a cut says.
+-- The meaning of the verdict on takes and a cut.
 use Rattle.std.proofs.Common.{◌≡◌, ℕ, ◌+◌, ◌≤◌, ◌<◌, ◌&&◌, ◌==◌, not, nat_lt, Bool, true, false, cond, List, [], ◌∷◌, Option, Some, None, Result, Ok, Err, length, take, get_or, refl, sym, ap, ◌∙◌, arith, inl, inr}
 use Rattle.std.specs.Prelude.{All, find, sum, sum_by, OnOk}
 use Rattle.std.specs.List.{list_any, zip}
@@ -40,7 +40,7 @@ offers_small view marks sound =
     omega (arith, sum_by-zip-le (λ (o : ViewOffer). o.lots) 1000000 view.offers marks (recursion_from_All (λ (o : ViewOffer). o.lots ≤ 1000000) view.offers (λ i d inside. (sound.lots i d inside).most)), sound.few)
 
 module _ (view : GroupView) (taken : List ℕ) (keys numbers : List Bool) (lots : ℕ → ℕ) (cut : CutLists) (marked : IsMarked view taken keys numbers lots cut) where
-  -- the sums that are taken by places are those of the definitions
+  -- the sums over indexes equal those in the definitions
   total_is : (n : ℕ) → n ≡ sum taken → total view.offers lots ≡ n
   total_is n is = sym (is ∙ ap sum marked.taken_are ∙ sum-map (λ (o : ViewOffer). lots o.number) view.offers)
 
@@ -78,7 +78,7 @@ named_none : {X : Type 0} (f : X → CutFault) (found : Option X) → option_map
 named_none f None h = refl
 named_none f (Some x) h = cc
 
--- what a list has where the search for another finds nothing
+-- what holds if the search for a counterexample finds nothing
 all_known : {X : Type 0} (f : X → CutFault) (known : X → Bool) (xs : List X) → option_map f (find (λ x. not (known x)) xs) ≡ None → All (λ x. known x ≡ true) xs
 all_known f known xs h =
     All-from_recursion (λ x. known x ≡ true) xs
@@ -98,7 +98,7 @@ none_above : {X : Type 0} (f : X → CutFault) (bound n : X → ℕ) (xs : List 
 none_above f bound n xs h =
     ap (option_map f) (none_found (λ x. nat_lt (bound x) (n x)) xs (along (λ x. n x ≤ bound x) (λ x. nat_lt (bound x) (n x) ≡ false) xs (λ x e. le-ltb (bound x) (n x) e) (recursion_from_All (λ x. n x ≤ bound x) xs h)))
 
--- two offers are of one agreement
+-- two offers are under the same agreement
 agreement-same : (a b : ViewOffer) → same_agreement a b ≡ true → a.agreement ≡ b.agreement
 agreement-same a b h = let same = key_eq-same (Agr a.agreement) (Agr b.agreement) h in cc
 
@@ -154,7 +154,7 @@ module _ (view : GroupView) (sound : IsView view) (lots : ℕ → ℕ) (within :
             | inr idle ↦ and_left _ _ idle
           ]
 
--- the room is the lots taken
+-- the room equals the lots taken
 same_room : (a b : ℕ) → (cond (a == b) None (Some RoomDiffers)) ≡ None → a ≡ b
 same_room a b h =
     elim (cases_Bool (a == b)) [
@@ -166,7 +166,7 @@ same_room a b h =
     some_none h = cc
 
 module _ (view : GroupView) (sound : IsView view) (takes : List Take) (cut : CutLists) (n : ℕ) where
-  -- a yes says all of it
+  -- a positive verdict implies all of it
   pub right_from_ok : verdict view takes cut ≡ Ok n → IsRight view takes cut n
   right_from_ok h =
       let lots = lots_of takes in
@@ -196,7 +196,7 @@ module _ (view : GroupView) (sound : IsView view) (takes : List Take) (cut : Cut
       ok_same : (a b : ℕ) → ◌≡◌ {A = Result ℕ CutFault} (Ok a) (Ok b) → a ≡ b
       ok_same a b h = cc
 
-  -- and all of it makes a yes
+  -- all of it implies a positive verdict
   pub ok_from_right : IsRight view takes cut n → verdict view takes cut ≡ Ok n
   ok_from_right right =
       let lots = lots_of takes in
@@ -213,14 +213,14 @@ module _ (view : GroupView) (sound : IsView view) (takes : List Take) (cut : Cut
         eq-eqb n n refl,
       ) refl
 
--- the takes of a yes are greatest
+-- with a positive verdict the takes are greatest
 pub greatest_if_ok : (view : GroupView) (takes : List Take) (cut : CutLists) (answer : Result ℕ CutFault) → IsView view → answer ≡ verdict view takes cut → OnOk answer (IsGreatest view (lots_of takes))
 greatest_if_ok view takes cut (Ok n) sound is =
     let right = right_from_ok view sound takes cut n (sym is) in
     greatest_by_cut view cut (lots_of takes) sound right.admissible right.covers (right.taken ∙ sym right.room)
 greatest_if_ok view takes cut (Err fault) sound is = tt
 
--- where takes and cut name only the view's own, what they name is no fault
+-- if takes and cut name only what the view has, what they name is no fault
 pub verdict_known : (view : GroupView) (takes : List Take) (cut : CutLists) (answer : Result ℕ CutFault) → unknown_take view.offers takes ≡ None → unknown_key view.rooms cut.keys ≡ None → unknown_offer view.offers cut.offers ≡ None
     → answer ≡ verdict_of_known view (lots_of takes) cut → answer ≡ verdict view takes cut
 verdict_known view takes cut answer e1 e2 e3 is = is ∙ sym (rw (e1, e2, e3) refl)

@@ -19,7 +19,7 @@ use Rattle.gu_view.specs.declared.view.Room.{Room}
 use Rattle.gu_terms.proofs.Lists.{along, along2, sum_by-add, sum_by-mono, sum_by-swap, sum_by-zeros}
 use Rattle.gu_view.proofs.RoomLemmas.{on_own_path, roomed}
 
--- a sum over the rooms is at least the term at the room of a key
+-- a sum over the rooms is at least the term for a key's room
 at_room : (k : LimitKey) (g : Room → ℕ) (n : ℕ) → ((r : Room) → r.key ≡ k → n ≤ g r) → (rooms : List Room) → has_room rooms k ≡ true → n ≤ sum_by g rooms
 at_room k g n here [] found = cc
 at_room k g n here (r ∷ rooms) found =
@@ -80,12 +80,12 @@ module _ (view : GroupView) (cut : CutLists) (lots : ℕ → ℕ) where
             omega arith
       ]
 
-  -- what counts under a room of the cut is no more than the room
+  -- what counts under a room of the cut is at most the room
   part : (r : Room) → lots_under view.offers r.key lots ≤ r.lots → sum_by (λ o. share r o) view.offers ≤ cond (has_key cut.keys r.key) r.lots 0
   unfolding share
   part r within = parts (has_key cut.keys r.key) r.lots (λ o. cond (has_key o.path r.key) (lots o.number) 0) view.offers within
 
-  -- and what counts by itself no more than the offer has
+  -- what counts by itself is at most what the offer has
   own_part : (o : ViewOffer) → lots o.number ≤ o.lots → own o ≤ cond (has_number cut.offers o.number) o.lots 0
   unfolding own
   own_part o within = own_parts (has_number cut.offers o.number) (lots o.number) o.lots within
@@ -115,7 +115,7 @@ module _ (view : GroupView) (cut : CutLists) (lots : ℕ → ℕ) where
       (recursion_from_All (λ o. lots o.number ≤ o.lots) view.offers admissible.offers)) in
       omega arith
 
--- admissible lots that are the room of a covering cut are greatest
+-- admissible lots that equal the room of a covering cut are greatest
 pub greatest_by_cut : (view : GroupView) (cut : CutLists) (lots : ℕ → ℕ) → IsView view → IsAdmissible view lots → Covers view cut → total view.offers lots ≡ room_of view cut → IsGreatest view lots
 greatest_by_cut view cut lots sound admissible covered equal = record {
   admissible = admissible;

@@ -1,4 +1,4 @@
--- The parts that a view keeps beside its offers and rooms.
+-- The parts that a view stores beside its offers and rooms.
 use Rattle.std.proofs.Common.{◌≡◌, ◌≢◌, ℕ, ◌<◌, ◌≤◌, List, [], ◌∷◌, length, map, get_or, refl, sym, ap, subst, ◌∙◌, arith, false}
 use Rattle.std.specs.Prelude.{All, AllPairs}
 use Rattle.std.specs.List.{flat_map}
@@ -19,7 +19,7 @@ use Rattle.gu_terms.proofs.Lists.{Later, list_any-map, position_or_len-map}
 use Rattle.gu_view.proofs.MakingLemmas.{even_paths, good_offers, in_order-own}
 use Rattle.gu_view.proofs.RoomLemmas.{apart, apart-firsts, places_are_within}
 
--- a key's place among the rooms is that among their keys
+-- a key's index among the rooms is its index among their keys
 place-keys : (rooms : List Room) (k : LimitKey) → place_among (map (λ (r : Room). r.key) rooms) k ≡ place_of rooms k
 place-keys rooms k = position_or_len-map (λ (r : Room). r.key) (λ j. key_eq j k) rooms
 
@@ -43,7 +43,7 @@ module _ (group : Group) (version : ℕ) (offers : List ViewOffer) (rooms : List
   pub as_many : length rooms ≡ length keys
   as_many = sym (length-map rooms (λ (r : Room). r.key)) ∙ ap length (room-keys ∙ sym keyed.keys_are)
 
-  -- what is made is a view
+  -- the result is a view
   pub sound : IsView shown
   sound =
       let good = good_offers offers keyed.numbers in
@@ -92,6 +92,6 @@ module _ (group : Group) (version : ℕ) (offers : List ViewOffer) (rooms : List
   all_within i d inside =
       places_are_within shown sound places i (get_or places i d) (omega (arith, ap length places_are, length-map offers (λ (o : ViewOffer). map (place_of rooms) o.path))) places_are (slice_get-get_or places i d inside)
 
-  -- the parts beside it are those of a view
+  -- these parts are those of a view
   pub indexed : (members : List (List ℕ)) → members ≡ map (λ (r : Room). places_under offers r.key) rooms → IsIndexed shown keys places members
   indexed members listed = record { sound = sound; keys_are = keyed.keys_are ∙ sym room-keys; places_are = places_are; members_are = listed }

@@ -1,4 +1,4 @@
--- What a view is made of.
+-- Making a view.
 use Rattle.std.proofs.Common.{◌≡◌, ◌≢◌, ℕ, suc, ◌+◌, ◌<◌, ◌≤◌, ◌||◌, ◌&&◌, not, Bool, true, false, cond, List, [], ◌∷◌, ◌++◌, Option, Some, None, length, map, take, drop, get_or, refl, sym, ap, ◌∙◌, subst, arith, inl, inr}
 use Rattle.std.specs.Prelude.{All, AllPairs, find, Any, nat_lt}
 use Rattle.std.specs.List.{AllByRecursion, list_any, zip}
@@ -40,11 +40,11 @@ use Rattle.gu_view.specs.Making.{AreRooms, in_order, lots_given}
 use Rattle.gu_terms.proofs.Lists.{Later, AllPairs-from_Later, Later-from_AllPairs, along, any_none, find_more, find_none, none_any, none_found}
 use Rattle.gu_view.proofs.TakesLemmas.{older_is_before}
 
--- the first bad offer of those that come after a number
+-- the first bad offer among those after a number
 abbrev pub bad_after : ℕ → List ViewOffer → Option (ℕ × ViewOffer)
 bad_after before offers = find (λ (p : ℕ × ViewOffer). is_bad p.0 p.1) (zip (before ∷ map (λ (o : ViewOffer). o.number) offers) offers)
 
--- one offer on
+-- the next offer
 pub bad_here : (before : ℕ) (offers : List ViewOffer) (i : ℕ) (o : ViewOffer) → i < length offers → o ≡ get_or offers i o → is_bad before o ≡ true → bad_after before (drop i offers) ≡ Some (before, o)
 bad_here before offers i o inside is bad = ap (bad_after before) (drop_more offers i o inside ∙ ap (λ x. x ∷ drop (i + 1) offers) (sym is)) ∙ rw bad refl
 
@@ -58,7 +58,7 @@ agreement_eq a b = key_eq (Agr a) (Agr b)
 pub agreement_eq-same : (a b : AgreementId) → agreement_eq a b ≡ true → a ≡ b
 agreement_eq-same a b h = ap (λ n. let x : AgreementId = record { name = n } in x) ((bytes_eq-Decides a.name b.name).0 h)
 
--- two paths that pass are one
+-- two paths that pass are equal
 pub path_eq-same : (a b : List LimitKey) → pointwise key_eq a b ≡ true → a ≡ b
 path_eq-same a b h = (slice_eq-Decides (λ a b. (key_eq-same a b, key_eq-from a b)) a b (pointwise key_eq a b) refl).0 h
 
@@ -69,7 +69,7 @@ path_eq-refl a = (slice_eq-Decides (λ a b. (key_eq-same a b, key_eq-from a b)) 
 abbrev pub is_odd : List ViewOffer → ViewOffer → Bool
 is_odd offers o = not (is_own o) || has_other_path offers o
 
--- the offers before a place have the paths that are known by their agreements, and no other path is known
+-- the paths of the offers before an index are those recorded for their agreements, and no other path is recorded
 pub record IsSeen (offers : List ViewOffer) (i : ℕ) (paths : AgreementId → Option (List LimitKey)) : Type 0 where
   pub even : find (is_odd offers) (take i offers) ≡ None
   pub kept : All (λ o. paths o.agreement ≡ Some o.path) (take i offers)
@@ -77,7 +77,7 @@ pub record IsSeen (offers : List ViewOffer) (i : ℕ) (paths : AgreementId → O
 
 module _ (offers : List ViewOffer) (i : ℕ) (paths : AgreementId → Option (List LimitKey)) (o : ViewOffer) (ascending : AllPairs (λ a b. a.number < b.number) offers)
     (inside : i < length offers) (is : o ≡ get_or offers i o) (seen : IsSeen offers i paths) where
-  -- an offer before it of its agreement has another path
+  -- an earlier offer under its agreement has another path
   pub others : ViewOffer → Bool
   others older = same_agreement older o && not (pointwise key_eq older.path o.path)
 
@@ -87,7 +87,7 @@ module _ (offers : List ViewOffer) (i : ℕ) (paths : AgreementId → Option (Li
       ap (λ (n : ℕ). list_any (λ older. nat_lt older.number n && (same_agreement older o && not (pointwise key_eq older.path o.path))) offers) (ap (λ (o : ViewOffer). o.number) is)
       ∙ older_is_before (λ older. same_agreement older o && not (pointwise key_eq older.path o.path)) offers i o inside (Later-from_AllPairs (λ (a b : ViewOffer). a.number < b.number) offers ascending)
 
-  -- none where none of its agreement is known, or this very path is
+  -- none has, if no path is recorded for its agreement, or this very path is
   pub even_new : paths o.agreement ≡ None → has_other_path offers o ≡ false
   unfolding others
   even_new none =
@@ -116,7 +116,7 @@ module _ (offers : List ViewOffer) (i : ℕ) (paths : AgreementId → Option (Li
       some_same : {p q : List LimitKey} → Some p ≡ Some q → p ≡ q
       some_same h = cc
 
-  -- another path is known
+  -- another path is recorded
   pub odd_known : (path : List LimitKey) → paths o.agreement ≡ Some path → pointwise key_eq path o.path ≡ false → has_other_path offers o ≡ true
   unfolding others
   odd_known path known other =
@@ -131,7 +131,7 @@ module _ (offers : List ViewOffer) (i : ℕ) (paths : AgreementId → Option (Li
           some_same : {p q : List LimitKey} → Some p ≡ Some q → p ≡ q
           some_same h = cc
 
-  -- one more offer is seen: its path is known already
+  -- one more offer is seen: its path is already recorded
   pub seen_known : is_own o ≡ true → paths o.agreement ≡ Some o.path → IsSeen offers (i + 1) paths
   seen_known own known = record {
     even = find_more (is_odd offers) offers i o inside seen.even (ap (is_odd offers) (sym is) ∙ or_from _ _ (ap not own) (even_known known));
@@ -139,7 +139,7 @@ module _ (offers : List ViewOffer) (i : ℕ) (paths : AgreementId → Option (Li
     known = λ a path at. list_any_kept (λ (o : ViewOffer). agreement_eq o.agreement a) offers i (seen.known a path at);
   }
 
-  -- or is known from now on
+  -- or is recorded now
   pub seen_new : (after : AgreementId → Option (List LimitKey)) → is_own o ≡ true → paths o.agreement ≡ None → ((a : AgreementId) → after a ≡ cond (agreement_eq o.agreement a) (Some o.path) (paths a)) → IsSeen offers (i + 1) after
   seen_new after own none updated = record {
     even = find_more (is_odd offers) offers i o inside seen.even (ap (is_odd offers) (sym is) ∙ or_from _ _ (ap not own) (even_new none));
@@ -266,7 +266,7 @@ seen_none offers paths none = record { even = refl; kept = λ k d within. absurd
     none_some : {p : List LimitKey} → ◌≡◌ {A = Option (List LimitKey)} None (Some p) → ⊥
     none_some h = cc
 
--- of few offers the first bad one is the first of all
+-- if there are few offers, the first bad one is the first of all
 pub bad_of_few : (offers : List ViewOffer) → length offers ≤ 4096 → option_map (λ (p : ℕ × ViewOffer). p.1.number) (find (λ (p : ℕ × ViewOffer). is_bad p.0 p.1) (numbered offers)) ≡ bad_offer offers
 bad_of_few offers few =
     rw (take_all 4096 offers few, slice_get_past offers 4096 few) (sym (or-none (option_map (λ (p : ℕ × ViewOffer). p.1.number) (find (λ (p : ℕ × ViewOffer). is_bad p.0 p.1) (numbered offers)))))
@@ -291,7 +291,7 @@ pointwise-agree p q [] (k ∷ b) same = refl
 pointwise-agree p q (j ∷ a) [] same = refl
 pointwise-agree p q (j ∷ a) (k ∷ b) same = rw (same j k, pointwise-agree p q a b same) refl
 
--- offers of which none is bad
+-- no offer in a list is bad
 pub record AreGood (before : ℕ) (offers : List ViewOffer) : Type 0 where
   pub above : AllByRecursion (λ (o : ViewOffer). before < o.number) offers
   pub ascending : Later (λ (a b : ViewOffer). a.number < b.number) offers
@@ -389,7 +389,7 @@ even_paths offers ascending none = record {
     rest_of true b h e = e
     rest_of false b h e = cc
 
--- the rooms in order have the keys, and lots within the limit
+-- the rooms in order have these keys, and lots within the limit
 pub in_order-keys : (keys : List LimitKey) (rooms : List Room) → map (λ (r : Room). r.key) (in_order keys rooms) ≡ keys
 in_order-keys [] rooms = refl
 in_order-keys (k ∷ keys) rooms = ap (λ l. k ∷ l) (in_order-keys keys rooms)
@@ -405,7 +405,7 @@ in_order-limits (k ∷ keys) rooms limits = (given rooms (recursion_from_All (λ
     given [] h = omega arith
     given (r ∷ rooms) h = elim (cases_Bool (key_eq r.key k)) [ inl hit ↦ rw hit h.0 | inr miss ↦ rw miss (given rooms h.1) ]
 
--- the lots that rooms of different keys give are their own
+-- the lots given by rooms with different keys are their own
 own_lots : (rooms : List Room) → Later (λ a b. key_eq a b ≡ false) (map (λ (r : Room). r.key) rooms) → AllByRecursion (λ (r : Room). lots_given rooms r.key ≡ Some r.lots) rooms
 own_lots [] apart = tt
 own_lots (r ∷ rooms) apart = (rw (key_eq-refl r.key) refl, behind rooms apart.0 (own_lots rooms apart.1))
@@ -415,7 +415,7 @@ own_lots (r ∷ rooms) apart = (rw (key_eq-refl r.key) refl, behind rooms apart.
     behind [] other own = tt
     behind (x ∷ others) other own = (rw other.0 own.0, behind others other.1 own.1)
 
--- so they are in order as they stand
+-- so they are in order already
 pub in_order-own : (rooms : List Room) → Later (λ a b. key_eq a b ≡ false) (map (λ (r : Room). r.key) rooms) → in_order (map (λ (r : Room). r.key) rooms) rooms ≡ rooms
 in_order-own rooms apart = each rooms (own_lots rooms apart)
   where

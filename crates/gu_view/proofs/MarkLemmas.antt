@@ -1,4 +1,4 @@
--- Marks of the rooms and offers that a cut names.
+-- Marks for the rooms and offers that a cut names.
 use Rattle.std.proofs.Common.{◌≡◌, ℕ, ◌+◌, ◌<◌, ◌||◌, ◌==◌, not, Bool, true, false, List, [], ◌∷◌, Some, None, length, map, take, get_or, set, refl, sym, ap, ◌∙◌, arith, inl, inr}
 use Rattle.std.specs.Prelude.{AllPairs, find, position}
 use Rattle.std.specs.List.{AllByRecursion, list_any, position_or_len}
@@ -28,7 +28,7 @@ use Rattle.gu_view.specs.Marks.{AreMarks}
 use Rattle.gu_view.proofs.TakesLemmas.{key_at_place}
 use Rattle.gu_view.proofs.RoomLemmas.{apart, on_own_path, roomed}
 
--- all of these names are known, and the marks say which elements have one of them
+-- all these names are known, and the marks say which elements have one of them
 pub record AreMarked {X N : Type 0} (xs : List X) (known : N → Bool) (has : X → List N → Bool) (names : List N) (marks : List Bool) : Type 0 where
   pub known_all : find (λ n. not (known n)) names ≡ None
   pub marks_are : marks ≡ map (λ x. has x names) xs
@@ -71,7 +71,7 @@ mark_offer (o ∷ others) ascending numbers i place d inside at =
     ]) in
     list_any_more (λ m. m == (get_or offers k o).number) numbers i d inside ∙ rw differs (or-false _))
 
--- a place that a look-up didn't find
+-- an index that a look-up didn't find
 pub not_there : {X : Type 0} (p : X → Bool) (xs : List X) → position p xs ≡ None → list_any p xs ≡ false
 not_there p xs none =
     false_from_ne_true (list_any p xs) (λ hit.
@@ -83,14 +83,14 @@ not_there p xs none =
     some_none : {n : ℕ} → Some n ≡ None → ⊥
     some_none h = cc
 
--- and one that it found
+-- an index that it found
 pub there : {X : Type 0} (p : X → Bool) (xs : List X) (place : ℕ) → position p xs ≡ Some place → list_any p xs ≡ true
 there p [] place at = cc
 there p (x ∷ xs) place at =
     let found = position-Some p (x ∷ xs) place x at in
     list_any_at p (x ∷ xs) place x found.0 found.1
 
--- where nothing passes, there is no first place
+-- if nothing passes, there is no first index
 pub position-none : {X : Type 0} (p : X → Bool) (xs : List X) → AllByRecursion (λ x. p x ≡ false) xs → position p xs ≡ None
 position-none p xs none = rw (le-ltb (position_or_len p xs) (length xs) (far xs none)) refl
   where
@@ -98,7 +98,7 @@ position-none p xs none = rw (le-ltb (position_or_len p xs) (length xs) (far xs 
     far [] none = omega arith
     far (x ∷ xs) none = rw none.0 (omega (arith, far xs none.1))
 
--- the offers before a place have smaller numbers
+-- the offers before an index have smaller numbers
 pub smaller_first : (offers : List ViewOffer) (n : ℕ) → AllPairs (λ a b. a.number < b.number) offers → IsPartitionedBy (λ o. nat_lt o.number n) offers
 smaller_first offers n h i j d le within smaller = lt-ltb _ _ (below (ltb-true _ _ smaller))
   where
@@ -106,7 +106,7 @@ smaller_first offers n h i j d le within smaller = lt-ltb _ _ (below (ltb-true _
     below before = elim (eq-or-lt_of_le le) [ inl e ↦ rw e before | inr lt ↦ omega (arith, h i j d lt within) ]
 
 module _ (offers : List ViewOffer) (n place : ℕ) (before : AllWithin (λ o. o.number < n) offers 0 place) where
-  -- the offer at that place has the number
+  -- the offer at that index has the number
   pub place_found : (d : ViewOffer) → place < length offers → (get_or offers place d).number ≡ n → position (λ o. o.number == n) offers ≡ Some place
   place_found d inside is =
       let first : position_or_len (λ (o : ViewOffer). o.number == n) offers ≡ place =
@@ -138,11 +138,11 @@ module _ {X : Type 0} where
   no_marks [] = refl
   no_marks (x ∷ xs) = ap (λ l. false ∷ l) (no_marks xs)
 
-  -- fresh marks
+  -- new marks
   pub fresh_marks : (xs : List X) (n m : ℕ) → n ≡ length xs → n ≤ m → take n (replicate m false) ≡ map (λ (x : X). false) xs
   fresh_marks xs n m same le = take-replicate n m false le ∙ rw same (no_marks xs)
 
--- what passes a test that the places' marks tell, passes it among the keys
+-- the test by marks at indexes agrees with the test of the keys
 pub marks_tell : (rooms : List Room) (marks : List Bool) (test : LimitKey → Bool) → AreMarks rooms marks (λ r. test r.key) → (path : List LimitKey)
     → AllByRecursion (λ k. place_of rooms k < length rooms) path → list_any (λ p. get_or marks p false) (map (place_of rooms) path) ≡ list_any test path
 marks_tell rooms marks test are [] inside = refl
@@ -152,14 +152,14 @@ marks_tell (r ∷ rooms) marks test are (k ∷ path) inside =
     ap (λ l. get_or l (place_of (r ∷ rooms) k) false) are ∙ get_or-map (λ (r : Room). test r.key) (r ∷ rooms) (place_of (r ∷ rooms) k) r false inside.0 ∙ ap test (key_at_place (r ∷ rooms) k r inside.0) in
     rw (here, marks_tell (r ∷ rooms) marks test are path inside.1) refl
 
--- each key of an offer's path has a place among the rooms
+-- each key of an offer's path has an index among the rooms
 pub path_inside : (view : GroupView) → IsView view → (i : ℕ) (o : ViewOffer) → i < length view.offers → o ≡ get_or view.offers i o → AllByRecursion (λ k. place_of view.rooms k < length view.rooms) o.path
 path_inside view sound i o inside is =
     along (λ k. has_key o.path k ≡ true) (λ k. place_of view.rooms k < length view.rooms) o.path
     (λ k on_path. position_or_len-within (λ (r : Room). key_eq r.key k) view.rooms (roomed view sound k (list_any_at (λ (o : ViewOffer). has_key o.path k) view.offers i o inside (ap (λ (o : ViewOffer). has_key o.path k) (sym is) ∙ on_path))))
     (on_own_path o.path)
 
--- an offer's marks tell whether the cut covers it
+-- an offer's marks say whether the cut covers it
 pub cover_told : (view : GroupView) → IsView view → (cut : CutLists) (keys numbers : List Bool) (i : ℕ) (o : ViewOffer) (places : List ℕ) → AreMarks view.rooms keys (λ r. has_key cut.keys r.key) → AreMarks view.offers numbers (λ o. has_number cut.offers o.number)
     → i < length view.offers → o ≡ get_or view.offers i o → places ≡ map (place_of view.rooms) o.path
     → is_covered cut o ≡ (get_or numbers i false || list_any (λ p. get_or keys p false) places)
@@ -170,7 +170,7 @@ cover_told view sound cut keys numbers i o places key-marks number-marks inside 
     ap (list_any (λ p. get_or keys p false)) at ∙ marks_tell view.rooms keys (has_key cut.keys) key-marks o.path (path_inside view sound i o inside is) in
     rw (number, key) refl
 
--- an offer that is marked itself is covered
+-- an offer that is itself marked is covered
 pub cover_any : (view : GroupView) → IsView view → (cut : CutLists) (numbers : List Bool) (i : ℕ) (o : ViewOffer) → AreMarks view.offers numbers (λ o. has_number cut.offers o.number)
     → i < length view.offers → o ≡ get_or view.offers i o → get_or numbers i false ≡ true → is_covered cut o ≡ true
 cover_any view sound cut numbers i o number-marks inside is hit =

@@ -1,4 +1,4 @@
--- Keys as they are mentioned: their order, and their places.
+-- Keys in order of mention, and their indexes.
 use Rattle.std.proofs.Common.{◌≡◌, ℕ, ◌+◌, ◌-◌, ◌<◌, ◌≤◌, ◌||◌, not, Bool, true, false, cond, List, [], ◌∷◌, ◌++◌, length, map, take, get_or, refl, sym, ap, ◌∙◌, subst, arith, inl, inr, append-nil, append_assoc, length-append}
 use Rattle.std.specs.Prelude.{filter}
 use Rattle.std.specs.List.{AllByRecursion, flat_map, list_any, position_or_len}
@@ -15,7 +15,7 @@ use Rattle.gu_view.specs.View.{firsts, keys_of, place_among}
 use Rattle.gu_view.specs.declared.view.ViewOffer.{ViewOffer}
 use Rattle.gu_view.proofs.RoomLemmas.{has_key-others, has_key-keys_of, on_own_path}
 
--- one key more is mentioned
+-- one more key is mentioned
 firsts_more : (keys : List LimitKey) (k : LimitKey) → firsts (keys ++ k ∷ []) ≡ cond (has_key (firsts keys) k) (firsts keys) (firsts keys ++ k ∷ [])
 firsts_more [] k = refl
 firsts_more (x ∷ keys) k = go (firsts_more keys k) (has_key (firsts keys) k) refl
@@ -34,7 +34,7 @@ firsts_more (x ∷ keys) k = go (firsts_more keys k) (has_key (firsts keys) k) r
           | inr other ↦ rw (before, filter-append (λ j. not (key_eq x j)) (firsts keys) (k ∷ []), other, has_key-others x k (firsts keys) other, missing) refl
         ]
 
--- keys that are mentioned already are mentioned once more
+-- keys already mentioned are mentioned again
 pub firsts-known : (keys path : List LimitKey) → AllByRecursion (λ k. has_key (firsts keys) k ≡ true) path → firsts (keys ++ path) ≡ firsts keys
 firsts-known keys [] known = ap firsts (append-nil keys)
 firsts-known keys (k ∷ path) known =
@@ -43,11 +43,11 @@ firsts-known keys (k ∷ path) known =
     ∙ firsts-known (keys ++ k ∷ []) path (subst (λ (firsts' : List LimitKey). AllByRecursion (λ k. has_key firsts' k ≡ true) path) (sym same) known.1)
     ∙ same
 
--- keys with one more, where it isn't one of them
+-- the keys followed by this one, if it is new
 abbrev pub with_key : List LimitKey → LimitKey → List LimitKey
 with_key keys k = cond (list_any (eq k) keys) keys (keys ++ k ∷ [])
 
--- the key is among them then
+-- the key is then among them
 pub has_key-with_key : (keys : List LimitKey) (k : LimitKey) → has_key (with_key keys k) k ≡ true
 has_key-with_key keys k =
     elim (cases_Bool (list_any (eq k) keys)) [
@@ -55,7 +55,7 @@ has_key-with_key keys k =
       | inr miss ↦ rw miss (list_any-append (λ j. key_eq j k) keys (k ∷ []) ∙ or_right (has_key keys k) (key_eq k k || false) (or_left (key_eq k k) false (key_eq-refl k)))
     ]
 
--- and so are those that were
+-- so are the earlier ones
 pub has_key-stay : (keys : List LimitKey) (k j : LimitKey) → has_key keys j ≡ true → has_key (with_key keys k) j ≡ true
 has_key-stay keys k j there =
     elim (cases_Bool (list_any (eq k) keys)) [
@@ -63,7 +63,7 @@ has_key-stay keys k j there =
       | inr miss ↦ rw miss (list_any-append (λ j'. key_eq j' j) keys (k ∷ []) ∙ or_left (has_key keys j) (key_eq k j || false) there)
     ]
 
--- it stands where it is looked for
+-- it is at the index where it is found
 position_or_len-own : (test : LimitKey → Bool) (keys : List LimitKey) (k : LimitKey) → test k ≡ true → position_or_len test (keys ++ k ∷ []) ≡ position_or_len test keys
 position_or_len-own test [] k hit = rw hit refl
 position_or_len-own test (j ∷ keys) k hit = ap (λ n. cond (not (test j)) (1 + n) 0) (position_or_len-own test keys k hit)
@@ -75,7 +75,7 @@ place_among-with_key keys k =
       | inr miss ↦ rw miss (position_or_len-own (λ j. key_eq j k) keys k (key_eq-refl k))
     ]
 
--- and the others stand where they stood
+-- the others stay at their indexes
 position_or_len-stay : (test : LimitKey → Bool) (keys more : List LimitKey) → list_any test keys ≡ true → position_or_len test (keys ++ more) ≡ position_or_len test keys
 position_or_len-stay test [] more there = cc
 position_or_len-stay test (j ∷ keys) more there =
@@ -91,12 +91,12 @@ place_among-stay keys k j there =
       | inr miss ↦ rw miss (position_or_len-stay (λ i. key_eq i j) keys (k ∷ []) there)
     ]
 
--- the place at which a key is put is its place among the keys
+-- the index at which a key is added is its index among the keys
 pub place_put : (keys : List LimitKey) (k : LimitKey) → position_or_len (eq k) keys ≡ place_among (with_key keys k) k
 place_put keys k =
     position_or_len-agree (eq k) (λ j. key_eq j k) keys (λ j. eq_is k j ∙ key_eq-sym k j) ∙ sym (place_among-with_key keys k)
 
--- keys that stand where they stood have the places that they had
+-- keys that stay have the same indexes
 pub places-stay : (old new keys : List LimitKey) → ((k : LimitKey) → has_key old k ≡ true → place_among new k ≡ place_among old k) → AllByRecursion (λ k. has_key old k ≡ true) keys
     → map (place_among old) keys ≡ map (place_among new) keys
 places-stay old new [] stay known = refl
@@ -118,13 +118,13 @@ mention_more mentioned path keys i k inside is are =
     ap (λ l. mentioned ++ l) (take_more path i k inside ∙ ap (λ x. take i path ++ x ∷ []) (sym is)) ∙ sym (append_assoc mentioned (take i path) (k ∷ [])) in
     rw (test, longer, are) (sym (firsts_more (mentioned ++ take i path) k))
 
--- one more place of a path
+-- one more index of a path
 pub places_more : (keys path : List LimitKey) (made : List ℕ) (i : ℕ) (k : LimitKey) (place : ℕ) → i < length path → k ≡ get_or path i k → made ≡ map (place_among keys) (take i path) → place ≡ place_among keys k
     → made ++ place ∷ [] ≡ map (place_among keys) (take (i + 1) path)
 places_more keys path made i k place inside is are at =
     ap (λ l. l ++ place ∷ []) are ∙ ap (λ n. map (place_among keys) (take i path) ++ n ∷ []) (at ∙ ap (place_among keys) is) ∙ sym (map_more (place_among keys) path i k inside)
 
--- at most one key more
+-- at most one more key
 pub length-with_key : (keys : List LimitKey) (k : LimitKey) → length (with_key keys k) ≤ length keys + 1
 length-with_key keys k = go (list_any (eq k) keys)
   where
@@ -132,7 +132,7 @@ length-with_key keys k = go (list_any (eq k) keys)
     go true = omega arith
     go false = omega (arith, length-append keys (k ∷ []))
 
--- the keys of each path are among all of the keys
+-- the keys of each path are among all keys
 pub all_known : (offers : List ViewOffer) → AllByRecursion (λ (o : ViewOffer). AllByRecursion (λ k. has_key (keys_of offers) k ≡ true) o.path) offers
 all_known offers =
     recursion_from_All (λ (o : ViewOffer). AllByRecursion (λ k. has_key (keys_of offers) k ≡ true) o.path) offers (λ i d inside.
@@ -153,7 +153,7 @@ all_places-more keys offers made i o list inside is are at =
     let places : ViewOffer → List ℕ = λ o. map (place_among keys) o.path in
     ap (λ l. l ++ list ∷ []) are ∙ ap (λ l. map places (take i offers) ++ l ∷ []) (at ∙ ap places is) ∙ sym (map_more places offers i o inside)
 
--- so is one more offer, of the path of the one before it: its keys are mentioned, and its list is the last
+-- one more offer with the path of the previous one: its keys are mentioned already, and its list is the last
 pub mentioned_again : (offers : List ViewOffer) (keys : List LimitKey) (places : List (List ℕ)) (i : ℕ) (before o : ViewOffer) → 0 < i → i < length offers
     → before ≡ get_or offers (i - 1) before → o ≡ get_or offers i o → before.path ≡ o.path → AreMentioned (take i offers) keys places
     → AreMentioned (take (i + 1) offers) keys (places ++ get_or places (length places - 1) [] ∷ [])

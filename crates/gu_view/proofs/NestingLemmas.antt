@@ -1,4 +1,4 @@
--- Nested offers, by tests of their paths.
+-- Nested offers, through tests of their paths.
 use Rattle.std.proofs.Common.{◌≡◌, ℕ, ◌<◌, Bool, true, false, List, [], ◌∷◌, Option, None, Some, length, get_or, slice_get, refl, sym, ap, ◌∙◌, zero-add, inl, inr}
 use Rattle.std.specs.Prelude.{All}
 use Rattle.std.specs.List.{AllByRecursion, list_all, list_any}
@@ -25,11 +25,11 @@ use Rattle.gu_view.proofs.PassingPlaces.{at_places, each_place}
 use Rattle.gu_view.proofs.RoomLemmas.{on_path_at, roomed}
 use Rattle.gu_view.proofs.TakesLemmas.{key_at_place}
 
--- a path of these keys
+-- a path with these keys
 abbrev IsPathOf : AgreementId → List LimitKey → Type 0
 IsPathOf own path = (e : FirmId) × (x : AccountId) × (f : FirmId) × (g : Option FirmId) × (path ≡ path_through e own x f g)
 
--- four keys that pass are of the four kinds, whatever comes after them
+-- four keys that pass are of the four kinds, whatever follows them
 kinds : (own : AgreementId) (a b c d : LimitKey) (rest : List LimitKey) → are_kinds own a b c d ≡ true
     → (e : FirmId) × (x : AccountId) × (f : FirmId) × (a ∷ b ∷ c ∷ d ∷ rest ≡ Exec e ∷ Agr own ∷ Acct x ∷ Carry f ∷ rest)
 kinds own (Exec e) (Agr g) (Acct x) (Carry f) rest h = (e, x, f, ap (λ k. Exec e ∷ k ∷ Acct x ∷ Carry f ∷ rest) (key_eq-same (Agr g) (Agr own) h))
@@ -57,7 +57,7 @@ whole_path own (a ∷ b ∷ c ∷ d ∷ []) h = let k = kinds own a b c d [] h i
 whole_path own (a ∷ b ∷ c ∷ d ∷ e ∷ []) h = let parts = both (are_kinds own a b c d) (is_guarantor e) h in five own a b c d e parts.0 parts.1
 whole_path own (a ∷ b ∷ c ∷ d ∷ e ∷ f ∷ path) h = absurd (false≢true h)
 
--- and a whole path passes
+-- a whole path passes
 path_whole : (o : ViewOffer) → IsPath o → is_whole o.agreement o.path ≡ true
 path_whole o (e, x, c, None, is) = rw is (key_eq-refl (Agr o.agreement))
 path_whole o (e, x, c, Some g, is) = rw is (rw (key_eq-refl (Agr o.agreement)) refl)
@@ -72,7 +72,7 @@ carrying_is : (e : FirmId) (own : AgreementId) (a : AccountId) (c : FirmId) (g :
 carrying_is e own a c None x h = elim (or_cases (key_eq (Carry c) (Carry x)) false h) [ inl hit ↦ hit | inr never ↦ absurd (false≢true never) ]
 carrying_is e own a c (Some g) x h = elim (or_cases (key_eq (Carry c) (Carry x)) false h) [ inl hit ↦ hit | inr never ↦ absurd (false≢true never) ]
 
--- what comes after a key that paths share
+-- the key that follows one that paths share
 after : (e : FirmId) (own : AgreementId) (a : AccountId) (c : FirmId) (g : Option FirmId) (k : LimitKey) (depth : ℕ) → behind k ≡ Some depth
     → has_key (path_through e own a c g) k ≡ true → next_key (path_through e own a c g) k ≡ slice_get (path_through e own a c g) depth
 after e own a c g (Acct x) depth at h = let here : 3 ≡ depth = cc in rw (← here) (rw (account_is e own a c g x h) refl)
@@ -82,17 +82,17 @@ after e own a c g (Exec x) depth at h = cc
 after e own a c g (Agr x) depth at h = cc
 after e own a c g (Guar x) depth at h = cc
 
--- and on the path of an offer
+-- on the path of an offer
 after_on : (o : ViewOffer) (k : LimitKey) (depth : ℕ) → behind k ≡ Some depth → IsPath o → has_key o.path k ≡ true → next_key o.path k ≡ slice_get o.path depth
 after_on o k depth at (e, a, c, g, is) on = rw is (after e o.agreement a c g k depth at (rw is at on))
 
--- keys that pass are one
+-- keys that pass are equal
 same_key-same : (j k : Option LimitKey) → same_key j k ≡ true → j ≡ k
 same_key-same (Some j) (Some k) h = ap (λ k. Some k) (key_eq-same j k h)
 same_key-same None None h = refl
 same_key-same _ _ h = absurd (false≢true h)
 
--- and one key passes
+-- a key passes with itself
 same_key-refl : (k : Option LimitKey) → same_key k k ≡ true
 same_key-refl (Some k) = key_eq-refl k
 same_key-refl None = refl
@@ -105,23 +105,23 @@ pub paths_pass : (offers : List ViewOffer) → All IsPath offers → list_all (�
 paths_pass offers h = list_all-from_AllPass (λ o. is_whole o.agreement o.path) offers (λ i d inside. path_whole (get_or offers i d) (h i d inside))
 
 module _ (offers : List ViewOffer) (depth : ℕ) where
-  -- the key there on the path of the offer at a place
+  -- the key at this depth on the path of the offer at an index
   key_on-inside : (i : ℕ) (d : ViewOffer) → i < length offers → key_on offers depth i ≡ slice_get (get_or offers i d).path depth
   key_on-inside i d inside = ap (option_and_then (λ (o : ViewOffer). slice_get o.path depth)) (slice_get-get_or offers i d inside)
 
-  -- that of the first of these places
+  -- the key of the first of these indexes
   abbrev first_key : List ℕ → Option LimitKey
   first_key [] = None
   first_key (place ∷ places) = key_on offers depth place
 
-  -- where the offers at these places have one key there, it is that of the first
+  -- if the offers at these indexes have the same key there, it is that of the first
   like_first : (places : List ℕ) → have_one_key offers depth places ≡ true → AllByRecursion (λ p. key_on offers depth p ≡ first_key places) places
   like_first [] h = tt
   like_first (first ∷ others) h =
       let test : ℕ → Bool = λ p. same_key (key_on offers depth first) (key_on offers depth p) in
       (refl, along (λ p. test p ≡ true) (λ p. key_on offers depth p ≡ key_on offers depth first) others (λ p hit. sym (same_key-same (key_on offers depth first) (key_on offers depth p) hit)) (recursion_from_All (λ p. test p ≡ true) others (AllPass-from_list_all test others h)))
 
-  -- so any two of the offers under a key have one
+  -- so any two offers under a key have the same
   alike_under : (k : LimitKey) (i j : ℕ) (d e : ViewOffer) → have_one_key offers depth (places_under offers k) ≡ true → i < length offers → j < length offers
       → has_key (get_or offers i d).path k ≡ true → has_key (get_or offers j e).path k ≡ true → slice_get (get_or offers i d).path depth ≡ slice_get (get_or offers j e).path depth
   alike_under k i j d e one inside within on also =
@@ -136,14 +136,14 @@ module _ (offers : List ViewOffer) (depth : ℕ) where
   abbrev IsUnder : LimitKey → ℕ → Type 0
   IsUnder k place = (d : ViewOffer) × (place < length offers) × (has_key (get_or offers place d).path k ≡ true)
 
-  -- places any two of which have one key there
+  -- indexes of which any two have the same key there
   one_key : (P : ℕ → Type 0) (places : List ℕ) → ((p q : ℕ) → P p → P q → same_key (key_on offers depth p) (key_on offers depth q) ≡ true) → AllByRecursion P places → have_one_key offers depth places ≡ true
   one_key P [] alike h = refl
   one_key P (first ∷ others) alike h =
       let test : ℕ → Bool = λ p. same_key (key_on offers depth first) (key_on offers depth p) in
       list_all-from_AllPass test others (All-from_recursion (λ p. test p ≡ true) others (along P (λ p. test p ≡ true) others (λ p k. alike first p h.0 k) h.1))
 
--- nested, where the paths are whole and the rooms agree
+-- a view is nested if its paths are whole and its rooms agree
 pub nested_from : (view : GroupView) → IsView view → list_all (λ o. is_whole o.agreement o.path) view.offers ≡ true → list_all (room_agrees view.offers) view.rooms ≡ true → IsNested view
 nested_from view sound whole agree =
     let paths = all_paths view.offers whole in
@@ -167,7 +167,7 @@ nested_from view sound whole agree =
         ∙ alike_under offers depth k i j d e (one k depth at (on_path_at offers i (get_or offers i d) k (slice_get-get_or offers i d inside) on)) inside within on also
         ∙ sym (after_on (get_or offers j e) k depth at (paths j e within) also)
 
--- and the rooms of a nested view agree
+-- the rooms of a nested view agree
 pub rooms_agree : (view : GroupView) → IsNested view → list_all (room_agrees view.offers) view.rooms ≡ true
 rooms_agree view nested = list_all-from_AllPass (room_agrees view.offers) view.rooms (λ i d inside. under (get_or view.rooms i d).key)
   where

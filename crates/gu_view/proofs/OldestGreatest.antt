@@ -1,5 +1,5 @@
--- Of all greatest takes one is oldest first over the group, and it is oldest first in each agreement.
-use Rattle.std.proofs.Common.{◌≡◌, ◌≢◌, ℕ, zero, suc, ◌+◌, ◌-◌, ◌<◌, ◌≤◌, ◌==◌, Bool, true, false, cond, List, [], ◌∷◌, length, get_or, refl, sym, ap, ◌∙◌, subst, arith, inl, inr}
+-- Among all greatest takes, one is oldest first over the group, and it is oldest first within each agreement.
+use Rattle.std.proofs.Common.{◌≡◌, ◌≢◌, ℕ, zero, suc, ◌+◌, ◌-◌, ◌<◌, ◌≤◌, ◌==◌, Bool, true, false, cond, List, [], ◌∷◌, length, get_or, refl, sym, ap, ◌∙◌, arith, inl, inr}
 use Rattle.std.specs.Prelude.{All, AllPairs, sum_by}
 use Rattle.std.specs.List.{AllByRecursion}
 use Rattle.std.proofs.lemmas.Bool.{cases_eq, cases_lt, cond-true, cond-false, eq-eqb, ne_eqb}
@@ -9,7 +9,7 @@ use Rattle.std.proofs.lemmas.List.Sums.{sum_by-cons}
 use Rattle.gu_terms.specs.LimitKeys.{has_key}
 use Rattle.gu_terms.specs.declared.limit_key.LimitKey.{LimitKey}
 use Rattle.gu_terms.proofs.Lists.{sum_by-add, sum_by-zeros}
-use Rattle.gu_view.specs.Takes.{lots_under, total, AgreeOnOlder, IsAdmissible, IsGreatest, IsOldestFirst, IsOldestGreatest}
+use Rattle.gu_view.specs.Takes.{AgreeOnOlder, IsGreatest, IsOldestFirst, IsOldestGreatest}
 use Rattle.gu_view.specs.View.{GroupView, IsView}
 use Rattle.gu_view.specs.declared.view.ViewOffer.{ViewOffer}
 
@@ -24,12 +24,12 @@ module _ (view : GroupView) (lots others : ℕ → ℕ) (mine : IsOldestGreatest
   pub oldest_greatest_is_one : All (λ o. others o.number ≡ lots o.number) view.offers
   oldest_greatest_is_one i d inside = agree (suc (get_or view.offers i d).number) i d (omega arith) inside
 
--- equal terms, by a fact of each element
+-- sums with equal terms, given a property of each element
 sum_by-by : {X : Type 0} (P : X → Type 0) (f g : X → ℕ) (xs : List X) → ((x : X) → P x → f x ≡ g x) → AllByRecursion P xs → sum_by f xs ≡ sum_by g xs
 sum_by-by P f g [] same h = refl
 sum_by-by P f g (x ∷ xs) same h = omega (arith, same x h.0, sum_by-by P f g xs same h.1, sum_by-cons f x xs, sum_by-cons g x xs)
 
--- a number is counted at its offer alone
+-- a number is counted only at its offer
 counted_once : (offers : List ViewOffer) → AllPairs (λ a b. a.number < b.number) offers → (i : ℕ) (d : ViewOffer) (x : ℕ) → i < length offers → sum_by (λ o. cond (o.number == (get_or offers i d).number) x 0) offers ≡ x
 counted_once [] ascending i d x inside = absurd (omega arith)
 counted_once (o ∷ offers) ascending zero d x inside =
@@ -47,7 +47,7 @@ counted_once (o ∷ offers) ascending (suc i) d x inside =
       sum_by-cons (λ (p : ViewOffer). cond (p.number == n) x 0) o offers,
     )
 
--- a lot goes from a later offer of an agreement to an earlier one
+-- one lot is moved from a later offer of an agreement to an earlier one
 module _ (view : GroupView) (sound : IsView view) (lots : ℕ → ℕ) (i j : ℕ) (d : ViewOffer) (before : i < j) (j_in : j < length view.offers)
     (same : (get_or view.offers i d).agreement ≡ (get_or view.offers j d).agreement) (some : 0 < lots (get_or view.offers j d).number) where
   abbrev first : ViewOffer
@@ -90,7 +90,7 @@ module _ (view : GroupView) (sound : IsView view) (lots : ℕ → ℕ) (i j : �
       ] in
       record { as_first = at i (omega arith); as_last = at j j_in })
 
-  -- under a test of paths the sum stays
+  -- the sum under a test of paths is unchanged
   module _ (test : List LimitKey → Bool) where
     abbrev taken : (ℕ → ℕ) → ViewOffer → ℕ
     taken f o = cond (test o.path) (f o.number) 0

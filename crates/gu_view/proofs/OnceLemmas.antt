@@ -1,4 +1,4 @@
--- Lists of numbers, each number once.
+-- Lists of numbers without repetition.
 use Rattle.std.proofs.Common.{◌≡◌, ◌≢◌, ℕ, zero, suc, ◌+◌, ◌<◌, ◌==◌, ◌||◌, Bool, true, false, cond, List, [], ◌∷◌, ◌++◌, Some, length, take, get_or, set, slice_get, refl, sym, ap, ◌∙◌, subst, arith, inl, inr, length-append}
 use Rattle.std.specs.Prelude.{All, AllPairs}
 use Rattle.std.specs.List.{list_any}
@@ -12,7 +12,7 @@ use Rattle.gu_view.specs.Keeping.{lists_at, places_with, AreOnce, IsOnce}
 use Rattle.gu_view.specs.Places.{places_from}
 use Rattle.gu_view.proofs.MemberLemmas.{has, has_inside, has_own}
 
--- of numbers that are apart none comes before its place
+-- in a list of distinct numbers, none occurs before its index
 pub not_before : (list : List ℕ) (i d : ℕ) → AllPairs (λ a b. a ≢ b) list → i < length list → list_any (λ n. n == get_or list i d) (take i list) ≡ false
 not_before [] i d apart inside = absurd (omega arith)
 not_before (n ∷ list) zero d apart inside = refl
@@ -20,11 +20,11 @@ not_before (n ∷ list) (suc i) d apart inside =
     or_from (n == get_or list i d) (has (get_or list i d) (take i list)) (ne_eqb n (get_or list i d) (apart 0 (suc i) d (omega arith) inside))
     (not_before list i d (λ a b e less b_in. apart (suc a) (suc b) e (omega arith) (omega arith)) (omega arith))
 
--- no number, each once
+-- the empty list
 pub once_none : IsOnce [] []
 once_none = record { same = λ n. refl; apart = λ a b d less b_in. absurd (omega arith) }
 
--- one number more, which came before
+-- one more number, which occurred before
 pub once_again : (list once : List ℕ) (i x : ℕ) → i < length list → x ≡ get_or list i x → has x once ≡ true → IsOnce (take i list) once → IsOnce (take (i + 1) list) once
 once_again list once i x inside is there h = record { same = λ n. same n ∙ sym (list_any_more (λ m. m == n) list i x inside); apart = h.apart }
   where
@@ -40,7 +40,7 @@ once_again list once i x inside is there h = record { same = λ n. same n ∙ sy
         or_none true = refl
         or_none false = refl
 
--- one number more, which is new
+-- one more number, which is new
 pub once_more : (list once : List ℕ) (i x : ℕ) → i < length list → x ≡ get_or list i x → has x once ≡ false → IsOnce (take i list) once → IsOnce (take (i + 1) list) (once ++ x ∷ [])
 once_more list once i x inside is new h = record {
   same = λ n.
@@ -70,7 +70,7 @@ once_more list once i x inside is new h = record {
 
 -- ---- lists of such lists
 
--- one list more
+-- one more list
 pub are_once_more : (lists made : List (List ℕ)) (i : ℕ) (list once : List ℕ) → slice_get lists i ≡ Some list → AreOnce (take i lists) made → IsOnce list once → AreOnce (take (i + 1) lists) (made ++ once ∷ [])
 are_once_more lists made i list once at h one =
     let inside = slice_get_within lists i list at in
@@ -93,7 +93,7 @@ are_once_more lists made i list once at h one =
           ];
     }
 
--- so are lists that are some of them
+-- a selection of the lists
 pub are_once-at : (kept once : List (List ℕ)) (at : List ℕ) → All (λ place. place < length kept) at → AreOnce kept once → AreOnce (lists_at kept at) (lists_at once at)
 are_once-at kept once at within h =
     let own : ℕ → List ℕ = λ place. get_or kept place [] in
@@ -113,14 +113,14 @@ module _ (lists once : List (List ℕ)) (h : AreOnce lists once) where
   pub once_apart : All (AllPairs (λ a b. a ≢ b)) once
   once_apart p d p_in = (one_at p d p_in).apart
 
-  -- what holds of the numbers holds of them
+  -- a property of the numbers holds of them
   pub once_all : (P : ℕ → Type 0) → All (All P) lists → All (All P) once
   once_all P each p d p_in k e k_in =
       let one = one_at p d p_in in
       let n = get_or (get_or once p d) k e in
       has_inside P n (get_or lists p []) (each p [] (omega (arith, h.long))) (sym (one.same n) ∙ has_own (get_or once p d) k e k_in)
 
-  -- the lists that have a number are at the same places
+  -- the lists with a number are at the same indexes
   pub places_with-once : (n : ℕ) → places_with n once ≡ places_with n lists
   places_with-once n = alike 0 lists once h.long (λ p p_in. (h.each p p_in).same n)
     where
@@ -137,7 +137,7 @@ pub or_no : (a b : Bool) → b ≡ false → (a || b) ≡ a
 or_no true b e = refl
 or_no false b e = e
 
--- so many more are counted at the place of each number
+-- this many more are counted at the index of each number
 pub one_counted : (counts old list : List ℕ) (i n more : ℕ) → AllPairs (λ a b. a ≢ b) list → i < length list → get_or list i 0 < length counts
     → get_or counts n 0 ≡ get_or old n 0 + cond (has n (take i list)) more 0
     → get_or (set counts (get_or list i 0) (get_or counts (get_or list i 0) 0 + more)) n 0 ≡ get_or old n 0 + cond (has n (take (i + 1) list)) more 0

@@ -1,4 +1,4 @@
--- The rooms of a view: one for each key of a path.
+-- The rooms of a view: one for each key on a path.
 use Rattle.std.proofs.Common.{◌≡◌, ◌≢◌, ℕ, ◌<◌, ◌||◌, not, Bool, true, false, List, [], ◌∷◌, Some, length, map, slice_get, refl, sym, ap, ◌∙◌, arith, inl, inr}
 use Rattle.std.specs.Prelude.{All, AllPairs, filter}
 use Rattle.std.specs.List.{AllByRecursion, list_any, position, flat_map}
@@ -21,7 +21,7 @@ use Rattle.gu_view.specs.View.{GroupView, IsView, firsts, keys_of, place_of, pla
 use Rattle.gu_terms.proofs.Lists.{Later, AllPairs-from_Later, along, list_any-map, list_any-flat_map, position_or_len-agree, position_or_len-map, position_or_len-within}
 use Rattle.gu_view.proofs.PassingPlaces.{places_where-within}
 
--- a key that goes takes no other key with it
+-- removing a key removes no other key
 pub has_key-others : (k j : LimitKey) (keys : List LimitKey) → key_eq k j ≡ false → has_key (filter (λ i. not (key_eq k i)) keys) j ≡ has_key keys j
 has_key-others k j [] other = refl
 has_key-others k j (i ∷ keys) other =
@@ -32,7 +32,7 @@ has_key-others k j (i ∷ keys) other =
       | inr stays ↦ rw stays (ap (λ b. key_eq i j || b) (has_key-others k j keys other))
     ]
 
--- what is mentioned is mentioned first somewhere
+-- each key mentioned is in the list of first mentions
 pub has_key-firsts : (keys : List LimitKey) (j : LimitKey) → has_key (firsts keys) j ≡ has_key keys j
 has_key-firsts [] j = refl
 has_key-firsts (k ∷ keys) j =
@@ -46,7 +46,7 @@ pub has_key-keys_of : (offers : List ViewOffer) (k : LimitKey) → has_key (keys
 has_key-keys_of offers k =
     has_key-firsts (flat_map (λ (o : ViewOffer). o.path) offers) k ∙ list_any-flat_map (λ (o : ViewOffer). o.path) (λ j. key_eq j k) offers
 
--- keys apart, and those of them that stay
+-- distinct keys stay distinct if some are removed
 apart-filter : (p : LimitKey → Bool) (keys : List LimitKey) → Later (λ a b. key_eq a b ≡ false) keys → Later (λ a b. key_eq a b ≡ false) (filter p keys)
 apart-filter p [] h = tt
 apart-filter p (k ∷ keys) h =
@@ -55,7 +55,7 @@ apart-filter p (k ∷ keys) h =
       | inr goes ↦ rw goes (apart-filter p keys h.1)
     ]
 
--- each key is mentioned first once
+-- each key is in the list of first mentions once
 pub apart-firsts : (keys : List LimitKey) → Later (λ a b. key_eq a b ≡ false) (firsts keys)
 apart-firsts [] = tt
 apart-firsts (k ∷ keys) =
@@ -99,19 +99,19 @@ on_own_path path = each path (λ k here. here)
     each (k ∷ keys) inside =
         (inside k (or_left (key_eq k k) (has_key keys k) (key_eq-refl k)), each keys (λ j there. inside j (or_right (key_eq k j) (has_key keys j) there)))
 
--- so has a place among the rooms
+-- so it has an index among the rooms
 pub places_within : (view : GroupView) → IsView view → (path : List LimitKey) → AllByRecursion (λ k. list_any (λ o. has_key o.path k) view.offers ≡ true) path
     → AllByRecursion (λ p. p < length view.rooms) (map (place_of view.rooms) path)
 places_within view sound [] on_path = tt
 places_within view sound (k ∷ path) on_path =
     (position_or_len-within (λ r. key_eq r.key k) view.rooms (roomed view sound k on_path.0), places_within view sound path on_path.1)
 
--- the offer at a place has its path among the offers
+-- the path of the offer at an index is among the offers' paths
 pub on_path_at : (offers : List ViewOffer) (i : ℕ) (o : ViewOffer) (k : LimitKey) → slice_get offers i ≡ Some o → has_key o.path k ≡ true → list_any (λ o. has_key o.path k) offers ≡ true
 on_path_at offers i o k at on_path =
     list_any_at (λ o. has_key o.path k) offers i o (slice_get_within offers i o at) (rw (get_or_from_slice_get offers i o o at) on_path)
 
--- the places of an offer's keys are those of rooms
+-- the indexes of an offer's keys are those of rooms
 pub places_are_within : (view : GroupView) → IsView view → (places : List (List ℕ)) (i : ℕ) (list : List ℕ) → i < length view.offers
     → places ≡ map (λ (o : ViewOffer). map (place_of view.rooms) o.path) view.offers → slice_get places i ≡ Some list → All (λ p. p < length view.rooms) list
 places_are_within view sound places i list inside are at =
@@ -124,7 +124,7 @@ places_are_within view sound places i list inside are at =
       | inr past ↦ absurd (omega (arith, past.0))
     ]
 
--- the places of a room's offers are those of offers
+-- the indexes of a room's offers are those of offers
 pub members_are_within : (offers : List ViewOffer) (rooms : List Room) (members : List (List ℕ)) (i : ℕ) (list : List ℕ) → i < length rooms
     → members ≡ map (λ (r : Room). places_under offers r.key) rooms → slice_get members i ≡ Some list → All (λ p. p < length offers) list
 members_are_within offers rooms members i list inside are at =

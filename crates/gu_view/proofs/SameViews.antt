@@ -40,7 +40,7 @@ room_eq-Decides a b =
     made : a.key ≡ b.key → a.lots ≡ b.lots → a ≡ b
     made key lots = ap (λ k. record { key = k; lots = a.lots }) key ∙ ap (λ l. record { key = b.key; lots = l }) lots
 
--- whether the four parts of two views are one
+-- the four parts of two views are equal
 abbrev pub view_eq : GroupView → GroupView → Bool
 view_eq a b = ((bytes_eq a.group.name b.group.name && (a.version == b.version)) && pointwise offer_eq a.offers b.offers) && pointwise room_eq a.rooms b.rooms
 

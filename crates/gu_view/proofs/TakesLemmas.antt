@@ -1,4 +1,4 @@
--- Takes beside the offers of a view.
+-- Takes next to the offers of a view.
 use Rattle.std.proofs.Common.{◌≡◌, ℕ, zero, suc, ◌+◌, ◌<◌, ◌≤◌, ◌||◌, ◌&&◌, ◌==◌, not, nat_lt, Bool, true, false, List, [], ◌∷◌, ◌++◌, Option, Some, None, length, map, take, drop, get_or, set, refl, sym, ap, ◌∙◌, arith, inl, inr}
 use Rattle.std.specs.Prelude.{AllPairs, find}
 use Rattle.std.specs.List.{AllByRecursion, list_any}
@@ -35,16 +35,16 @@ use Rattle.std.proofs.lemmas.Option.{slice_get_cases, slice_get_within, slice_ge
 use Rattle.gu_terms.proofs.Lists.{marked, find_more, Later, Later-from_AllPairs, along, none_any, none_found}
 use Rattle.gu_view.proofs.PassingPlaces.{sum_by-places, sum_by-places-le}
 
--- offers of greater numbers have no smaller one
+-- among offers with greater numbers none has a smaller one
 no_offer_below : (offers : List ViewOffer) (n : ℕ) → AllByRecursion (λ o. n < o.number) offers → has_offer offers n ≡ false
 no_offer_below offers n above = none_any (λ o. o.number == n) offers (along (λ o. n < o.number) (λ o. (o.number == n) ≡ false) offers (λ o h. ne_eqb o.number n (λ e. absurd (omega arith))) above)
 
--- takes of later offers give an offer nothing
+-- takes from later offers take nothing from an offer
 no_lots_below : (takes : List Take) (n : ℕ) → AllByRecursion (λ t. n < t.offer) takes → lots_of takes n ≡ 0
 no_lots_below takes n above =
     ap (λ o. unwrap_or (option_map (λ (t : Take). t.lots) o) 0) (none_found (λ t. t.offer == n) takes (along (λ t. n < t.offer) (λ t. (t.offer == n) ≡ false) takes (λ t h. ne_eqb t.offer n (λ e. absurd (omega arith))) above))
 
--- an offer before all of the takes' is of no use to them
+-- an offer before all those of the takes doesn't matter to them
 unknown-skip : (o : ViewOffer) (offers : List ViewOffer) (takes : List Take) → AllByRecursion (λ t. o.number < t.offer) takes → unknown_take (o ∷ offers) takes ≡ unknown_take offers takes
 unknown-skip o offers [] above = refl
 unknown-skip o offers (t ∷ takes) above =
@@ -54,13 +54,13 @@ unknown-skip o offers (t ∷ takes) above =
       | inr missing ↦ rw missing refl
     ])
 
--- a first take is of no use to later offers
+-- a first take doesn't matter to later offers
 lots-skip : (t : Take) (takes : List Take) (offers : List ViewOffer) → AllByRecursion (λ o. t.offer < o.number) offers → map (λ (o : ViewOffer). lots_of (t ∷ takes) o.number) offers ≡ map (λ (o : ViewOffer). lots_of takes o.number) offers
 lots-skip t takes [] above = refl
 lots-skip t takes (o ∷ offers) above =
     rw (ne_eqb t.offer o.number (λ e. absurd (omega (arith, above.0)))) (ap (λ l. lots_of takes o.number ∷ l) (lots-skip t takes offers above.1))
 
--- what is left to do when one offer has had its takes
+-- what remains after one offer's takes
 pub record IsSplit (o : ViewOffer) (offers : List ViewOffer) (takes : List Take) (n : ℕ) (rest : List Take) : Type 0 where
   pub unknown : unknown_take (o ∷ offers) takes ≡ unknown_take offers rest
   pub lots : unknown_take (o ∷ offers) takes ≡ None → lots_of takes o.number ≡ n
@@ -108,7 +108,7 @@ split o offers (t ∷ takes) later ascending =
     never : {f : CutFault} → Some f ≡ None → ⊥
     never h = cc
 
--- the offers before a place have had their takes
+-- the takes of the offers before an index are done
 pub record IsFilled (offers : List ViewOffer) (takes : List Take) (i : ℕ) (taken : List ℕ) (rest : List Take) : Type 0 where
   pub unknown : unknown_take offers takes ≡ unknown_take (drop i offers) rest
   pub front : unknown_take offers takes ≡ None → take i taken ≡ map (λ (o : ViewOffer). lots_of takes o.number) (take i offers)
@@ -152,7 +152,7 @@ filled_more offers takes i taken rest d inside long ascending h =
     cons_tail : {a b : ℕ} {more others : List ℕ} → a ∷ more ≡ b ∷ others → more ≡ others
     cons_tail h = cc
 
--- among ascending offers, the older ones of an offer that pass a test are those before it
+-- among ascending offers, the older ones that pass a test are those before it
 pub older_is_before : (test : ViewOffer → Bool) (offers : List ViewOffer) (i : ℕ) (d : ViewOffer) → i < length offers → Later (λ a b. a.number < b.number) offers
     → list_any (λ older. nat_lt older.number (get_or offers i d).number && test older) offers ≡ list_any test (take i offers)
 older_is_before test [] i d inside ascending = absurd (omega arith)
@@ -162,7 +162,7 @@ older_is_before test (o ∷ offers) (suc i) d inside ascending =
     let later = All-from_recursion (λ (x : ViewOffer). o.number < x.number) offers ascending.0 i d (omega arith) in
     rw (lt-ltb o.number (get_or offers i d).number later) (ap (λ b. test o || b) (older_is_before test offers i d (omega arith) ascending.1))
 
--- an offer isn't full, and a room is its agreement's
+-- an offer isn't full, and its agreement has this room
 abbrev pub is_short : (ℕ → ℕ) → Room → ViewOffer → Bool
 is_short lots r o = key_eq (Agr o.agreement) r.key && nat_lt (lots o.number) o.lots
 
@@ -170,17 +170,17 @@ is_short lots r o = key_eq (Agr o.agreement) r.key && nat_lt (lots o.number) o.l
 abbrev pub is_too_early : List ViewOffer → (ℕ → ℕ) → ViewOffer → Bool
 is_too_early offers lots o = nat_lt 0 (lots o.number) && has_older_rest offers lots o
 
--- none of the offers before a place takes lots too early, and the marks say which agreements have one that isn't full
+-- none of the offers before an index takes lots too early, and the marks say which agreements have one that isn't full
 pub record IsWalked (offers : List ViewOffer) (rooms : List Room) (lots : ℕ → ℕ) (i : ℕ) (short : List Bool) : Type 0 where
   pub none_early : find (is_too_early offers lots) (take i offers) ≡ None
   pub short_are : short ≡ map (λ r. list_any (is_short lots r) (take i offers)) rooms
 
--- the lots that are taken of the offer at a place
+-- the lots taken from the offer at an index
 pub lots_here : (offers : List ViewOffer) (taken : List ℕ) (lots : ℕ → ℕ) (i : ℕ) (o : ViewOffer) → AreLots offers taken lots → i < length offers → o ≡ get_or offers i o → get_or taken i 0 ≡ lots o.number
 lots_here offers taken lots i o are inside is =
     ap (λ l. get_or l i 0) are ∙ get_or-map (λ (o : ViewOffer). lots o.number) offers i o 0 inside ∙ ap (λ (o : ViewOffer). lots o.number) (sym is)
 
--- the lots at the places under a key are a part of all that is taken
+-- the lots at the indexes under a key are part of all that is taken
 pub under_fits : (offers : List ViewOffer) (rooms : List Room) (taken places : List ℕ) (i : ℕ) → i < length rooms → length taken ≡ length offers
     → IfSome (slice_get rooms i) (λ (r : Room). places ≡ places_under offers r.key) → sum_by (λ p. get_or taken p 0) places ≤ sum taken
 under_fits offers rooms taken places i inside long are =
@@ -200,7 +200,7 @@ under_is offers taken places (Some r) n lots are from is =
     ∙ sum_by-places (λ (o : ViewOffer). has_key o.path r.key) (λ (o : ViewOffer). lots o.number) (λ p. get_or taken p 0) 0 offers
     (λ k d within. ap (λ l. get_or l (0 + k) 0) are ∙ ap (λ n. get_or (map (λ (o : ViewOffer). lots o.number) offers) n 0) (zero-add k) ∙ get_or-map (λ (o : ViewOffer). lots o.number) offers k d 0 within)
 
--- an offer's agreement has its room at the second of its places
+-- the room of an offer's agreement is at the second of its indexes
 pub agreement_at : (view : GroupView) → IsView view → (i : ℕ) (places : List ℕ) → i < length view.offers → IfSome (slice_get view.offers i) (λ (o : ViewOffer). places ≡ map (place_of view.rooms) o.path)
     → IfSome (slice_get view.offers i) (λ (o : ViewOffer). slice_get places 1 ≡ Some (place_of view.rooms (Agr o.agreement)))
 agreement_at view sound i places inside are =
@@ -214,7 +214,7 @@ agreement_at view sound i places inside are =
       | inr past ↦ absurd (omega (arith, past.0))
     ]
 
--- so it has two places
+-- so it has at least two indexes
 pub two_places : (offers : List ViewOffer) (rooms : List Room) (i : ℕ) (places : List ℕ) → i < length offers
     → IfSome (slice_get offers i) (λ (o : ViewOffer). slice_get places 1 ≡ Some (place_of rooms (Agr o.agreement))) → 1 < length places
 two_places offers rooms i places inside at =
@@ -223,7 +223,7 @@ two_places offers rooms i places inside at =
       | inr past ↦ absurd (omega (arith, past.0))
     ]
 
--- a room that passes for a key has it
+-- a room that passes for a key has that key
 pub key_at_place : (rooms : List Room) (k : LimitKey) (d : Room) → place_of rooms k < length rooms → (get_or rooms (place_of rooms k) d).key ≡ k
 key_at_place rooms k d inside =
     key_eq-same (get_or rooms (place_of rooms k) d).key k (not-false (key_eq (get_or rooms (place_of rooms k) d).key k) (prefix_len_stops (λ (r : Room). not (key_eq r.key k)) rooms d inside))
@@ -251,7 +251,7 @@ module _ (view : GroupView) (sound : IsView view) (lots : ℕ → ℕ) (i place 
       ∙ ap (λ k. list_any (λ (older : ViewOffer). key_eq (Agr older.agreement) k && nat_lt (lots older.number) older.lots) (take i view.offers)) (sym here-key)
       ∙ sym mark_is
 
-  -- one more offer is walked by
+  -- one more offer is passed
   pub walked_more : (mark : Bool) → is_too_early view.offers lots o ≡ false → mark ≡ (get_or short place false || nat_lt (lots o.number) o.lots)
       → IsWalked view.offers view.rooms lots (i + 1) (set short place mark)
   unfolding here
@@ -275,7 +275,7 @@ pub agreement_is : (offers : List ViewOffer) (rooms : List Room) (i : ℕ) (plac
     → IfSome (slice_get offers i) (λ (o : ViewOffer). slice_get places 1 ≡ Some (place_of rooms (Agr o.agreement))) → IfSome (slice_get offers i) (λ (o : ViewOffer). get_or places 1 0 ≡ place_of rooms (Agr o.agreement))
 agreement_is offers rooms i places at = IfSome_then (slice_get offers i) at (λ o h. get_or_from_slice_get places 1 (place_of rooms (Agr o.agreement)) 0 h)
 
--- one more offer of which no more is taken than it has
+-- one more offer from which no more is taken than it has
 pub sum_more : (taken : List ℕ) (offers : List ViewOffer) (i : ℕ) (o : ViewOffer) → i < length taken → i < length offers → o ≡ get_or offers i o → sum (take i taken) ≤ sum_by (λ (o : ViewOffer). o.lots) (take i offers)
     → get_or taken i 0 ≤ o.lots → sum (take (i + 1) taken) ≤ sum_by (λ (o : ViewOffer). o.lots) (take (i + 1) offers)
 sum_more taken offers i o inside within is before here =

@@ -1,2 +1,2 @@
--- Boards: what a contract sees of a board (its shelves), of a token (where its view is, and the view), and that a token is of a board.
+-- Boards, as contracts see them: a board is its shelves, a token is a place and the view there, and a token belongs to a board.
 pub use Rattle.boxcar.specs.Table.{Shelves, Shows, Where}

@@ -1,4 +1,4 @@
--- The check of takes and a cut against a view: which fault is named first.
+-- The check of takes and a cut against a view: which fault is reported first.
 use Rattle.std.specs.Prelude.{◌≡◌, ℕ, ◌==◌, ◌&&◌, not, nat_lt, Bool, List, [], ◌∷◌, Option, Some, None, Result, Ok, Err, All, IsTrue, find, if◌then◌else◌}
 use Rattle.std.specs.List.{list_any}
 use Rattle.std.specs.Option.{option_map}
@@ -25,19 +25,19 @@ has_offer offers number = list_any (λ o. o.number == number) offers
 abbrev pub has_room : List Room → LimitKey → Bool
 has_room rooms k = list_any (λ r. key_eq r.key k) rooms
 
--- the first take of an offer that the view lacks
+-- the first take from an offer that the view lacks
 abbrev pub unknown_take : List ViewOffer → List Take → Option CutFault
 unknown_take offers takes = option_map (λ (t : Take). Unknown (UnknownOffer t.offer)) (find (λ t. not (has_offer offers t.offer)) takes)
 
--- the cut's first key that the view lacks
+-- the first key of the cut that the view lacks
 abbrev pub unknown_key : List Room → List LimitKey → Option CutFault
 unknown_key rooms keys = option_map (λ (k : LimitKey). Unknown (Key k)) (find (λ k. not (has_room rooms k)) keys)
 
--- the cut's first offer that the view lacks
+-- the first offer of the cut that the view lacks
 abbrev pub unknown_offer : List ViewOffer → List ℕ → Option CutFault
 unknown_offer offers numbers = option_map (λ (n : ℕ). Unknown (UnknownOffer n)) (find (λ n. not (has_offer offers n)) numbers)
 
--- the least offer of which more is taken than it has
+-- the first offer from which more is taken than it has
 abbrev pub over_offer : List ViewOffer → (ℕ → ℕ) → Option CutFault
 over_offer offers lots = option_map (λ (o : ViewOffer). OverOffer o.number) (find (λ o. nat_lt o.lots (lots o.number)) offers)
 
@@ -45,36 +45,36 @@ over_offer offers lots = option_map (λ (o : ViewOffer). OverOffer o.number) (fi
 abbrev pub over_limit : List ViewOffer → List Room → (ℕ → ℕ) → Option CutFault
 over_limit offers rooms lots = option_map (λ (r : Room). OverLimit r.key) (find (λ r. nat_lt r.lots (lots_under offers r.key lots)) rooms)
 
--- an older offer of the agreement isn't full
+-- an older offer under the same agreement isn't full
 abbrev pub has_older_rest : List ViewOffer → (ℕ → ℕ) → ViewOffer → Bool
 has_older_rest offers lots o =
     list_any (λ older. nat_lt older.number o.number && (same_agreement older o && nat_lt (lots older.number) older.lots)) offers
 
--- the least offer that takes lots while an older one of its agreement isn't full
+-- the first offer that takes lots while an older one under its agreement isn't full
 abbrev pub not_oldest_first : List ViewOffer → (ℕ → ℕ) → Option CutFault
 not_oldest_first offers lots =
     option_map (λ (o : ViewOffer). NotOldestFirst o.number) (find (λ o. nat_lt 0 (lots o.number) && has_older_rest offers lots o) offers)
 
--- the least offer that is neither in the cut nor has a key in it
+-- the first offer that neither is in the cut nor has a key in it
 abbrev pub uncovered : List ViewOffer → CutLists → Option CutFault
 uncovered offers cut = option_map (λ (o : ViewOffer). Uncovered o.number) (find (λ o. not (is_covered cut o)) offers)
 
--- the cut's room isn't the lots taken
+-- the cut's room differs from the lots taken
 abbrev pub room_differs : GroupView → (ℕ → ℕ) → CutLists → Option CutFault
 room_differs view lots cut = if total view.offers lots == room_of view cut then None else Some RoomDiffers
 
--- the first of these that is found
+-- the first fault among these, if there is one
 abbrev pub first_found : List (Option CutFault) → Option CutFault
 first_found [] = None
 first_found (None ∷ others) = first_found others
 first_found (Some fault ∷ others) = Some fault
 
--- a fault, or else what follows
+-- this fault, or else the answer that follows
 abbrev pub unless : Option CutFault → Result ℕ CutFault → Result ℕ CutFault
 unless None answer = answer
 unless (Some fault) answer = Err fault
 
--- the first fault where takes and cut name only the view's own, or else the lots taken
+-- the first fault if takes and cut name only what the view has, or else the lots taken
 abbrev pub verdict_of_known : GroupView → (ℕ → ℕ) → CutLists → Result ℕ CutFault
 verdict_of_known view lots cut =
     unless
@@ -87,14 +87,14 @@ verdict_of_known view lots cut =
     ∷ []))
     (Ok (total view.offers lots))
 
--- the first fault, or else the lots taken: what takes and cut name comes first
+-- the first fault, or else the lots taken: what takes and cut name is tested first
 abbrev pub verdict : GroupView → List Take → CutLists → Result ℕ CutFault
 verdict view takes cut =
     unless
     (first_found (unknown_take view.offers takes ∷ unknown_key view.rooms cut.keys ∷ unknown_offer view.offers cut.offers ∷ []))
     (verdict_of_known view (lots_of takes) cut)
 
--- takes and cut name only the view's own, the takes are admissible and oldest first, the cut covers, and its room is the lots taken
+-- takes and cut name only what the view has, the takes are admissible and oldest first, the cut covers, and its room equals the lots taken
 pub record IsRight (view : GroupView) (takes : List Take) (cut : CutLists) (lots : ℕ) : Type 0 where
   pub takes_known : All (λ t. IsTrue (has_offer view.offers t.offer)) takes
   pub keys_known : All (λ k. IsTrue (has_room view.rooms k)) cut.keys

@@ -10,11 +10,11 @@ use Rattle.gu_view.specs.View.{GroupView}
 abbrev pub is_covered : CutLists → ViewOffer → Bool
 is_covered cut o = has_number cut.offers o.number || list_any (has_key cut.keys) o.path
 
--- each offer is in the cut or has a key in it
+-- each offer is in the cut or has a key of its path in it
 abbrev pub Covers : GroupView → CutLists → Type 0
 Covers view cut = All (λ o. IsTrue (is_covered cut o)) view.offers
 
--- the rooms of the cut's keys and the lots of its offers, each member once
+-- the total room of the cut's keys plus the total lots of its offers, each counted once
 abbrev pub room_of : GroupView → CutLists → ℕ
 room_of view cut =
     sum_by (λ r. if has_key cut.keys r.key then r.lots else 0) view.rooms

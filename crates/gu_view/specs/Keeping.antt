@@ -1,4 +1,4 @@
--- Machinery: what a view keeps beside what it shows, and what is known while it is made.
+-- Machinery: what a view stores beside what it shows, and what is known while it is made.
 use Rattle.std.specs.Prelude.{◌≡◌, ◌≢◌, ℕ, ◌+◌, ◌*◌, ◌<◌, ◌≤◌, List, [], ◌∷◌, ◌==◌, Option, None, All, AllPairs, IsTrue, length, map, slice_index, slice_index_or, slice_range}
 use Rattle.std.specs.List.{list_any}
 use Rattle.gu_terms.specs.LimitKeys.{has_key}
@@ -9,37 +9,37 @@ use Rattle.gu_view.specs.View.{GroupView, IsView, keys_of, place_among, place_of
 use Rattle.gu_view.specs.declared.view.ViewOffer.{ViewOffer}
 use Rattle.gu_view.specs.declared.view.Room.{Room}
 
--- the lists that end at these places of one list, the first from this place on
+-- the parts of one list that end at these positions, the first starting at `from`
 abbrev pub lists_from : List ℕ → ℕ → List ℕ → List (List ℕ)
 lists_from joined from [] = []
 lists_from joined from (end ∷ ends) = slice_range joined from end ∷ lists_from joined end ends
 
--- ends ascend, the last is the end of the whole list
+-- ends ascend from here, and the last is the end of the whole list
 abbrev pub AreEnds : ℕ → ℕ → List ℕ → Type 0
 AreEnds whole from [] = from ≡ whole
 AreEnds whole from (end ∷ ends) = (from ≤ end) × AreEnds whole end ends
 
--- the lists at these places
+-- the lists at these indexes
 abbrev pub lists_at : List (List ℕ) → List ℕ → List (List ℕ)
 lists_at lists places = map (λ place. slice_index_or lists place []) places
 
--- a list has the numbers of another, each once
+-- a list has the same numbers as another, each once
 pub record IsOnce (list once : List ℕ) : Type 0 where
   pub same : (n : ℕ) → list_any (λ m. m == n) once ≡ list_any (λ m. m == n) list
   pub apart : AllPairs (λ a b. a ≢ b) once
 
--- so have lists, each those of the list at its place
+-- this holds for each list and the one at its index
 pub record AreOnce (lists once : List (List ℕ)) : Type 0 where
   pub long : length once ≡ length lists
   pub each : (place : ℕ) → place < length lists → IsOnce (slice_index_or lists place []) (slice_index_or once place [])
 
--- the keys of these offers' paths in order of first mention, beside the places of each path's keys
+-- these are the keys of the offers' paths in order of first mention, at most five an offer, and the indexes of each path's keys
 pub record AreMentioned (offers : List ViewOffer) (keys : List LimitKey) (places : List (List ℕ)) : Type 0 where
   pub keys_are : keys ≡ keys_of offers
   pub few : length keys ≤ 5 * length offers
   pub places_are : places ≡ map (λ o. map (place_among keys) o.path) offers
 
--- offers of which none is bad and no path differs, beside their keys, and the places of each path's keys
+-- no offer is bad and no path differs; these are the offers' keys, at most 20,480, and the indexes of each path's keys
 pub record IsKeyed (offers : List ViewOffer) (keys : List LimitKey) (places : List (List ℕ)) : Type 0 where
   pub numbers : bad_offer offers ≡ None
   pub paths : path_differs offers ≡ None
@@ -47,7 +47,7 @@ pub record IsKeyed (offers : List ViewOffer) (keys : List LimitKey) (places : Li
   pub few : length keys ≤ 20480
   pub places_are : places ≡ map (λ o. map (place_among keys) o.path) offers
 
--- a view beside its keys, the places of each offer's keys, and of each room's offers
+-- a view, its keys, the indexes of each offer's keys, and the indexes of each room's offers
 pub record IsIndexed (view : GroupView) (keys : List LimitKey) (places members : List (List ℕ)) : Type 0 where
   pub sound : IsView view
   pub keys_are : keys ≡ map (λ r. r.key) view.rooms
@@ -61,11 +61,11 @@ pub record IsGiven (keys : List LimitKey) (rooms : List Room) (lots : LimitKey �
   pub limits : All (λ r. r.lots ≤ 1000000000) rooms
   pub lots_are : (k : LimitKey) → lots k ≡ lots_given rooms k
 
--- the places of the lists that have a number
+-- the indexes of the lists that contain a number
 abbrev pub places_with : ℕ → List (List ℕ) → List ℕ
 places_with n lists = places_where (λ l. list_any (λ m. m == n) l) lists
 
--- where the lists of each number start, one after another
+-- the starts of the lists of each number, one after another
 abbrev pub AreStarts : List (List ℕ) → List ℕ → Type 0
 AreStarts lists starts =
     (p : ℕ) → p + 1 < length starts → slice_index starts (p + 1) ≡ slice_index starts p + length (places_with p lists)

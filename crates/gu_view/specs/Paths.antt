@@ -10,44 +10,43 @@ use Rattle.gu_view.specs.View.{places_under}
 use Rattle.gu_view.specs.declared.view.ViewOffer.{ViewOffer}
 use Rattle.gu_view.specs.declared.view.Room.{Room}
 
--- keys of an executing firm, of an agreement, of an account and of a carrying firm
+-- these are the keys of an executing firm, of this agreement, of an account and of a carrying firm
 abbrev pub are_kinds : AgreementId → LimitKey → LimitKey → LimitKey → LimitKey → Bool
 are_kinds own (Exec _) (Agr agreement) (Acct _) (Carry _) = key_eq (Agr agreement) (Agr own)
 are_kinds own _ _ _ _ = false
 
--- a key of a guarantor
+-- a key is a guarantor's
 abbrev pub is_guarantor : LimitKey → Bool
 is_guarantor (Guar _) = true
 is_guarantor _ = false
 
--- a path of these four, or of a guarantor's after them
+-- a path has these four keys, or these four and a guarantor's
 abbrev pub is_whole : AgreementId → List LimitKey → Bool
 is_whole own (a ∷ b ∷ c ∷ d ∷ []) = are_kinds own a b c d
 is_whole own (a ∷ b ∷ c ∷ d ∷ e ∷ []) = are_kinds own a b c d && is_guarantor e
 is_whole own _ = false
 
--- one key, or none
+-- the same key, or none on both sides
 abbrev pub same_key : Option LimitKey → Option LimitKey → Bool
 same_key (Some j) (Some k) = key_eq j k
 same_key None None = true
 same_key _ _ = false
 
--- the place on a path of what comes after a key that paths share: after an account's the carrying firm's, and after a
--- carrying firm's its guarantor's
+-- the depth on a path that follows a key which paths share: the carrying firm's after an account's, the guarantor's after a carrying firm's
 abbrev pub behind : LimitKey → Option ℕ
 behind (Acct _) = Some 3
 behind (Carry _) = Some 4
 behind _ = None
 
--- the key at a place on the path of an offer
+-- the key at a depth on the path of the offer at an index
 abbrev pub key_on : List ViewOffer → ℕ → ℕ → Option LimitKey
 key_on offers depth place = option_and_then (λ (o : ViewOffer). slice_get o.path depth) (slice_get offers place)
 
--- the offers at these places have there the key of the first of them
+-- the offers at these indexes all have the same key at this depth as the first, or all have none
 abbrev pub have_one_key : List ViewOffer → ℕ → List ℕ → Bool
 have_one_key offers depth [] = true
 have_one_key offers depth (first ∷ others) = list_all (λ other. same_key (key_on offers depth first) (key_on offers depth other)) others
 
--- under a room all offers go on with one key
+-- the paths of all offers under a room continue with the same key, or all end
 abbrev pub room_agrees : List ViewOffer → Room → Bool
 room_agrees offers r = option_map_or (λ depth. have_one_key offers depth (places_under offers r.key)) (behind r.key) true

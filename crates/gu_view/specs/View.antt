@@ -13,14 +13,14 @@ use Rattle.gu_view.specs.declared.view.ViewOffer.{ViewOffer}
 use Rattle.gu_view.specs.declared.view.Room.{Room}
 use Rattle.gu_view.specs.Places.{places_where}
 
--- what a view shows: a group and its version, its open offers, and the room of each key on their paths
+-- a view: a group and its version, its open offers, and the room of each key on their paths
 pub record GroupView : Type 0 where
   pub group : Group
   pub version : ℕ
   pub offers : List ViewOffer
   pub rooms : List Room
 
--- keys, each once, where it first comes
+-- the keys without repetitions, in order of first occurrence
 abbrev pub firsts : List LimitKey → List LimitKey
 firsts [] = []
 firsts (k ∷ keys) = k ∷ filter (λ j. not (key_eq k j)) (firsts keys)
@@ -29,7 +29,7 @@ firsts (k ∷ keys) = k ∷ filter (λ j. not (key_eq k j)) (firsts keys)
 abbrev pub keys_of : List ViewOffer → List LimitKey
 keys_of offers = firsts (flat_map (λ o. o.path) offers)
 
--- what holds of every view
+-- the rules of every view
 pub record IsView (view : GroupView) : Type 0 where
   pub few : length view.offers ≤ 4096
   pub ascending : AllPairs (λ a b. a.number < b.number) view.offers
@@ -40,38 +40,38 @@ pub record IsView (view : GroupView) : Type 0 where
   pub few_rooms : length view.rooms ≤ 20480
   pub limits : All (λ r. r.lots ≤ 1000000000) view.rooms
 
--- the offer with a number
+-- the offer with this number
 abbrev pub offer_of : List ViewOffer → ℕ → Option ViewOffer
 offer_of offers number = find (λ o. o.number == number) offers
 
--- the place of a key among keys
+-- the index of a key among these keys
 abbrev pub place_among : List LimitKey → LimitKey → ℕ
 place_among keys k = position_or_len (λ j. key_eq j k) keys
 
--- the place of a key among the rooms
+-- the index of a key among these rooms
 abbrev pub place_of : List Room → LimitKey → ℕ
 place_of rooms k = position_or_len (λ r. key_eq r.key k) rooms
 
--- the places of the offers with a key on their path
+-- the indexes of the offers with a key on their path
 abbrev pub places_under : List ViewOffer → LimitKey → List ℕ
 places_under offers k = places_where (λ o. has_key o.path k) offers
 
--- a path: executing firm, the offer's own agreement, account, carrying firm, and that firm's guarantor, where it has one
+-- a path: executing firm, the offer's own agreement, account, carrying firm, and that firm's guarantor if it has one
 abbrev pub IsPath : ViewOffer → Type 0
 IsPath o =
     (executing : FirmId) × (account : AccountId) × (carrying : FirmId) × (guarantor : Option FirmId)
     × (o.path ≡ path_through executing o.agreement account carrying guarantor)
 
--- the key that comes after one on a path
+-- the key that follows this one on a path
 abbrev pub next_key : List LimitKey → LimitKey → Option LimitKey
 next_key path k = slice_get path (suc (position_or_len (λ j. key_eq j k) path))
 
--- where two paths both have this key, they go on after it with one key, or both end with it
+-- if two paths both have this key, they continue with the same key, or both end with it
 abbrev pub GoOnAlike : LimitKey → List LimitKey → List LimitKey → Type 0
 GoOnAlike k a b = IsTrue (has_key a k) → IsTrue (has_key b k) → next_key a k ≡ next_key b k
 
--- each path is whole, offers of one account key have one carrying key, and those of one carrying key have one
--- guarantor key, or none has one
+-- each path is whole, offers with one account have the same carrying firm's key, and those with one carrying firm the same guarantor's key,
+-- or none
 pub record IsNested (view : GroupView) : Type 0 where
   pub paths : All IsPath view.offers
   pub carriers : All (λ a. All (λ b. (account : AccountId) → GoOnAlike (Acct account) a.path b.path) view.offers) view.offers

@@ -1,4 +1,4 @@
-//! The board: views that are published for good, and read without a lock.
+//! The board: published views, which are never removed and are read without a lock.
 
 ghost use Rattle.std.specs.Prelude.{◌≡◌, IfErr, IfOk};
 ghost use Rattle.gu_view.specs.Boards.{Shows};
@@ -8,7 +8,7 @@ use std::alloc::{AllocError, Global};
 use std::marker::Model;
 use std::sync::Wait;
 
-/// Views, each where it was published. It only grows.
+/// A board of published views. It only grows.
 #[derive(Drop)]
 pub struct Board {
     views: boxcar::Vec<View>,
@@ -22,7 +22,7 @@ impl Model for Board {
     ghost view = { λ b. b.views };
 }
 
-/// Says which view is on which board.
+/// A token for a view: the board that it is on, and its place there.
 #[derive(Drop)]
 pub struct ViewToken {
     shown: boxcar::Pushed<View>,
@@ -38,14 +38,14 @@ impl Model for ViewToken {
 }
 
 impl Board {
-    /// A board without views.
+    /// Returns an empty board.
     pub fn new(alloc: Global) -> Result<Board, AllocError> {
         Ok(Board {
             views: boxcar::Vec::new(alloc)?,
         })
     }
 
-    /// Publishes a view for good. Other threads may publish meanwhile.
+    /// Publishes a view for good and returns its token. Other threads may publish at the same time.
     pub fn publish<R: Wait>(&self, rt: &R, view: View) -> Result<ViewToken, (AllocError, View)>
         ensures here { IfOk result (λ token. Shows self.now token) }
         ensures shown { IfOk result (λ token. token.value ≡ view) }
@@ -57,7 +57,7 @@ impl Board {
         }
     }
 
-    /// The view that was published. It takes no lock and no memory, and doesn't wait.
+    /// Returns the published view. It takes no lock, allocates nothing and doesn't wait.
     pub fn read(&self, token: &ViewToken) -> &View
         requires { Shows self.now token.now }
         ensures { result.now ≡ token.now.value }

@@ -15,7 +15,7 @@ use crate::takes::{fill_lots, not_oldest_first, over_limit, over_offer, sum_of};
 use crate::view::{MOST_ROOMS, Room, View, ViewOffer};
 use gu_terms::{Cut, LimitKey, MOST_OPEN_OFFERS, OfferNo, Takes};
 
-/// Marks the rooms of these keys, or answers the first key that has no room.
+/// Marks the rooms of these keys, or returns the first key that has no room.
 fn mark_keys(view: &View, keys: &[LimitKey], marks: &mut [bool]) -> Option<CutFault>
     requires { AreMarks view.now.rooms marks.old (λ _. false) }
     ensures unknown { result ≡ unknown_key view.now.rooms keys.now }
@@ -30,7 +30,7 @@ fn mark_keys(view: &View, keys: &[LimitKey], marks: &mut [bool]) -> Option<CutFa
     None
 }
 
-/// How many offers have a smaller number.
+/// Returns the number of offers with a smaller number.
 fn smaller(offers: &[ViewOffer], number: OfferNo) -> usize
     requires { AllPairs (λ a b. a.number < b.number) offers.now }
     ensures before { AllWithin (λ o. o.number < number) offers.now 0 result }
@@ -39,7 +39,7 @@ fn smaller(offers: &[ViewOffer], number: OfferNo) -> usize
     offers.partition_point(|offer| offer.number < number)
 }
 
-/// The place of the offer with a number.
+/// Returns the index of the offer with this number.
 pub fn offer_place(offers: &[ViewOffer], number: OfferNo) -> Option<usize>
     requires { AllPairs (λ a b. a.number < b.number) offers.now }
     ensures { result ≡ position (λ o. o.number == number) offers.now }
@@ -52,7 +52,7 @@ pub fn offer_place(offers: &[ViewOffer], number: OfferNo) -> Option<usize>
     }
 }
 
-/// Marks the offers with these numbers, or answers the first number that no offer has.
+/// Marks the offers with these numbers, or returns the first number that no offer has.
 fn mark_offers(offers: &[ViewOffer], numbers: &[OfferNo], marks: &mut [bool]) -> Option<CutFault>
     requires ascending { AllPairs (λ a b. a.number < b.number) offers.now }
     requires fresh { AreMarks offers.now marks.old (λ _. false) }
@@ -68,7 +68,7 @@ fn mark_offers(offers: &[ViewOffer], numbers: &[OfferNo], marks: &mut [bool]) ->
     None
 }
 
-/// Whether one of these places is marked.
+/// Returns whether any of these indexes is marked.
 fn is_marked(places: &[u32], marks: &[bool]) -> bool
     requires { All (λ place. place < length marks.now) places.now }
     ensures { result ≡ list_any (λ place. slice_index_or marks.now place false) places.now }
@@ -76,7 +76,7 @@ fn is_marked(places: &[u32], marks: &[bool]) -> bool
     places.iter().any(|place| marks[*place as usize])
 }
 
-/// The least offer that is neither in the cut nor has a key in it.
+/// Returns the first offer that neither is in the cut nor has a key in it.
 fn first_uncovered(view: &View, keys: &[bool], numbers: &[bool]) -> Option<CutFault>
     requires keys { length keys.now ≡ length view.now.rooms }
     requires numbers { length numbers.now ≡ length view.now.offers }
@@ -93,14 +93,14 @@ fn first_uncovered(view: &View, keys: &[bool], numbers: &[bool]) -> Option<CutFa
     None
 }
 
-/// The lots that a limit gives to the room of a cut: its own, once, where the cut has it.
+/// Returns the lots that a limit adds to the room of a cut: its room if its key is cut, else 0.
 fn room_of_limit(room: &Room, is_cut: bool) -> u64
     ensures { result ≡ (if is_cut then room.now.lots else 0) }
 {
     if is_cut { room.lots } else { 0 }
 }
 
-/// The lots of the marked rooms.
+/// Returns the total lots of the marked rooms.
 fn room_in_keys(rooms: &[Room], marks: &[bool]) -> u64
     requires { sum_by (λ p. if p.1 then p.0.lots else 0) (zip rooms.now marks.now) < 2 ^ 64 }
     ensures { result ≡ sum_by (λ p. if p.1 then p.0.lots else 0) (zip rooms.now marks.now) }
@@ -112,7 +112,7 @@ fn room_in_keys(rooms: &[Room], marks: &[bool]) -> u64
         .sum()
 }
 
-/// The lots of the marked offers.
+/// Returns the total lots of the marked offers.
 fn room_in_offers(offers: &[ViewOffer], marks: &[bool]) -> u64
     requires { sum_by (λ p. if p.1 then p.0.lots else 0) (zip offers.now marks.now) < 2 ^ 64 }
     ensures { result ≡ sum_by (λ p. if p.1 then p.0.lots else 0) (zip offers.now marks.now) }
@@ -124,7 +124,7 @@ fn room_in_offers(offers: &[ViewOffer], marks: &[bool]) -> u64
         .sum()
 }
 
-/// The first fault of lots by offer and marked keys and offers, all of the view, or else the lots that are taken.
+/// Returns the first fault of these lots by offer and of the marked keys and offers, which are all in the view, or else the lots taken.
 fn check_marked(
     view: &View,
     taken: &[u64],
@@ -158,7 +158,7 @@ fn check_marked(
     }
 }
 
-/// The first fault of takes and a cut, or else the lots that are taken.
+/// Returns the first fault of takes and a cut, or else the lots taken.
 fn answer(view: &View, takes: &Takes, cut: &Cut) -> Result<u64, CutFault>
     ensures verdict { result ≡ verdict view.now takes.now cut.now }
     ensures sound { IsView view.now }
@@ -182,7 +182,7 @@ fn answer(view: &View, takes: &Takes, cut: &Cut) -> Result<u64, CutFault>
     check_marked(view, taken, keys, numbers)
 }
 
-/// The lots that the takes give, or the first thing that is wrong with them or with the cut. It takes no memory.
+/// Returns the total lots of the takes, or the first fault of the takes or the cut. It allocates nothing.
 pub fn check(view: &View, takes: &Takes, cut: &Cut) -> Result<u64, CutFault>
     ensures verdict { result ≡ verdict view.now takes.now cut.now }
     ensures exact { (lots : ℕ) → (result ≡ Ok lots) ↔ IsRight view.now takes.now cut.now lots }

@@ -1,4 +1,4 @@
-//! What is wrong with a view, or with takes and a cut.
+//! Faults of a view, and of takes and a cut.
 
 ghost use Rattle.std.specs.Prelude.{◌≡◌};
 ghost use Rattle.gu_view.specs.Faults.{number_of, name_of};
@@ -7,16 +7,16 @@ use gu_terms::{LimitKey, OfferNo};
 use std::alloc::AllocError;
 use thiserror::Error;
 
-/// Why offers and rooms make no view.
+/// The reason that offers and rooms don't make a view.
 #[derive(Clone, Copy, Debug, PartialEq, Eq, Error)]
 pub enum ViewError {
-    /// This offer's number isn't above the one before it, its lots are out of range, or 4,096 offers come before it.
+    /// This offer's number isn't above the previous one, its lots are out of range, or 4,096 offers come before it.
     #[error("BadOffer")]
     BadOffer(OfferNo),
-    /// An older offer of this one's agreement has another path, or the second key of its path isn't its agreement.
+    /// An older offer under the same agreement has another path, or the second key of this offer's path isn't its agreement.
     #[error("PathDiffers")]
     PathDiffers(OfferNo),
-    /// The rooms aren't those of the paths' keys, each once, or one is above 1,000,000,000.
+    /// The rooms aren't exactly those of the paths' keys, each once, or one is above 1,000,000,000 lots.
     #[error("BadRooms")]
     BadRooms,
     /// An allocation failed.
@@ -35,7 +35,7 @@ impl From<AllocError> for ViewError {
     }
 }
 
-/// What takes or a cut name though the view lacks it.
+/// A key or an offer that takes or a cut name but the view lacks.
 #[derive(Clone, Copy, Debug, PartialEq, Eq)]
 pub enum Unknown {
     /// A key that is on no path of the view.
@@ -44,31 +44,31 @@ pub enum Unknown {
     Offer(OfferNo),
 }
 
-/// The first thing that is wrong with takes and a cut, in the order in which it is looked for.
+/// The first fault of takes and a cut, in the order of the tests.
 #[derive(Clone, Copy, Debug, PartialEq, Eq, Error)]
 pub enum CutFault {
-    /// The takes or the cut name what the view lacks.
+    /// The takes or the cut name something that the view lacks.
     #[error("Unknown")]
     Unknown(Unknown),
-    /// More is taken of this offer than it has.
+    /// More is taken from this offer than it has.
     #[error("OverOffer")]
     OverOffer(OfferNo),
     /// More is taken under this key than its room.
     #[error("OverLimit")]
     OverLimit(LimitKey),
-    /// Lots are taken of this offer while an older one of its agreement isn't full.
+    /// Lots are taken from this offer while an older one under its agreement isn't full.
     #[error("NotOldestFirst")]
     NotOldestFirst(OfferNo),
-    /// This offer is neither in the cut nor has a key in it.
+    /// This offer neither is in the cut nor has a key in it.
     #[error("Uncovered")]
     Uncovered(OfferNo),
-    /// The cut's room isn't the lots taken.
+    /// The cut's room differs from the lots taken.
     #[error("RoomDiffers")]
     RoomDiffers,
 }
 
 impl CutFault {
-    /// Its number in a reply.
+    /// Returns its number in a reply.
     pub fn number(self) -> u64
         ensures { result ≡ number_of self }
     {
@@ -82,7 +82,7 @@ impl CutFault {
         }
     }
 
-    /// Its name in a reply.
+    /// Returns its name in a reply.
     pub fn name(self) -> &'static str
         ensures { result.now ≡ name_of self }
     {

@@ -1,4 +1,4 @@
-//! Offers with the keys of their paths, in order of first mention.
+//! Offers and the keys of their paths, in order of first mention.
 
 ghost use Rattle.std.specs.Prelude.{◌≡◌, ◌+◌, ◌<◌, ◌≤◌, ◌^◌, ◌++◌, ◌∷◌, [], None, List, AllPairs, IfOk, IsTrue, OnOk, length, map, take};
 ghost use Rattle.gu_terms.specs.LimitKeys.{has_key};
@@ -14,15 +14,14 @@ use indexmap::IndexSet;
 use std::alloc::{AllocError, Global};
 use std::marker::Model;
 
-/// The keys that a path has at most.
+/// The most keys in a path.
 const MOST_KEYS: usize = 5;
 
-/// Offers of which a view may be made, with the keys of their paths in order of first mention. To a contract it is the list of
-/// these offers.
+/// Offers that a view may be made of, and the keys of their paths in order of first mention. To a contract it is the list of these offers.
 pub struct KeyedOffers {
     offers: Vec<ViewOffer>,
     keys: IndexSet<LimitKey>,
-    /// For each offer the places of its path's keys among the keys.
+    /// For each offer, the indexes of its path's keys among the keys.
     places: SharedLists,
 }
 
@@ -38,7 +37,7 @@ impl Model for KeyedOffers {
     ghost invariant = { λ k. IsKeyed k.offers.items k.keys.keys k.places };
 }
 
-// By hand, so that who holds them lets them go by one call.
+// By hand, so that its owner drops it with one call.
 impl Drop for KeyedOffers {
     fn drop(self) {
         let KeyedOffers {
@@ -52,7 +51,7 @@ impl Drop for KeyedOffers {
     }
 }
 
-/// Mentions the keys of a path, and adds the list of their places.
+/// Adds the new keys of a path, and the list of the indexes of all its keys.
 fn mention(
     keys: &mut IndexSet<LimitKey>,
     places: &mut SharedLists,
@@ -77,8 +76,7 @@ fn mention(
     places.push(&list[..path.len()])
 }
 
-/// Mentions the keys of the path of the offer at a place, after those before it. Where the offer before it is of the same agreement,
-/// both share the list of places.
+/// Adds the keys of the path of the offer at an index. If the previous offer is under the same agreement, both share the list of indexes.
 fn mention_offer(
     keys: &mut IndexSet<LimitKey>,
     places: &mut SharedLists,
@@ -97,7 +95,7 @@ fn mention_offer(
     Ok(())
 }
 
-/// Mentions the keys of the offers' paths, in order, and adds for each offer the list of their places.
+/// Adds the keys of the offers' paths, in order, and for each offer the list of their indexes.
 fn mention_all(
     keys: &mut IndexSet<LimitKey>,
     places: &mut SharedLists,
@@ -114,7 +112,7 @@ fn mention_all(
     Ok(())
 }
 
-/// The keys of the offers' paths, in order of first mention, and for each offer the places of its path's keys.
+/// Returns the keys of the offers' paths, in order of first mention, and for each offer the indexes of its path's keys.
 fn keyed(
     alloc: Global,
     offers: &[ViewOffer],
@@ -135,7 +133,7 @@ fn keyed(
 }
 
 impl KeyedOffers {
-    /// These offers with their keys.
+    /// Returns these offers with their keys.
     pub fn new(alloc: Global, offers: Vec<ViewOffer>) -> Result<Self, AllocError>
         requires numbers { bad_offer offers.items ≡ None }
         requires paths { path_differs offers.items ≡ None }
@@ -149,21 +147,21 @@ impl KeyedOffers {
         })
     }
 
-    /// The keys of their paths, in order of first mention.
+    /// Returns the keys of their paths, in order of first mention.
     pub fn keys(&self) -> &[LimitKey]
         ensures { result.now ≡ keys_of self.now }
     {
         self.keys.as_slice()
     }
 
-    /// The same, to look one up.
+    /// Returns the same keys as a set.
     pub(crate) fn key_set(&self) -> &IndexSet<LimitKey>
         ensures { result.now.keys ≡ keys_of self.now }
     {
         &self.keys
     }
 
-    /// The offers, their keys, and the places of each path's keys.
+    /// Returns the offers, their keys, and the indexes of each path's keys.
     pub(crate) fn into_parts(self) -> (Vec<ViewOffer>, IndexSet<LimitKey>, SharedLists)
         ensures offers { result.0.items ≡ self }
         ensures keyed { IsKeyed self result.1.keys result.2 }

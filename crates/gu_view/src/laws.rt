@@ -6,7 +6,7 @@ ghost use Rattle.gu_view.specs.Cut.{Covers, room_of};
 ghost use Rattle.gu_view.specs.Takes.{IsAdmissible, IsOldestFirst, IsOldestGreatest, total};
 ghost use Rattle.gu_view.specs.View.{GroupView, IsView};
 
-/// No admissible lots exceed the room of a cut that covers.
+/// No admissible takes exceed the room of a cut that covers.
 pub fn cut_bounds_takes()
     ensures { (view : GroupView) (cut : CutLists) (lots : ℕ → ℕ)
         → IsView view
@@ -15,7 +15,7 @@ pub fn cut_bounds_takes()
         → total view.offers lots ≤ room_of view cut }
 {}
 
-/// Two takes that are oldest first over the group among the greatest give each offer of the view the same lots.
+/// If two takes are oldest first over the group among the greatest, they give each offer of the view the same lots.
 pub fn oldest_greatest_is_one()
     ensures { (view : GroupView) (lots others : ℕ → ℕ)
         → IsOldestGreatest view lots
@@ -23,7 +23,7 @@ pub fn oldest_greatest_is_one()
         → All (λ o. others o.number ≡ lots o.number) view.offers }
 {}
 
-/// Takes that are oldest first over the group among the greatest are oldest first in each agreement.
+/// Takes that are oldest first over the group among the greatest are oldest first within each agreement.
 pub fn oldest_greatest_is_oldest_first()
     ensures { (view : GroupView) (lots : ℕ → ℕ)
         → IsView view

@@ -1,4 +1,4 @@
-//! What a view is made of: offers in order, paths, rooms by first mention.
+//! Making a view: offers in order, their paths, and rooms by first mention.
 
 ghost use Rattle.std.specs.Prelude.{◌≡◌, ◌<◌, List, All, AllPairs, IfOk, IsTrue, MatchBool, MatchOption, find, slice_get};
 ghost use Rattle.std.specs.Option.{option_map};
@@ -14,14 +14,14 @@ use gu_terms::{AgreementId, LimitKey, MOST_LIMIT, MOST_LOTS, MOST_OPEN_OFFERS, O
 use indexmap::{IndexMap, IndexSet};
 use std::alloc::{AllocError, Global};
 
-/// Whether an offer's number isn't above the one before it, or its lots are out of range.
+/// Returns whether an offer's number isn't above the previous one, or its lots are out of range.
 fn is_bad(before: u64, offer: &ViewOffer) -> bool
     ensures { result ≡ is_bad before offer.now }
 {
     offer.number.get() <= before || (offer.lots == 0 || MOST_LOTS < offer.lots)
 }
 
-/// The first bad offer.
+/// Returns the first bad offer.
 fn first_bad(offers: &[ViewOffer]) -> Option<OfferNo>
     ensures { result ≡ option_map (λ p. p.1.number) (find (λ p. is_bad p.0 p.1) (numbered offers.now)) }
 {
@@ -41,7 +41,7 @@ fn number_at(offers: &[ViewOffer], place: usize) -> Option<OfferNo>
     offers.get(place).map(|offer| offer.number)
 }
 
-/// The first bad offer among as many as a view may have, else the next one.
+/// Returns the first bad offer among the most that a view may have, or else the next offer.
 pub fn bad_offer(offers: &[ViewOffer]) -> Option<OfferNo>
     ensures { result ≡ bad_offer offers.now }
 {
@@ -54,7 +54,7 @@ pub fn bad_offer(offers: &[ViewOffer]) -> Option<OfferNo>
     }
 }
 
-/// Whether the second key of an offer's path is its own agreement.
+/// Returns whether the second key of an offer's path is its own agreement.
 fn is_own(offer: &ViewOffer) -> bool
     ensures { result ≡ is_own offer.now }
 {
@@ -65,7 +65,7 @@ fn is_own(offer: &ViewOffer) -> bool
         .is_some_and(|key| LimitKey::Agr(offer.agreement).is_same(*key))
 }
 
-/// The first offer whose path isn't that of its agreement. The paths of the agreements are kept in a map, which is empty before.
+/// Returns the first offer whose path isn't that of its agreement. The agreements' paths are collected in a map, which starts empty.
 fn first_other_path(
     paths: &mut IndexMap<AgreementId, Path>,
     offers: &[ViewOffer],
@@ -92,7 +92,7 @@ fn first_other_path(
     Ok(None)
 }
 
-/// The first offer whose path isn't that of its agreement. So many agreements are expected at most.
+/// Returns the first offer whose path isn't that of its agreement. At most this many agreements are expected.
 pub fn path_differs(
     alloc: Global,
     offers: &[ViewOffer],
@@ -107,7 +107,7 @@ pub fn path_differs(
     found
 }
 
-/// Gives each key its lots, in a map that is empty before: whether each room is needed, within its limit and given once.
+/// Records each key's lots in a map that starts empty, and returns whether each room is needed, within its limit and given once.
 fn give(
     lots: &mut IndexMap<LimitKey, u64>,
     keys: &IndexSet<LimitKey>,
@@ -131,7 +131,7 @@ fn give(
     Ok(true)
 }
 
-/// The rooms in the order of the keys, where each has one.
+/// Returns the rooms in the order of the keys, if each key has one.
 fn ordered(
     alloc: Global,
     keys: &[LimitKey],
@@ -156,7 +156,7 @@ fn ordered(
     Ok(Some(made))
 }
 
-/// The rooms in the order of the keys, where they are exactly theirs. The lots are kept in a map, which is empty before.
+/// Returns the rooms in the order of the keys, if they are exactly theirs. The lots are collected in a map, which starts empty.
 fn rooms_by_lots(
     alloc: Global,
     lots: &mut IndexMap<LimitKey, u64>,
@@ -175,7 +175,7 @@ fn rooms_by_lots(
     }
 }
 
-/// The rooms in the order of the keys, where they are exactly theirs.
+/// Returns the rooms in the order of the keys, if they are exactly theirs.
 pub fn rooms_in_order(
     alloc: Global,
     keys: &IndexSet<LimitKey>,

@@ -7,7 +7,7 @@ ghost use Rattle.gu_view.specs.Paths.{are_kinds, behind, have_one_key, is_guaran
 use crate::view::{View, ViewOffer};
 use gu_terms::{AgreementId, LimitKey};
 
-/// Whether keys are of an executing firm, of this agreement, of an account and of a carrying firm.
+/// Returns whether these are the keys of an executing firm, of this agreement, of an account and of a carrying firm.
 fn are_kinds(
     own: AgreementId,
     executing: LimitKey,
@@ -25,14 +25,14 @@ fn are_kinds(
     }
 }
 
-/// Whether a key is of a guarantor.
+/// Returns whether a key is a guarantor's.
 fn is_guarantor(key: LimitKey) -> bool
     ensures { result ≡ is_guarantor key }
 {
     matches!(&key, LimitKey::Guar(_))
 }
 
-/// Whether a path has executing firm, this agreement, account and carrying firm, and nothing else but a guarantor.
+/// Returns whether a path is executing firm, this agreement, account and carrying firm, followed by a guarantor or nothing.
 fn is_whole(own: AgreementId, path: &[LimitKey]) -> bool
     ensures { result ≡ is_whole own path.now }
 {
@@ -47,7 +47,7 @@ fn is_whole(own: AgreementId, path: &[LimitKey]) -> bool
     }
 }
 
-/// Whether each path is whole.
+/// Returns whether each path is whole.
 pub fn are_whole(offers: &[ViewOffer]) -> bool
     ensures { result ≡ list_all (λ o. is_whole o.agreement o.path) offers.now }
 {
@@ -56,7 +56,7 @@ pub fn are_whole(offers: &[ViewOffer]) -> bool
         .all(|offer| is_whole(offer.agreement, offer.path.keys()))
 }
 
-/// The place on a path of what comes after an account's key, and after a carrying firm's.
+/// Returns the depth on a path that follows an account's key or a carrying firm's.
 fn behind(key: LimitKey) -> Option<usize>
     ensures { result ≡ behind key }
 {
@@ -67,14 +67,14 @@ fn behind(key: LimitKey) -> Option<usize>
     }
 }
 
-/// The key at a place on the path of an offer.
+/// Returns the key at a depth on the path of the offer at an index.
 fn key_on(offers: &[ViewOffer], depth: usize, place: u32) -> Option<LimitKey>
     ensures { result ≡ key_on offers.now depth place }
 {
     offers.get(place as usize)?.path.keys().get(depth).copied()
 }
 
-/// Whether both are one key, or none.
+/// Returns whether both are the same key, or both None.
 fn is_same_key(a: Option<LimitKey>, b: Option<LimitKey>) -> bool
     ensures { result ≡ same_key a b }
 {
@@ -85,7 +85,7 @@ fn is_same_key(a: Option<LimitKey>, b: Option<LimitKey>) -> bool
     }
 }
 
-/// Whether the offers at these places have this key there.
+/// Returns whether the offers at these indexes have this key at this depth.
 fn all_have_key(offers: &[ViewOffer], depth: usize, places: &[u32], key: Option<LimitKey>) -> bool
     ensures { result ≡ list_all (λ place. same_key key (key_on offers.now depth place)) places.now }
 {
@@ -94,7 +94,7 @@ fn all_have_key(offers: &[ViewOffer], depth: usize, places: &[u32], key: Option<
         .all(|place| is_same_key(key, key_on(offers, depth, *place)))
 }
 
-/// Whether the offers at these places have one key there: that of the first.
+/// Returns whether the offers at these indexes all have the same key at this depth as the first.
 fn have_one_key(offers: &[ViewOffer], depth: usize, places: &[u32]) -> bool
     ensures { result ≡ have_one_key offers.now depth places.now }
 {
@@ -104,7 +104,7 @@ fn have_one_key(offers: &[ViewOffer], depth: usize, places: &[u32]) -> bool
     }
 }
 
-/// Whether the offers under the room at a place go on with one key.
+/// Returns whether the paths of the offers under the room at an index continue with the same key.
 fn agrees(view: &View, place: usize, key: LimitKey) -> bool
     requires { IfSome (slice_get view.now.rooms place) (λ r. r.key ≡ key) × (place < length view.now.rooms) }
     ensures { IfSome (slice_get view.now.rooms place) (λ r. result ≡ room_agrees view.now.offers r) }
@@ -115,8 +115,8 @@ fn agrees(view: &View, place: usize, key: LimitKey) -> bool
     }
 }
 
-/// Whether offers of one account have one carrying key, and those of one carrying firm one guarantor's, or none has one. Of
-/// whole paths each is looked at twice.
+/// Returns whether offers with one account have the same carrying key, and those with one carrying firm the same guarantor's key or none.
+/// If paths are whole, it looks at each offer twice.
 pub fn keys_agree(view: &View) -> bool
     ensures { result ≡ list_all (room_agrees view.now.offers) view.now.rooms }
 {

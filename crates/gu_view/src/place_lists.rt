@@ -1,4 +1,4 @@
-//! Lists of places, one after another in one buffer.
+//! Lists of indexes, one after another in one buffer.
 
 ghost use Rattle.std.specs.Prelude.{◌≡◌, ◌↔◌, ◌<◌, ◌≤◌, ◌==◌, ◌∷◌, ◌++◌, [], length, IsTrue, OnOk, OnErr, IfOk, slice_get, slice_index, slice_range};
 ghost use Rattle.std.specs.List.{list_any};
@@ -7,7 +7,7 @@ ghost use Rattle.gu_view.specs.Keeping.{lists_from, AreEnds, AreOnce, IsOnce};
 use std::alloc::{AllocError, Global};
 use std::marker::Model;
 
-/// Lists of places. To a contract it is the list of these lists.
+/// Lists of indexes. To a contract it is the list of these lists.
 #[derive(Drop)]
 pub struct PlaceLists {
     joined: Vec<u32>,
@@ -26,7 +26,7 @@ impl Model for PlaceLists {
     ghost invariant = { λ l. AreEnds (length l.joined.items) 0 l.ends.items };
 }
 
-/// Where the list at a place starts: where the one before it ends.
+/// Returns the start of the list at an index, which is the end of the previous one.
 fn start_of(ends: &[usize], place: usize) -> usize
     requires { place < length ends.now }
     ensures { result ≡ slice_index (0 ∷ ends.now) place }
@@ -34,7 +34,7 @@ fn start_of(ends: &[usize], place: usize) -> usize
     if place == 0 { 0 } else { ends[place - 1] }
 }
 
-/// The part between two places.
+/// Returns the part between two positions.
 fn part(joined: &[u32], start: usize, end: usize) -> &[u32]
     requires in_order { start ≤ end }
     requires within { end ≤ length joined.now }
@@ -43,7 +43,7 @@ fn part(joined: &[u32], start: usize, end: usize) -> &[u32]
     &joined[start..end]
 }
 
-/// Appends the numbers of a list to none, each where it first comes.
+/// Appends the numbers of a list to an empty one, each at its first occurrence.
 fn append_once(once: &mut Vec<u32>, list: &[u32]) -> Result<(), AllocError>
     requires { once.old.items ≡ [] }
     ensures { OnOk result (IsOnce list.now once.new.items) }
@@ -56,7 +56,7 @@ fn append_once(once: &mut Vec<u32>, list: &[u32]) -> Result<(), AllocError>
     Ok(())
 }
 
-/// Whether a number is in a short list. `contains` is a call, and this loop is inlined.
+/// Returns whether a number is in a short list. `contains` would be a call; this loop is inlined.
 fn is_in(list: &[u32], number: u32) -> bool
     ensures { result ≡ list_any (λ m. m == number) list.now }
 {
@@ -68,7 +68,7 @@ fn is_in(list: &[u32], number: u32) -> bool
     false
 }
 
-/// Whether no number comes twice in a list.
+/// Returns whether no number occurs twice in a list.
 fn is_once(list: &[u32]) -> bool
     ensures { IsTrue result ↔ IsOnce list.now list.now }
 {
@@ -81,7 +81,7 @@ fn is_once(list: &[u32]) -> bool
 }
 
 impl PlaceLists {
-    /// No lists.
+    /// Returns no lists.
     pub fn new(alloc: Global) -> Self
         ensures { result ≡ [] }
     {
@@ -91,7 +91,7 @@ impl PlaceLists {
         }
     }
 
-    /// The lists that end at these places of one list.
+    /// Returns the parts of one list that end at these positions.
     pub fn of(joined: Vec<u32>, ends: Vec<usize>) -> Self
         requires { AreEnds (length joined.items) 0 ends.items }
         ensures { result ≡ lists_from joined.items 0 ends.items }
@@ -99,7 +99,7 @@ impl PlaceLists {
         PlaceLists { joined, ends }
     }
 
-    /// How many lists there are.
+    /// Returns the number of lists.
     pub fn count(&self) -> usize
         ensures { result ≡ length self.now }
     {
@@ -117,7 +117,7 @@ impl PlaceLists {
         Ok(())
     }
 
-    /// The list at a place.
+    /// Returns the list at an index.
     pub fn list(&self, place: usize) -> &[u32]
         requires { place < length self.now }
         ensures { slice_get self.now place ≡ Some result.now }
@@ -125,7 +125,7 @@ impl PlaceLists {
         part(&self.joined, start_of(&self.ends, place), self.ends[place])
     }
 
-    /// A copy.
+    /// Returns a copy.
     pub fn copy(&self) -> Result<PlaceLists, AllocError>
         ensures { IfOk result (λ lists. lists ≡ self.now) }
     {
@@ -134,7 +134,7 @@ impl PlaceLists {
         Ok(PlaceLists { joined, ends })
     }
 
-    /// Whether no number comes twice in one of them.
+    /// Returns whether no number occurs twice in any of them.
     pub fn are_once(&self) -> bool
         ensures { IsTrue result → AreOnce self.now self.now }
     {
@@ -146,7 +146,7 @@ impl PlaceLists {
         true
     }
 
-    /// The same lists, each without the numbers that came before in it.
+    /// Returns the same lists, each without repeated numbers.
     pub fn each_once(&self, alloc: Global) -> Result<PlaceLists, AllocError>
         ensures { IfOk result (λ lists. AreOnce self.now lists) }
     {

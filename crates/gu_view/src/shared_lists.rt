@@ -1,4 +1,4 @@
-//! Lists of places, of which those that follow one another may be one.
+//! Lists of indexes, stored once if consecutive ones are the same.
 
 ghost use Rattle.std.specs.Prelude.{◌≡◌, ℕ, ◌-◌, ◌<◌, ◌≤◌, ◌++◌, ◌∷◌, [], IfOk, IsTrue, OnOk, Some, length, slice_get, slice_index_or};
 ghost use Rattle.gu_view.specs.Keeping.{AreOnce};
@@ -7,11 +7,11 @@ use crate::place_lists::PlaceLists;
 use std::alloc::{AllocError, Global};
 use std::marker::Model;
 
-/// Lists of places. One that comes several times in a row is kept once. To a contract it is the list of these lists.
+/// Lists of indexes. One added several times in a row is stored once. To a contract it is the list of these lists.
 #[derive(Drop)]
 pub struct SharedLists {
     kept: PlaceLists,
-    /// For each list its place among those that are kept.
+    /// For each list, its index among those stored.
     at: Vec<usize>,
 }
 
@@ -27,7 +27,7 @@ impl Model for SharedLists {
 }
 
 impl SharedLists {
-    /// No lists, with room for so many.
+    /// Returns no lists, with capacity for this many.
     pub fn with_room(alloc: Global, lists: usize) -> Result<Self, AllocError>
         ensures { IfOk result (λ made. made ≡ []) }
     {
@@ -49,7 +49,7 @@ impl SharedLists {
         Ok(())
     }
 
-    /// Adds the last list once more.
+    /// Adds the last list again.
     pub fn push_again(&mut self) -> Result<(), AllocError>
         requires { 0 < length self.old }
         ensures { OnOk result (self.new ≡ self.old ++ slice_index_or self.old (length self.old - 1) [] ∷ []) }
@@ -59,7 +59,7 @@ impl SharedLists {
         Ok(())
     }
 
-    /// The list at a place.
+    /// Returns the list at an index.
     pub fn list(&self, place: usize) -> &[u32]
         requires { place < length self.now }
         ensures { slice_get self.now place ≡ Some result.now }
@@ -67,7 +67,7 @@ impl SharedLists {
         self.kept.list(self.at[place])
     }
 
-    /// Where the lists that are one with the list at a place end, one after another from there on.
+    /// Returns the end of the run of lists that share one stored list, starting at an index.
     pub fn run_end(&self, first: usize) -> usize
         requires { first < length self.now }
         ensures within { (first < result) × (result ≤ length self.now) }
@@ -82,7 +82,7 @@ impl SharedLists {
         self.at.len()
     }
 
-    /// A copy.
+    /// Returns a copy.
     pub fn copy(&self) -> Result<SharedLists, AllocError>
         ensures { IfOk result (λ lists. lists ≡ self.now) }
     {
@@ -91,14 +91,14 @@ impl SharedLists {
         Ok(SharedLists { kept, at })
     }
 
-    /// Whether no number comes twice in one that is kept.
+    /// Returns whether no number occurs twice in any stored list.
     pub fn are_once(&self) -> bool
         ensures { IsTrue result → AreOnce self.now self.now }
     {
         self.kept.are_once()
     }
 
-    /// The same lists, each without the numbers that came before in it.
+    /// Returns the same lists, each without repeated numbers.
     pub fn each_once(&self, alloc: Global) -> Result<SharedLists, AllocError>
         ensures { IfOk result (λ lists. AreOnce self.now lists) }
     {

@@ -1,4 +1,4 @@
-//! The lots that takes give, by offer and by key.
+//! The lots taken, by offer and by key.
 
 ghost use Rattle.std.specs.Prelude.{◌≡◌, ℕ, false, ◌<◌, ◌≤◌, ◌^◌, AllPairs, All, IfNone, IfSome, None, find, length, map, nat_lt, slice_get, slice_index, sum, sum_by};
 ghost use Rattle.gu_terms.specs.Takes.{IsAscending, lots_of};
@@ -10,7 +10,7 @@ use crate::error::{CutFault, Unknown};
 use crate::view::{MOST_ROOMS, View, ViewOffer};
 use gu_terms::{OfferNo, Take};
 
-/// The lots of the first take where it is of this offer, and the takes after it.
+/// Returns the lots of the first take if it is from this offer, else 0, and the takes that remain.
 fn split_first(takes: &[Take], offer: OfferNo) -> (u64, &[Take])
     ensures lots { result.0 ≡ (split_of takes.now offer).0 }
     ensures rest { result.1.now ≡ (split_of takes.now offer).1 }
@@ -21,7 +21,7 @@ fn split_first(takes: &[Take], offer: OfferNo) -> (u64, &[Take])
     }
 }
 
-/// Writes the lots that are taken of each offer, or answers the first take of an offer that isn't there.
+/// Writes the lots taken from each offer, or returns the first take from an offer that the view lacks.
 pub fn fill_lots(offers: &[ViewOffer], takes: &[Take], taken: &mut [u64]) -> Option<CutFault>
     requires offers { AllPairs (λ a b. a.number < b.number) offers.now }
     requires takes { IsAscending takes.now }
@@ -39,7 +39,7 @@ pub fn fill_lots(offers: &[ViewOffer], takes: &[Take], taken: &mut [u64]) -> Opt
         .map(|take| CutFault::Unknown(Unknown::Offer(take.offer)))
 }
 
-/// The least offer of which more is taken than it has.
+/// Returns the first offer from which more is taken than it has.
 pub fn over_offer(offers: &[ViewOffer], taken: &[u64]) -> Option<CutFault>
     requires { length taken.now ≡ length offers.now }
     ensures first { (lots : ℕ → ℕ) → AreLots offers.now taken.now lots → result ≡ over_offer offers.now lots }
@@ -53,7 +53,7 @@ pub fn over_offer(offers: &[ViewOffer], taken: &[u64]) -> Option<CutFault>
     None
 }
 
-/// The lots that are taken of the offers at these places.
+/// Returns the total lots taken from the offers at these indexes.
 fn lots_at(places: &[u32], taken: &[u64]) -> u64
     requires within { All (λ place. place < length taken.now) places.now }
     requires fits { sum_by (λ place. slice_index taken.now place) places.now < 2 ^ 64 }
@@ -62,7 +62,7 @@ fn lots_at(places: &[u32], taken: &[u64]) -> u64
     places.iter().map(|place| taken[*place as usize]).sum()
 }
 
-/// The lots that are taken under the key of the room at a place.
+/// Returns the lots taken under the key of the room at an index.
 fn taken_under(view: &View, room: usize, taken: &[u64]) -> u64
     requires room { room < length view.now.rooms }
     requires size { length taken.now ≡ length view.now.offers }
@@ -74,7 +74,7 @@ fn taken_under(view: &View, room: usize, taken: &[u64]) -> u64
     lots_at(view.members(room), taken)
 }
 
-/// The first key under which more is taken than its room.
+/// Returns the first key under which more is taken than its room.
 pub fn over_limit(view: &View, taken: &[u64]) -> Option<CutFault>
     requires size { length taken.now ≡ length view.now.offers }
     requires fits { sum taken.now < 2 ^ 64 }
@@ -88,7 +88,7 @@ pub fn over_limit(view: &View, taken: &[u64]) -> Option<CutFault>
     None
 }
 
-/// Walks the offers, marking by the place of an agreement's room that an offer of it isn't full.
+/// Returns the first offer that takes lots too early. Marks, at the index of its agreement's room, each offer that isn't full.
 fn first_too_early(view: &View, taken: &[u64], short: &mut [bool]) -> Option<CutFault>
     requires size { length taken.now ≡ length view.now.offers }
     requires fresh { AreMarks view.now.rooms short.old (λ _. false) }
@@ -106,7 +106,7 @@ fn first_too_early(view: &View, taken: &[u64], short: &mut [bool]) -> Option<Cut
     None
 }
 
-/// The least offer that takes lots while an older one of its agreement isn't full.
+/// Returns the first offer that takes lots while an older one under its agreement isn't full.
 pub fn not_oldest_first(view: &View, taken: &[u64]) -> Option<CutFault>
     requires size { length taken.now ≡ length view.now.offers }
     ensures { (lots : ℕ → ℕ) → AreLots view.now.offers taken.now lots → result ≡ not_oldest_first view.now.offers lots }
@@ -115,7 +115,7 @@ pub fn not_oldest_first(view: &View, taken: &[u64]) -> Option<CutFault>
     first_too_early(view, taken, &mut short[..view.rooms().len()])
 }
 
-/// The lots that are taken in all.
+/// Returns the total lots taken.
 pub fn sum_of(taken: &[u64]) -> u64
     requires { sum taken.now < 2 ^ 64 }
     ensures { result ≡ sum taken.now }

@@ -20,10 +20,10 @@ use indexmap::IndexSet;
 use std::alloc::{AllocError, Global};
 use std::marker::Model;
 
-/// The rooms that a view has at most: a path has at most five keys.
+/// The most rooms in a view: a path has at most five keys.
 pub const MOST_ROOMS: usize = 20_480;
 
-/// An open offer: its number, the lots that are left of it, its agreement and its path.
+/// An open offer: its number, the lots left of it, its agreement and its path.
 #[derive(Clone, Copy, PartialEq, Eq)]
 pub struct ViewOffer {
     pub number: OfferNo,
@@ -45,11 +45,11 @@ pub struct View {
     version: u64,
     offers: Vec<ViewOffer>,
     rooms: Vec<Room>,
-    /// The rooms' keys, to look one up.
+    /// The rooms' keys, for look-up.
     keys: IndexSet<LimitKey>,
-    /// For each offer the places of its path's keys among the rooms.
+    /// For each offer, the indexes of its path's keys among the rooms.
     places: SharedLists,
-    /// For each room the places of the offers with its key.
+    /// For each room, the indexes of the offers with its key.
     members: PlaceLists,
 }
 
@@ -66,7 +66,7 @@ impl Model for View {
         v.keys.keys v.places v.members };
 }
 
-// By hand, so that who holds a view lets it go by one call.
+// By hand, so that a view's owner drops it with one call.
 impl Drop for View {
     fn drop(self) {
         let View {
@@ -87,7 +87,7 @@ impl Drop for View {
 }
 
 impl View {
-    /// The view that offers and rooms make. The rooms come in any order, and are kept in order of first mention.
+    /// Returns the view that offers and rooms make. The rooms may be in any order, and are stored in order of first mention.
     pub fn new(
         alloc: Global,
         group: Group,
@@ -98,7 +98,7 @@ impl View {
         ensures made { IfOk result (λ view. view ≡ view_of group version offers.items rooms.items) }
         ensures accepted { OnOk result (MakesView offers.items rooms.items) }
 
-        // What each refusal says; of Memory nothing is said.
+        // What each refusal means; Memory means nothing about the offers or rooms.
         ensures refused { IfErr result (Refuses offers.items rooms.items) }
         ensures bad_offer { (number : ℕ) → (result ≡ Err (ViewError.BadOffer number)) ↔ (bad_offer offers.items ≡ Some number) }
     {
@@ -112,7 +112,7 @@ impl View {
         View::with_rooms(alloc, group, version, offers, &rooms)?.ok_or(ViewError::BadRooms)
     }
 
-    /// The view of offers with these rooms, which come in any order, where they are exactly those of the keys.
+    /// Returns the view of offers with these rooms, in any order, if they are exactly those of the keys.
     fn with_rooms(
         alloc: Global,
         group: Group,
@@ -130,7 +130,7 @@ impl View {
         }
     }
 
-    /// The view of offers with the rooms of their keys, in the keys' order.
+    /// Returns the view of offers with the rooms of their keys, in the order of the keys.
     pub fn of(
         alloc: Global,
         group: Group,
@@ -157,21 +157,21 @@ impl View {
         })
     }
 
-    /// The group.
+    /// Returns the group.
     pub fn group(&self) -> Group
         ensures { result ≡ self.now.group }
     {
         self.group
     }
 
-    /// The group's version.
+    /// Returns the group's version.
     pub fn version(&self) -> u64
         ensures { result ≡ self.now.version }
     {
         self.version
     }
 
-    /// The offers, numbers ascending.
+    /// Returns the offers, in ascending order of numbers.
     pub fn offers(&self) -> &[ViewOffer]
         ensures offers { result.now ≡ self.now.offers }
         ensures sound { IsView self.now }
@@ -179,7 +179,7 @@ impl View {
         self.offers.as_slice()
     }
 
-    /// The offer with a number.
+    /// Returns the offer with this number.
     pub fn offer(&self, number: OfferNo) -> Option<&ViewOffer>
         ensures { option_copied result ≡ offer_of self.now.offers number }
     {
@@ -187,7 +187,7 @@ impl View {
         Some(&self.offers[place])
     }
 
-    /// The rooms, in order of first mention.
+    /// Returns the rooms, in order of first mention.
     pub fn rooms(&self) -> &[Room]
         ensures rooms { result.now ≡ self.now.rooms }
         ensures sound { IsView self.now }
@@ -195,7 +195,7 @@ impl View {
         self.rooms.as_slice()
     }
 
-    /// The places among the rooms of the keys of the offer at a place, in the order of its path.
+    /// Returns the indexes, among the rooms, of the keys of the offer at an index, in the order of its path.
     pub fn places(&self, offer: usize) -> &[u32]
         requires { offer < length self.now.offers }
         ensures places { IfSome (slice_get self.now.offers offer) (λ o. result.now ≡ map (place_of self.now.rooms) o.path) }
@@ -205,7 +205,7 @@ impl View {
         self.places.list(offer)
     }
 
-    /// The place among the rooms of an offer's agreement.
+    /// Returns the index, among the rooms, of an offer's agreement.
     pub fn agreement_place(&self, offer: usize) -> usize
         requires { offer < length self.now.offers }
         ensures place { IfSome (slice_get self.now.offers offer) (λ o. result ≡ place_of self.now.rooms (Agr o.agreement)) }
@@ -214,7 +214,7 @@ impl View {
         self.places(offer)[1] as usize
     }
 
-    /// The places of the offers with the key of the room at a place, in number order.
+    /// Returns the indexes of the offers with the key of the room at an index, in number order.
     pub fn members(&self, room: usize) -> &[u32]
         requires { room < length self.now.rooms }
         ensures members { IfSome (slice_get self.now.rooms room) (λ r. result.now ≡ places_under self.now.offers r.key) }
@@ -223,7 +223,7 @@ impl View {
         self.members.list(room)
     }
 
-    /// The place of a key's room.
+    /// Returns the index of a key's room.
     pub fn place(&self, key: LimitKey) -> Option<usize>
         ensures place { result ≡ position (λ r. key_eq r.key key) self.now.rooms }
         ensures sound { IsView self.now }
@@ -231,15 +231,15 @@ impl View {
         self.keys.get_index_of(&key)
     }
 
-    /// Whether each path is whole, offers of one account have one carrying firm, and those of one carrying firm one
-    /// guarantor, or none has one. It takes no memory.
+    /// Returns whether each path is whole, offers with one account have the same carrying firm, and those with one carrying firm the same
+    /// guarantor or none. It allocates nothing.
     pub fn nested(&self) -> bool
         ensures { IsTrue result ↔ IsNested self.now }
     {
         are_whole(&self.offers) && keys_agree(self)
     }
 
-    /// Whether two views show the same. It takes no memory.
+    /// Returns whether two views show the same. It allocates nothing.
     pub fn is_same(&self, other: &View) -> bool
         ensures { IsTrue result ↔ (self.now ≡ other.now) }
     {
@@ -248,7 +248,7 @@ impl View {
         mine == theirs
     }
 
-    /// A copy.
+    /// Returns a copy.
     pub fn copy(&self) -> Result<View, AllocError>
         ensures { IfOk result (λ view. view ≡ self.now) }
     {

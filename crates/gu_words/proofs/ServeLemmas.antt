@@ -1,4 +1,4 @@
--- The numbers of the options of `serve`: where its words have no fault, each is within its range.
+-- The numbers of the options of `serve`: if its words have no fault, each is within its range.
 use Rattle.std.proofs.Common.{◌≡◌, ◌∙◌, ℕ, Bool, true, false, refl, sym, ap, subst, List, [], Option, Some, None, arith, codes, unwrap_or, true≢false}
 use Rattle.std.specs.Prelude.{IfSome, drop, find, slice_get, take}
 use Rattle.std.specs.Option.{option_map, option_map_or}
@@ -54,7 +54,7 @@ module _ (goes_on : Bool) where
   every_sound : (words : List Text) → level_fault served [] nothing_held words false [] ≡ [] → Sound (is_unsigned_in 0 1000) (codes "K") (rows_after served.rules [] words)
   every_sound = words_sound (is_unsigned_in 0 1000) (codes "K") served (take 4 served.rules) (drop 5 served.rules) (rule_at 4) refl refl refl refl refl (λ v passes. passes) refl
 
-  -- how many workers, where a number is given
+  -- how many workers, if a number is given
   workers_sound : (words : List Text) → level_fault served [] nothing_held words false [] ≡ [] → Sound (is_unsigned_in 1 60) (codes "W") (rows_after served.rules [] words)
   workers_sound = words_sound (is_unsigned_in 1 60) (codes "W") served (take 10 served.rules) (drop 11 served.rules) (rule_at 10) refl refl refl refl refl (λ v passes. passes) tt
 
@@ -121,7 +121,7 @@ module _ (goes_on : Bool) (rows : List Row) where
       let named = λ (s : Shape). answers_to q.0 (label_of s) in
       found_numbers q.1 (find named (read_program goes_on).subs) (find_each Numbers named (read_program goes_on).subs each_command) none is
 
--- where the words of the program have no fault and ask for `serve`, the numbers of its options are within their ranges
+-- if the words of the program have no fault and ask for `serve`, the numbers of its options are within their ranges
 pub numbers_read : (goes_on : Bool) (words : List Text) (rows : List Row) → fault_of (program goes_on) words ≡ [] → subcommand_of (program goes_on) words ≡ Some (codes "serve", rows) → HasCounts rows
 numbers_read goes_on words rows none is =
     let after_name = argument_words (program goes_on) words in

@@ -1,4 +1,4 @@
--- What a command's words pass: where a parse finds no fault, each value of a name passed that name's test.
+-- If a parse of a command's words finds no fault, each value of a name passed that name's test.
 use Rattle.std.proofs.Common.{◌≡◌, ◌+◌, ◌&&◌, ◌||◌, ◌++◌, ℕ, Bool, cond, true, false, not, zero, suc, refl, sym, ◌∙◌, subst, List, [], ◌∷◌, Option, Some, None, fold, is_some, unwrap_or, true≢false}
 use Rattle.std.specs.Prelude.{⊤, IfSome, drop, min, encode_utf8, find, length, slice_get}
 use Rattle.std.specs.List.{list_all}
@@ -24,7 +24,7 @@ use Rattle.clap.specs.declared.parser.matches.ValueSource.{ValueSource}
 use Rattle.clap.specs.declared.parser.matches.ValueSource.TheVariants.{CommandLine, DefaultValue}
 use Rattle.clap.specs.declared.builder.value_parser.Reading.{Reading}
 
--- where no step fails, each passed
+-- if no step fails, each passed
 pub or_nil : (a b : Kinds) → or_else a b ≡ [] → (a ≡ []) × (b ≡ [])
 or_nil [] b e = (refl, e)
 or_nil (k ∷ ks) b e = (e, cc)
@@ -125,7 +125,7 @@ module _ (p : Text → Bool) (id : Text) where
   other_sound HelpLong name how values rows apart sound = sound
   other_sound Version name how values rows apart sound = sound
 
-  -- the row of the name passes, where there is one
+  -- the row of the name passes, if there is one
   pub first_passes : (rows : List Row) → Sound rows → has_row id rows ≡ true → p (unwrap_or (first_of id rows) []) ≡ true
   first_passes [] sound has = absurd (true≢false (sym has))
   first_passes (r ∷ rs) sound has =
@@ -138,7 +138,7 @@ module _ (p : Text → Bool) (id : Text) where
       first_good [] good = absurd good
       first_good (v ∷ vs) good = good
 
-  -- the value of the name passes, where it is given
+  -- the value of the name passes, if it is given
   pub given_passes : (rows : List Row) → Sound rows → IfSome (first_of id rows) (λ v. p v ≡ true)
   given_passes [] sound = tt
   given_passes (r ∷ rs) sound =
@@ -366,7 +366,7 @@ module _ (p : Text → Bool) (id : Text) where
     among P [] after own each is others = (is, others)
     among P (a ∷ rest) after own each is others = (each.0, among P rest after own each.1 is others)
 
-    -- the rows of the words are sound, where the name has one rule, of one value that passes its test
+    -- the rows of the words are sound, if the name has one rule, of one value that passes its test
     pub words_sound : (before after : List Rule) (own : Rule) → s.rules ≡ before ++ own ∷ after → list_all (λ a. not (bytes_eq a.id id)) before ≡ true → list_all (λ a. not (bytes_eq a.id id)) after ≡ true
         → action_of own ≡ Set → unwrap_or_range own.range ≡ record { start_inclusive = 1; end_inclusive = 1 } → ((v : Text) → value_passes own v ≡ true → p v ≡ true) → DefaultsPass own.defaults
         → (words : List Text) → level_fault s [] nothing_held words false [] ≡ [] → Sound (rows_after s.rules [] words)

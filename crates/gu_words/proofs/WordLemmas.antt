@@ -22,7 +22,7 @@ use Rattle.gu_words.specs.declared.misfit.Misfit.TheVariants.{ManyConnections, N
 use Rattle.gu_words.proofs.ValueLemmas.{or_nil}
 use Rattle.gu_words.specs.ProgramWords.{Captures, Checks, Counts, Fixes, GoesOn, HasCounts, HasNumbers, IsCounted, IsWithin, Issues, Keeping, Lasting, Reads, Replays, Serves, Tells, Wanted, command_in, is_set, is_until_closed, keeping_by, lasting_by, number_of, port_word, served_by, text_of, told_by, wanted_by, wanted_in, wanted_of, wanted_of_command, word_in}
 
--- the program is one whose words clap tells in full
+-- the program is one whose words clap describes in full
 pub simple-program : (is_until_closed : Bool) → is_simple_and_free (program is_until_closed) ≡ true
 unfolding clap_on_literals
 simple-program true = refl
@@ -58,7 +58,7 @@ pub no_refusals-check : (name : List ℕ) → refusals_of (name ∷ codes "check
 unfolding clap_on_literals
 no_refusals-check name = refl
 
--- a task of this kind is read, where only memory may refuse it
+-- a task of this kind is read, if only memory may refuse it
 pub read_unless_memory : (result : Result Task Error) (wanted : Wanted) → IfOk result (λ task. wanted_of task ≡ wanted) → FailsBy [] result → Reads result wanted
 read_unless_memory (Ok task) wanted is fails = is
 read_unless_memory (Err error) wanted is fails = elim fails [ inl memory ↦ memory | inr none ↦ absurd none ]
@@ -140,7 +140,7 @@ replays (Some (name, found)) rows reference is_name is_rows is_reference =
     ∙ ap (λ (rs : List Row). Replays (word_in rs (codes "REF"))) (sym same)
     ∙ ap (λ (n : Text). wanted_of_command n found) (sym named)
 
--- a word is given where its text is
+-- a word is given if its text is
 pub is_some-text : (word : Option (Bor Text)) → is_some word ≡ is_some (text_of word)
 is_some-text None = refl
 is_some-text (Some word) = refl

@@ -16,20 +16,20 @@ needed name = record (new_rule name) { required = true }
 abbrev pub path_rule : Text → Rule
 path_rule name = record (new_rule name) { long = Some name; value_names = 1 }
 
--- one of these numbers, after an option, and the usual one without it
+-- an option whose value is a number in a range, with a default
 abbrev pub number_rule : Text → Text → ValueParser → Text → Rule
 number_rule name long numbers usual = record (new_rule name) { long = Some long; parser = Some numbers; defaults = usual ∷ [] }
 
--- how many connections a server may have: 32 in all, or 1,024 at once where it goes on until it is closed
+-- how many connections a server may have: 32 in all, or 1,024 at once if it runs until it is closed
 abbrev pub most_connections : Bool → ℕ
 most_connections false = 32
 most_connections true = 1024
 
--- how many connections a server has, 1 to the most, and 8 where nothing is said
+-- how many connections a server has: 1 to the most, by default 8
 abbrev pub connections_rule : ℕ → Rule
 connections_rule most = number_rule (codes "N") (codes "connections") (Unsigned 1 most) (codes "8")
 
--- of how many accepted give-ups of a connection one is swept, 0 to 1,000, and 16 where nothing is said; of 0 none is
+-- how many accepted give-ups of one connection make one sweep: 0 to 1,000, by default 16; 0 makes none
 abbrev pub every_rule : Rule
 every_rule = number_rule (codes "K") (codes "every") (Unsigned 0 1000) (codes "16")
 
@@ -37,11 +37,11 @@ every_rule = number_rule (codes "K") (codes "every") (Unsigned 0 1000) (codes "1
 abbrev pub flag_rule : Text → Rule
 flag_rule name = record (new_rule name) { long = Some name; action = Some SetTrue }
 
--- how many threads serve the connections, 1 to 60, where a number is said
+-- how many threads serve the connections: 1 to 60, if a number is given
 abbrev pub workers_rule : Rule
 workers_rule = record (new_rule (codes "W")) { long = Some (codes "workers"); parser = Some (Unsigned 1 60) }
 
--- how many of a hundred parts of what there is room for one firm has, 1 to 100, and all of them where nothing is said
+-- the percentage of the room that one firm may use: 1 to 100, by default 100
 abbrev pub share_rule : Rule
 share_rule = number_rule (codes "PERCENT") (codes "share") (Unsigned 1 100) (codes "100")
 
@@ -67,7 +67,7 @@ counted_app most =
     with_rule (with_rule (with_rule (with_rule (with_rule (with_rule (with_rule (new_app (codes "serve")) (needed (codes "REF"))) (needed (codes "PORT")))
     (path_rule (codes "script"))) (connections_rule most)) every_rule) (path_rule (codes "journal"))) (flag_rule (codes "resume"))
 
--- with these, the sockets of those who operate and who watch, and a day that goes on until it is closed
+-- with these, the sockets of those who operate and who watch, and a day that runs until it is closed
 abbrev pub operated_app : Bool → App
 operated_app is_until_closed =
     with_rule (with_rule (with_rule (with_rule (counted_app (most_connections is_until_closed)) (path_rule (codes "console")))
@@ -91,7 +91,7 @@ secret_shape = (with_rule (new_app (codes "secret")) (needed (codes "FIRM"))).to
 abbrev pub bare_program : App
 bare_program = record (new_app (codes "giveup")) { top = record (new_app (codes "giveup")).top { has_version = true } }
 
--- the program's command line, where a word has it go on until it is closed, or none has
+-- the program's command line, depending on whether a word makes the server run until it is closed
 abbrev pub program : Bool → App
 program is_until_closed =
     with_subcommand (with_subcommand (with_subcommand (with_subcommand (with_subcommand (with_subcommand bare_program check_shape) fix_shape) replay_shape)

@@ -44,11 +44,11 @@ is_port = is_unsigned_in 1 65535
 abbrev pub port_of : Text → Option ℕ
 port_of word = if is_port word then Some (number_of word) else None
 
--- what is named as the port of a server is none
+-- the word given for a server's port isn't a port
 abbrev pub has_bad_port : List Row → Bool
 has_bad_port rows = option_map_or (λ word. not (is_port word)) (port_word rows) false
 
--- why the words of a server don't go together: what is named as its port is none; one that goes on until it is closed has no console at
+-- why the words of a server don't go together: the word for its port isn't one; one that runs until it is closed has no console to
 -- which it can be; one that doesn't has a number of workers, or more than 32 connections; the console and the watch are one socket; a day
 -- that goes on has no journal; there is neither a port nor a door; or there are both, but no secrets
 abbrev pub misfit_in : List Row → Option Misfit
@@ -63,7 +63,7 @@ misfit_in rows =
     else if has_port rows && (has rows (codes "doors") && not (has rows (codes "secrets"))) then Some NoSecrets
     else None
 
--- the same of a command, of which only `serve` has such options
+-- the same for a command; only `serve` has such options
 abbrev pub misfit_of : Option (Text × List Row) → Option Misfit
 misfit_of None = None
 misfit_of (Some command) = if bytes_eq command.0 (codes "serve") then misfit_in command.1 else None

@@ -17,13 +17,13 @@ use Rattle.gu_words.specs.declared.status.Status.TheVariants.{Done, Refused}
 use Rattle.gu_words.specs.declared.words.Task.{Task}
 use Rattle.gu_words.specs.declared.words.Task.TheVariants.{Capture, Check, Fix, Replay, Secret, Serve, Tell}
 
--- how long a server may go on: for so many connections, perhaps with a console, or until it is closed at its console, with how many
+-- how long a server may go on: for this many connections, perhaps with a console, or until it is closed at its console, with how many
 -- connections at once, and perhaps a number of workers
 pub data Lasting : Type 0 where
   Counts : (connections : ℕ) (console : Option Text) → Lasting
   GoesOn : (console : Text) (places : ℕ) (workers : Option ℕ) → Lasting
 
--- where the day of a server is written: the path of a file, and whether a day that is in it goes on
+-- the file to which a server's day is written: its path, and whether a day that is already in it is resumed
 pub record Keeping : Type 0 where
   pub path : Text
   pub resumes : Bool
@@ -43,11 +43,11 @@ pub data Wanted : Type 0 where
   Tells : (path : Text) (lines : List Text) → Wanted
   Issues : (firm : Text) → Wanted
 
--- the text of an option, where it is given
+-- the text of an option, if it is given
 abbrev pub text_of : Option (Bor Text) → Option Text
 text_of = option_map (λ word. word.now)
 
--- where the day of a server is written, if it is
+-- the file to which a server's day is written, if it is
 abbrev pub keeping_of : Option Journal → Option Keeping
 keeping_of = option_map (λ journal. record { path = journal.path.now; resumes = journal.resumes })
 
@@ -85,15 +85,15 @@ number_of word = digits_value 10 (without_leading_plus word)
 abbrev pub is_set : List Row → Text → Bool
 is_set rows name = option_map_or (λ word. bytes_eq word (codes "true")) (first_of name rows) false
 
--- the words have a server go on until it is closed
+-- the words ask for a server that runs until it is closed
 abbrev pub is_until_closed : List Row → Bool
 is_until_closed rows = is_set rows (codes "until-closed")
 
--- the word of a server's port, where it has one: `-` is none
+-- the word of a server's port, if it has one: `-` is none
 abbrev pub port_word : List Row → Option Text
 port_word rows = if bytes_eq (word_in rows (codes "PORT")) (codes "-") then None else Some (word_in rows (codes "PORT"))
 
--- the numbers of the options of `serve` are within their ranges; that a server which isn't closed has at most 32 connections, `misfit_in`
+-- the numbers of the options of `serve` are within their ranges; that the server of a counted day has at most 32 connections, `misfit_in`
 -- says
 pub record HasCounts (rows : List Row) : Type 0 where
   pub connections : IsUnsignedIn 1 1024 (word_in rows (codes "N"))
@@ -101,7 +101,7 @@ pub record HasCounts (rows : List Row) : Type 0 where
   pub workers : IfSome (first_of (codes "W") rows) (IsUnsignedIn 1 60)
   pub share : IsUnsignedIn 1 100 (word_in rows (codes "PERCENT"))
 
--- and so is its port, where it has one
+-- and so is its port, if it has one
 pub record HasNumbers (rows : List Row) : Type 0 where
   pub port : IfSome (port_word rows) (IsUnsignedIn 1 65535)
   pub counts : HasCounts rows
@@ -113,7 +113,7 @@ lasting_by rows =
     then GoesOn (word_in rows (codes "console")) (number_of (word_in rows (codes "N"))) (option_map number_of (first_of (codes "W") rows))
     else Counts (number_of (word_in rows (codes "N"))) (first_of (codes "console") rows)
 
--- where the day is written, if it is
+-- the file to which the day is written, if it is
 abbrev pub keeping_by : List Row → Option Keeping
 keeping_by rows = option_map (λ path. record { path = path; resumes = is_set rows (codes "resume") }) (first_of (codes "journal") rows)
 
@@ -140,11 +140,11 @@ wanted_of_command name rows =
     else if bytes_eq name (codes "secret") then Issues (word_in rows (codes "FIRM"))
     else Captures
 
--- where a command is `serve`, the numbers of its options are within their ranges
+-- if a command is `serve`, the numbers of its options are within their ranges
 abbrev pub IsCounted : Option (Text × List Row) → Type 0
 IsCounted command = (rows : List Row) → command ≡ Some (codes "serve", rows) → HasCounts rows
 
--- and so is its port, where it has one
+-- and so is its port, if it has one
 abbrev pub IsWithin : Option (Text × List Row) → Type 0
 IsWithin command = (rows : List Row) → command ≡ Some (codes "serve", rows) → HasNumbers rows
 
@@ -165,7 +165,7 @@ wanted_by words = wanted_in (command_in words)
 abbrev pub Reads : Result Task Error → Wanted → Type 0
 Reads result wanted = MatchResult result (λ task. wanted_of task ≡ wanted) (λ error. kind_of error ≡ OutOfMemory)
 
--- the status where the words ask for no task: done where they ask for help, and else refused
+-- the status if the words ask for no task: done if they ask for help, otherwise refused
 abbrev pub status_of : ErrorKind → Status
 status_of DisplayHelp = Done
 status_of DisplayVersion = Done

@@ -9,7 +9,7 @@ use clap::builder::ValueParser;
 use clap::{Arg, ArgAction, Command};
 use std::alloc::{AllocError, Global};
 
-/// What help shows after the commands.
+/// The examples that help shows after the commands.
 const EXAMPLES: &str = "\
 Examples:
   giveup check < three-agreements.sheet
@@ -19,66 +19,66 @@ Examples:
 
 `giveup COMMAND --help` shows the words of a command.";
 
-/// What help shows after the words of `secret`.
+/// The example that help shows for `secret`.
 const SECRET_EXAMPLE: &str = "\
 Example: giveup secret E1 >> firms.secrets
 
 The row alone goes to standard output, so that >> adds it to the file and the secret stays out of it.
 Nothing keeps the secret: give it to the firm, which sends it as Password (554).";
 
-/// What help says of a firm.
+/// The help text for a firm.
 const FIRM: &str = "The name of the firm";
 
-/// What help says of a reference.
+/// The help text for a reference.
 const REFERENCE: &str = "The path of the reference";
 
-/// What help says of a port.
+/// The help text for a port.
 const PORT: &str = "The port on which it listens, 1 to 65535, or - for none";
 
-/// What help says of a script that is run first.
+/// The help text for a script that is run first.
 const SCRIPT: &str = "The path of a script that is run first, without output";
 
-/// What help says of a journal.
+/// The help text for a journal.
 const JOURNAL: &str =
-    "The path of a new or empty file to which the day is written as it goes on, as a script that makes the same entries; an answer leaves once what it shows is on the disk";
+    "The path of a new or empty file to which the day is written as it goes on, as a script that makes the same entries; an answer leaves once what it shows is on the disk. Or etcd://HOST:PORT[,HOST:PORT..]/NAME: the log NAME of an etcd on this machine, which keeps it on several";
 
-/// What help says of a day that goes on.
+/// The help text for resuming a day.
 const RESUME: &str =
-    "Goes on with the day in the file of --journal, if it has lines: they are played in the place of --script";
+    "Goes on with the day in the file or log of --journal, if it has lines: they are played in the place of --script";
 
-/// What help says of a console.
+/// The help text for a console.
 const CONSOLE: &str =
     "The path of a socket that answers operators: lines of a script, STATUS, JOURNAL, CUT and CLOSE";
 
-/// What help says of a watch.
+/// The help text for a watch.
 const WATCH: &str =
     "The path of a socket that answers those who only look: STATUS, JOURNAL, POSITION, INTEREST and LIMITS";
 
-/// What help says of a server that goes on until it is closed.
+/// The help text for a server that runs until it is closed.
 const UNTIL_CLOSED: &str =
     "Goes on until CLOSE at the console; N, 1 to 1024, is then how many connections there may be at once";
 
-/// What help says of workers.
+/// The help text for workers.
 const WORKERS: &str =
     "How many threads serve the connections with --until-closed, 1 to 60; as many as processors where none is given";
 
-/// What help says of doors.
+/// The help text for doors.
 const DOORS: &str =
     "The path of a folder in which each firm of the reference has a socket of its own, at which that firm alone may log on";
 
-/// What help says of a log.
+/// The help text for a log.
 const LOG: &str =
     "Writes a line on standard error for each thing that happens: who connects, logs on and is refused, what is swept, and so on";
 
-/// What help says of a firm's share.
+/// The help text for a firm's share.
 const SHARE: &str =
     "The percentage that the sessions of one firm may make of the entries for which there is room when it begins, and of a group's open offers, 1 to 100";
 
-/// What help says of secrets.
+/// The help text for secrets.
 const SECRETS: &str =
     "The path of a file of secrets: a firm then logs on only with a Password (554) that fits one of its rows";
 
-/// A word that must come after a command.
+/// Returns a positional word that a command requires.
 fn needed<'a>(alloc: Global, name: &'a str, help: &'a str) -> Arg<'a>
     ensures rule { rule_of result ≡ needed name.entry.now }
     ensures local { result.global ≡ false }
@@ -86,7 +86,7 @@ fn needed<'a>(alloc: Global, name: &'a str, help: &'a str) -> Arg<'a>
     Arg::new(alloc, name).required(true).help(help)
 }
 
-/// An option whose value is a path, which help calls `value`.
+/// Returns an option whose value is a path, which help calls `value`.
 fn path_option<'a>(alloc: Global, name: &'a str, value: &'a str, help: &'a str) -> Arg<'a>
     ensures rule { rule_of result ≡ path_rule name.entry.now }
     ensures local { result.global ≡ false }
@@ -97,7 +97,7 @@ fn path_option<'a>(alloc: Global, name: &'a str, value: &'a str, help: &'a str) 
         .help(help)
 }
 
-/// An option whose value is one of these numbers, and the usual one where none is given.
+/// Returns an option whose value is a number in a range, with a default.
 fn number_option<'a>(
     alloc: Global,
     name: &'a str,
@@ -116,7 +116,7 @@ fn number_option<'a>(
         .help(help)
 }
 
-/// An option that takes no value.
+/// Returns an option that takes no value.
 fn flag<'a>(alloc: Global, name: &'a str, help: &'a str) -> Arg<'a>
     ensures rule { rule_of result ≡ flag_rule name.entry.now }
     ensures local { result.global ≡ false }
@@ -127,7 +127,7 @@ fn flag<'a>(alloc: Global, name: &'a str, help: &'a str) -> Arg<'a>
         .help(help)
 }
 
-/// The workers of a server.
+/// Returns the option for a server's number of workers.
 fn workers_option<'a>(alloc: Global) -> Arg<'a>
     ensures rule { rule_of result ≡ workers_rule }
     ensures local { result.global ≡ false }
@@ -138,7 +138,7 @@ fn workers_option<'a>(alloc: Global) -> Arg<'a>
         .help(WORKERS)
 }
 
-/// The lines that are sent to a console.
+/// Returns the words for lines that are sent to a console.
 fn lines_word<'a>(alloc: Global) -> Arg<'a>
     ensures rule { rule_of result ≡ lines_rule }
     ensures local { result.global ≡ false }
@@ -148,7 +148,7 @@ fn lines_word<'a>(alloc: Global) -> Arg<'a>
     )
 }
 
-/// The command `check`.
+/// Returns the command `check`.
 fn check_command<'a>(alloc: Global) -> Command<'a>
     ensures { shape_of result ≡ check_shape }
 {
@@ -159,7 +159,7 @@ fn check_command<'a>(alloc: Global) -> Command<'a>
         .after_help("Example: giveup check < three-agreements.sheet")
 }
 
-/// The command `fix`.
+/// Returns the command `fix`.
 pub fn fix_command<'a>(alloc: Global) -> Result<Command<'a>, AllocError>
     ensures { IfOk result (λ command. shape_of command ≡ fix_shape) }
 {
@@ -174,7 +174,7 @@ pub fn fix_command<'a>(alloc: Global) -> Result<Command<'a>, AllocError>
     on_reference.arg(script)
 }
 
-/// The command `replay`.
+/// Returns the command `replay`.
 fn replay_command<'a>(alloc: Global) -> Result<Command<'a>, AllocError>
     ensures { IfOk result (λ command. shape_of command ≡ replay_shape) }
 {
@@ -185,14 +185,14 @@ fn replay_command<'a>(alloc: Global) -> Result<Command<'a>, AllocError>
     bare.arg(reference)
 }
 
-/// How many connections a server may have.
+/// Returns how many connections a server may have.
 fn most_connections(is_until_closed: bool) -> u64
     ensures { result ≡ most_connections is_until_closed }
 {
     if is_until_closed { 1024 } else { 32 }
 }
 
-/// The command `serve` with the words of a counted day, of a server that may have so many connections.
+/// Returns the command `serve` with the words of a counted day, for a server that may have this many connections.
 fn counted_command<'a>(alloc: Global, most: u64) -> Result<Command<'a>, AllocError>
     ensures { IfOk result (λ command. app_of command ≡ counted_app most) }
 {
@@ -233,7 +233,7 @@ fn counted_command<'a>(alloc: Global, most: u64) -> Result<Command<'a>, AllocErr
     with_journal.arg(resume)
 }
 
-/// The command `serve` with the words of an operated day too.
+/// Returns the command `serve` with the words of an operated day too.
 fn operated_command<'a>(alloc: Global, is_until_closed: bool) -> Result<Command<'a>, AllocError>
     ensures { IfOk result (λ command. app_of command ≡ operated_app is_until_closed) }
 {
@@ -248,7 +248,7 @@ fn operated_command<'a>(alloc: Global, is_until_closed: bool) -> Result<Command<
     going_on.arg(workers)
 }
 
-/// The command `serve`, where its words name the end of the day, or don't.
+/// Returns the command `serve`, for words that say how the day ends, or don't.
 pub fn serve_command<'a>(alloc: Global, is_until_closed: bool) -> Result<Command<'a>, AllocError>
     ensures { IfOk result (λ command. shape_of command ≡ serve_shape is_until_closed) }
 {
@@ -270,13 +270,13 @@ pub fn serve_command<'a>(alloc: Global, is_until_closed: bool) -> Result<Command
     logged.arg(share)
 }
 
-/// A command that takes a port alone, and none but a number of one.
+/// Returns a command that takes only a port, and only as a number.
 pub fn port_command<'a>(alloc: Global) -> Result<Command<'a>, AllocError> {
     let port = needed(alloc, "PORT", PORT).value_parser(ValueParser::unsigned(1, 65535));
     Command::new(alloc, "serve").arg(port)
 }
 
-/// The command `tell`.
+/// Returns the command `tell`.
 pub fn tell_command<'a>(alloc: Global) -> Result<Command<'a>, AllocError>
     ensures { IfOk result (λ command. shape_of command ≡ tell_shape) }
 {
@@ -289,7 +289,7 @@ pub fn tell_command<'a>(alloc: Global) -> Result<Command<'a>, AllocError>
     at_path.arg(lines)
 }
 
-/// The command `secret`.
+/// Returns the command `secret`.
 pub fn secret_command<'a>(alloc: Global) -> Result<Command<'a>, AllocError>
     ensures { IfOk result (λ command. shape_of command ≡ secret_shape) }
 {
@@ -302,7 +302,7 @@ pub fn secret_command<'a>(alloc: Global) -> Result<Command<'a>, AllocError>
     bare.arg(firm)
 }
 
-/// A command, and one more after it, where that was made.
+/// Returns a command with one more subcommand, if that one could be made.
 fn with<'a>(
     command: Command<'a>,
     made: Result<Command<'a>, AllocError>,
@@ -319,7 +319,7 @@ fn with<'a>(
     }
 }
 
-/// The program's command, a subcommand for each task but trade capture.
+/// Returns the program's command, a subcommand for each task but trade capture.
 pub fn program<'a>(alloc: Global, is_until_closed: bool) -> Result<Command<'a>, AllocError>
     ensures { IfOk result (λ command. app_of command ≡ program is_until_closed) }
 {

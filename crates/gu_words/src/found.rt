@@ -18,7 +18,7 @@ pub fn word<'a>(found: &ArgMatches<'a>, name: &str) -> &'a str
     found.get_str(name).unwrap_or("")
 }
 
-/// Returns the number that a word means, where it is from `least` to `most`: a command that was read has no other word.
+/// Returns the number that a word means, from `least` to `most`; a parsed command has no other word.
 fn number(word: &str, least: u16, most: u16) -> u16
     requires { least ≤ most }
     ensures number { IsUnsignedIn least most word.now → result ≡ number_of word.now }
@@ -59,7 +59,7 @@ fn port_number(word: &str) -> Option<u16>
     }
 }
 
-/// Returns the word of a server's port, where it has one.
+/// Returns the word of a server's port, if it has one.
 fn port_word<'a>(found: &ArgMatches<'a>) -> Option<&'a str>
     ensures { text_of result ≡ port_word (rows_of (found_of found.now)) }
 {
@@ -67,7 +67,7 @@ fn port_word<'a>(found: &ArgMatches<'a>) -> Option<&'a str>
     if word == "-" { None } else { Some(word) }
 }
 
-/// Returns whether what is named as the port of a server is none.
+/// Returns whether the word given for a server's port isn't a port.
 fn has_bad_port(found: &ArgMatches<'_>) -> bool
     ensures { result ≡ has_bad_port (rows_of (found_of found.now)) }
 {
@@ -77,7 +77,7 @@ fn has_bad_port(found: &ArgMatches<'_>) -> bool
     }
 }
 
-/// Returns whether there are more connections than a server has that goes on for counted ones.
+/// Returns whether there are more connections than a server of a counted day may have.
 fn has_many_connections(found: &ArgMatches<'_>) -> bool
     ensures { IsUnsignedIn 1 1024 (word_in (rows_of (found_of found.now)) (codes "N"))
         → result ≡ nat_lt 32 (number_of (word_in (rows_of (found_of found.now)) (codes "N"))) }
@@ -122,7 +122,7 @@ pub fn misfit_in(found: &ArgMatches<'_>) -> Option<Misfit>
     }
 }
 
-/// Returns how many threads serve the connections, where a number is given.
+/// Returns how many threads serve the connections, if a number is given.
 fn workers_in(found: &ArgMatches<'_>) -> Option<u16>
     ensures number { IfSome (first_of (codes "W") (rows_of (found_of found.now))) (IsUnsignedIn 1 60)
         → result ≡ option_map number_of (first_of (codes "W") (rows_of (found_of found.now))) }
@@ -154,7 +154,7 @@ fn span_in<'a>(found: &ArgMatches<'a>) -> Span<'a>
     }
 }
 
-/// Returns where the day is written, if it is.
+/// Returns the file to which the day is written, if it is.
 fn journal_in<'a>(found: &ArgMatches<'a>) -> Option<Journal<'a>>
     ensures { keeping_of result ≡ keeping_by (rows_of (found_of found.now)) }
 {

@@ -12,4 +12,6 @@ mod words;
 pub use serving::{Counted, Journal, Serving, Span, UntilClosed};
 pub use status::Status;
 pub use version::VERSION;
-pub use words::{FirmCommand, Task, answer, firm_named, given, line_refusal, read};
+pub use words::{
+    FirmCommand, Task, address_refusal, answer, firm_named, given, line_refusal, read,
+};

@@ -8,26 +8,26 @@ use clap::error::ErrorKind;
 /// Why words of `serve` don't go together.
 #[derive(Clone, Copy, Debug, PartialEq, Eq)]
 pub enum Misfit {
-    /// What is named as its port is none.
+    /// The word given for its port isn't a port.
     NotAPort,
-    /// A server that goes on until it is closed has no console at which it can be.
+    /// A server that runs until it is closed has no console to close it.
     NoConsole,
-    /// A server that doesn't has a number of workers.
+    /// A server of a counted day has a number of workers.
     NotUntilClosed,
-    /// A server that doesn't has more than 32 connections.
+    /// A server of a counted day has more than 32 connections.
     ManyConnections,
     /// The console and the watch are one socket.
     OnePath,
-    /// A day that goes on has no journal in which it is.
+    /// A day is to be resumed, but no journal is named.
     NoJournal,
     /// There is neither a port nor a door.
     NoDoors,
-    /// There are both, and no secrets: beside a port that is open to all the doors would be worth nothing.
+    /// There are both, but no secrets: a port that is open to all would make the doors worthless.
     NoSecrets,
 }
 
 impl Misfit {
-    /// Returns the kind of the refusal that it is.
+    /// Returns its kind of refusal.
     pub fn kind(self) -> ErrorKind
         ensures { result ≡ kind_of_misfit self }
     {
@@ -43,7 +43,7 @@ impl Misfit {
         }
     }
 
-    /// Returns what is said of it.
+    /// Returns its text for the user.
     pub fn why(self) -> &'static str {
         match self {
             Misfit::NotAPort => "invalid value for '<PORT>': it is 1 to 65535, or - for none",

@@ -9,7 +9,7 @@ pub enum Status {
     Done,
     /// Something failed, or a sheet has a fault.
     Fault,
-    /// The words ask for nothing that there is.
+    /// The words ask for no task that exists.
     Refused,
 }
 

@@ -23,15 +23,19 @@ use std::convert::AsStr;
 use std::rt::Env;
 use std::{env, io};
 
-/// What is said of a word that is no text.
+/// The message for a word that isn't text.
 const NOT_TEXT: &str = "invalid UTF-8 was detected in one or more arguments";
 
-/// What is said of a word that names no firm.
+/// The message for a word that names no firm.
 const NO_FIRM: &str = "invalid value for '<FIRM>': a firm is 1 to 12 of A-Z, 0-9 and -";
 
-/// What is said of a word that is no line for a desk.
+/// The message for a word that is no line for a desk.
 const NO_LINE: &str =
     "invalid value for '[LINE]...': it is neither a line of a script nor a word of the console";
+
+/// What is said of a word that begins as the address of a log, and is none.
+const NO_ADDRESS: &str =
+    "invalid value for '--journal <FILE>': a log is etcd://HOST:PORT[,HOST:PORT..]/NAME, with hosts of this machine";
 
 /// What the words ask for.
 #[derive(Debug, Drop)]
@@ -40,24 +44,24 @@ pub enum Task<'a> {
     Capture,
     /// The check of a sheet.
     Check,
-    /// One session, of the firm of this name, on the reference of the file of this path, after the script of a file, where one is named.
+    /// One session of the named firm, on the reference in the file at this path, after a script, if one is named.
     Fix {
         firm: &'a str,
         reference: &'a str,
         script: Option<&'a str>,
     },
-    /// A script, on the reference of the file of this path.
+    /// A script, on the reference in the file at this path.
     Replay {
         reference: &'a str,
     },
     /// A server of firms.
     Serve(Serving<'a>),
-    /// Lines for the server whose console, or whose watch, is the socket of this path; without any, those of standard input.
+    /// Lines for the server whose console or watch is the socket at this path; without any, the lines of standard input.
     Tell {
         path: &'a str,
         lines: Vec<&'a str>,
     },
-    /// A secret for the firm of this name.
+    /// A secret for the named firm.
     Secret {
         firm: &'a str,
     },
@@ -82,7 +86,7 @@ fn has_until_closed<S: AsStr>(words: &[S]) -> bool
     false
 }
 
-/// Returns whether a word after the program's name has a server go on until it is closed.
+/// Returns whether a word after the program's name asks for a server that runs until it is closed.
 fn says_until_closed<S: AsStr>(words: &[S]) -> bool
     ensures { result ≡ says_until_closed (map S.text words.now) }
 {
@@ -92,7 +96,7 @@ fn says_until_closed<S: AsStr>(words: &[S]) -> bool
     }
 }
 
-/// Returns the refusal of words, for this reason, with how the command is called.
+/// Returns the refusal of words for this reason, with the command's usage.
 fn refusal(mut command: Command<'_>, kind: ErrorKind, why: &str) -> Result<Error, AllocError>
     ensures { IfOk result (λ error. kind_of error ≡ kind) }
 {
@@ -196,7 +200,7 @@ pub fn read<'a, S: AsStr>(alloc: Global, words: &'a [S]) -> Result<Task<'a>, Err
     ensures task { IfOk result (λ task. wanted_of task ≡ wanted_by (map S.text words.now)) }
     ensures refused { FailsBy (refusals_of (map S.text words.now)) result }
 
-    // The numbers of a server are within their ranges, and so is its port, where it has one.
+    // The numbers of a server are within their ranges, and so is its port, if it has one.
     ensures within { IfOk result (λ task. IsWithin (command_in (map S.text words.now))) }
 
     // The words of each task.
@@ -218,7 +222,7 @@ fn firm_refusal(alloc: Global, command: FirmCommand) -> Result<Error, AllocError
     refusal(called, ErrorKind::InvalidValue, NO_FIRM)
 }
 
-/// Returns the firm of a name after a command; a word that is none is refused.
+/// Returns the firm that a command names; a word that is no firm is refused.
 pub fn firm_named(alloc: Global, command: FirmCommand, name: &str) -> Result<FirmId, Error>
     ensures { IfOk result (λ firm. firm.name ≡ name.now) }
 {
@@ -236,6 +240,14 @@ pub fn line_refusal(alloc: Global) -> Result<Error, AllocError>
     refusal(command, ErrorKind::InvalidValue, NO_LINE)
 }
 
+/// Returns the refusal of a word that begins as the address of a log, and is none.
+pub fn address_refusal(alloc: Global) -> Result<Error, AllocError>
+    ensures { IfOk result (λ error. kind_of error ≡ InvalidValue) }
+{
+    let command = serve_command(alloc, false)?.bin_name("giveup serve")?;
+    refusal(command, ErrorKind::InvalidValue, NO_ADDRESS)
+}
+
 /// Returns the words of this run.
 pub fn given<R: Env + Alloc<A = Global>>(rt: &R) -> Result<Vec<String>, Error> {
     let alloc = rt.alloc();
@@ -249,7 +261,7 @@ pub fn given<R: Env + Alloc<A = Global>>(rt: &R) -> Result<Vec<String>, Error> {
     }
 }
 
-/// Says why the words ask for no task, or shows the help that they ask for, and gives the status.
+/// Prints why the words ask for no task, or the help that they ask for, and returns the status.
 pub fn answer<R: Print + Eprint>(rt: &R, error: &Error) -> Result<Status, StreamError>
     ensures status { IfOk result (λ status. status ≡ status_of (kind_of error.now)) }
     ensures memory { kind_of error.now ≡ OutOfMemory → result ≡ Err StreamError.Memory }
@@ -257,7 +269,7 @@ pub fn answer<R: Print + Eprint>(rt: &R, error: &Error) -> Result<Status, Stream
     if error.kind() == ErrorKind::OutOfMemory {
         return Err(StreamError::Memory);
     }
-    // Where a refusal can't be written, the status alone shows it.
+    // If a refusal can't be written, the status alone shows it.
     if error.print(rt).is_err() && !error.use_stderr() {
         return Err(StreamError::Write);
     }

@@ -1,4 +1,4 @@
--- The way to the entry to blame.
+-- Seeking the entry to blame.
 use Rattle.std.proofs.Common.{◌≡◌, ◌⊎◌, ℕ, zero, suc, ◌+◌, ◌<◌, ◌≤◌, Bool, true, false, nat_lt, List, [], ◌∷◌, ◌++◌, length, map, take, drop, replicate, get_or, Some, None, refl, sym, ap, ◌∙◌, arith, inl, inr, append-nil, if◌then◌else◌}
 use Rattle.std.specs.Prelude.{slice_get, slice_index_or}
 use Rattle.std.specs.List.{find}
@@ -23,7 +23,7 @@ use Rattle.gu_world.specs.Steps.{first_touch_above}
 use Rattle.gu_rules.proofs.VersionLemmas.{touching_after-append}
 use Rattle.gu_world.proofs.Touches.{found_after, touching_at}
 
--- of the offer of a number it is known whether it is of the group
+-- it is known whether the offer with a number is in the group
 own-at : (group : Group) (offers : List Offer) (place : ℕ)
     → slice_index_or (map (λ (o : Offer). same_group o.group group) offers) place false ≡ option_map_or (λ (o : Offer). same_group o.group group) (slice_get offers place) false
 own-at group [] place = refl
@@ -42,7 +42,7 @@ module _ (group : Group) (seen : ℕ) (entries : List Entry) (place : ℕ) (entr
   count : length (take place entries) ≡ place
   count = length-take-le place entries (omega arith)
 
-  -- after the entries in which there was none, the first is this one
+  -- if there was none in the entries so far, the first is this one
   pub touched-here : (number : ℕ) → number ≡ place + 1 → seen < number → touches (take place entries) group entry ≡ true → Some number ≡ first_touch_above entries group seen
   touched-here number number_is above touched =
       sym (
@@ -57,7 +57,7 @@ module _ (group : Group) (seen : ℕ) (entries : List Entry) (place : ℕ) (entr
       first : find (nat_lt seen) (touching_after (take place entries) group (entry ∷ drop (place + 1) entries)) ≡ Some number
       first = rw (touched, passes) (ap Some (omega (arith, count, number_is)))
 
-  -- and where it is none, there is none up to it
+  -- and if this isn't one, there is none up to it
   pub untouched-here : (number : ℕ) → number ≡ place + 1 → (number ≤ seen) ⊎ (touches (take place entries) group entry ≡ false) → find (nat_lt seen) (touching (take (place + 1) entries) group) ≡ None
   untouched-here number number_is why =
       ap (λ (es : List Entry). find (nat_lt seen) (touching es group)) (take_more entries place entry inside ∙ ap (λ (e : Entry). take place entries ++ e ∷ []) (sym is))
@@ -75,11 +75,11 @@ module _ (group : Group) (seen : ℕ) (entries : List Entry) (place : ℕ) (entr
       by (inl h) = low h (touches (take place entries) group entry)
       by (inr h) = rw h refl
 
--- in all of them there is none
+-- there is none in all of them
 pub never-touched : (group : Group) (seen : ℕ) (entries : List Entry) (place : ℕ) → length entries ≤ place → find (nat_lt seen) (touching (take place entries) group) ≡ None → None ≡ first_touch_above entries group seen
 never-touched group seen entries place all none = sym none ∙ ap (λ (es : List Entry). find (nat_lt seen) (touching es group)) (take_all place entries all)
 
--- ---- the offers that are known
+-- ---- the known offers
 
 pub own-more : (before : List Entry) (group : Group) (entry : Entry) → own_of (before ++ entry ∷ []) group ≡ own_of before group ++ map (λ (o : Offer). same_group o.group group) (lines_by entry)
 own-more before group entry =
@@ -90,7 +90,7 @@ pub own-kept : (before : List Entry) (group : Group) (entry : Entry) → lines_b
 own-kept before group entry nothing =
     own-more before group entry ∙ ap (λ (os : List Offer). own_of before group ++ map (λ (o : Offer). same_group o.group group) os) nothing ∙ append-nil (own_of before group)
 
--- a give-up adds as many of its group as it has lines
+-- a give-up adds as many in its group as it has lines
 pub own-lines : (before : List Entry) (group at : Group) (it : GiveUpOf) (first number : ℕ)
     → own_of (before ++ Asked (GiveUp it) (Accepted (Offered at first number)) ∷ []) group ≡ own_of before group ++ replicate (length it.lines) (same_group at group)
 own-lines before group at it first number =

@@ -1,4 +1,4 @@
--- Which entry is to blame for an outcome.
+-- The entry to blame for an outcome.
 use Rattle.std.proofs.Common.{◌≡◌, ℕ, zero, suc, ◌-◌, ◌<◌, true, false, List, [], ◌∷◌, ◌++◌, length, take, get_or, Option, Some, None, Result, Ok, Err, refl, sym, ap, ◌∙◌, arith, subst, length-append}
 use Rattle.std.specs.Prelude.{slice_get, IfOk}
 use Rattle.std.specs.Option.{option_map_or}
@@ -11,7 +11,7 @@ use Rattle.gu_world.specs.declared.outcome.Outcome.TheVariants.{Stale}
 use Rattle.gu_world.specs.declared.step.Step.{Step}
 use Rattle.gu_world.specs.declared.step.Step.TheVariants.{Enter, See, Propose, Commit}
 
--- what stands last
+-- the last element
 last-at : {X : Type 0} (xs : List X) (x : X) → slice_get (xs ++ x ∷ []) (length xs) ≡ Some x
 last-at [] x = refl
 last-at (first ∷ xs) x = last-at xs x
@@ -22,7 +22,7 @@ ends-is outcomes outcome =
     ap (λ (k : ℕ). option_map_or is_stale (slice_get (outcomes ++ outcome ∷ []) k) false) place
     ∙ ap (λ (found : Option Outcome). option_map_or is_stale found false) (last-at outcomes outcome)
 
--- of a stale outcome the first entry after is to blame, and of others none
+-- for a stale outcome the first later touch is to blame, and for any other none
 blamed-is : (before : State) (step : Step) (outcome : Outcome) → is_stale outcome ≡ true → blamed before step outcome ≡ first_after before step
 blamed-is before (Commit worker) (Stale seen now) stale = refl
 blamed-is before (Enter command) outcome stale = refl
@@ -45,7 +45,7 @@ module _ (old new : Course) (step : Step) (goes : GoesOn old step new) where
       let same : is_stale goes.outcome ≡ false = sym (ends-is old.outcomes goes.outcome) ∙ ap ends_stale (sym goes.outcomes) ∙ sym stale in
       record { goes_on = goes; culprit_is = sym (blamed-none old.state step goes.outcome same) }
 
--- ---- the step at a place
+-- ---- the step at an index
 
 get-at : {X : Type 0} (xs : List X) (place : ℕ) (x : X) → place < length xs → x ≡ get_or xs place x → slice_get xs place ≡ Some x
 get-at [] place x inside is = absurd (omega arith)

@@ -1,4 +1,4 @@
--- What a book's answer to a commit says of the look that it is for.
+-- What a book's answer to a commit means for the look that it is for.
 use Rattle.std.proofs.Common.{◌≡◌, ◌≢◌, ℕ, ◌+◌, ◌<◌, true, false, List, [], ◌∷◌, ◌++◌, drop, length, take, take-append-drop, Option, is_some, sym, ap, ◌∙◌, arith, inl, inr}
 use Rattle.std.specs.Prelude.{nat_le}
 use Rattle.std.proofs.lemmas.Bool.{cases_Bool}
@@ -21,7 +21,7 @@ use Rattle.gu_world.specs.declared.held.Work.TheVariants.{Ready}
 use Rattle.gu_world.specs.declared.outcome.Outcome.TheVariants.{Stale, Swept}
 use Rattle.gu_world.proofs.Touches.{versions_and_touches}
 
--- a book below a million entries isn't full
+-- a book with less than 1,000,000 entries isn't full
 roomy : (n : ℕ) → n < 1000000 → nat_le 1000000 n ≡ false
 roomy n room = grind (arith, nat_tests)
 
@@ -29,15 +29,15 @@ module _ (book new : BookState) (seen : ℕ) (looks : List (Option Look)) (propo
   abbrev group : Group
   group = proposal.view.group
 
-  -- the version that was seen is the view's
+  -- the version seen is the view's
   version_seen : version_of (take seen book.history) proposal.view.group ≡ proposal.view.version
   version_seen = ap (λ (v : GroupView). v.version) (sym one.view)
 
-  -- where it is that of now, no entry came between
+  -- if it is the version now, no entry came between
   untouched : proposal.view.version ≡ version_of book.history proposal.view.group → is_some (first_touch_above book.history proposal.view.group seen) ≡ false
   untouched same = (versions_and_touches book.history seen proposal.view.group one.seen).0 (version_seen ∙ same)
 
-  -- and where it isn't, one did
+  -- if it isn't, one did
   overtaken : proposal.view.version ≢ version_of book.history proposal.view.group → is_some (first_touch_above book.history proposal.view.group seen) ≡ true
   overtaken differ =
       elim (cases_Bool (is_some (first_touch_above book.history proposal.view.group seen))) [
@@ -45,7 +45,7 @@ module _ (book new : BookState) (seen : ℕ) (looks : List (Option Look)) (propo
         | inr miss ↦ absurd (differ (sym version_seen ∙ (versions_and_touches book.history seen proposal.view.group one.seen).1 miss))
       ]
 
-  -- a sweep that is entered
+  -- a sweep entered
   pub committed-swept : (receipt : Receipt) → IsCurrent book proposal.view → new.reference ≡ book.reference → new.history ≡ book.history ++ receipt.entry ∷ [] → receipt.number ≡ length book.history + 1
       → receipt.entry ≡ SweptEntry (sweep_of proposal)
       → (Swept receipt, record { book = new; looks = looks }) ≡ committed_for (record { book = book; looks = looks }) (look_by seen (Ready proposal)) (sweep_of proposal)
@@ -64,7 +64,7 @@ module _ (book new : BookState) (seen : ℕ) (looks : List (Option Look)) (propo
       let first : then ≡ version_of (take seen book.history) proposal.view.group = stale.of_view ∙ sym version_seen in
       rw (full, some) (λ i. (Stale (first i) (stale.of_group i), record { book = record { reference = reference i; history = history i }; looks = looks }))
 
-  -- while its version is that of now, its view is
+  -- as long as its version is the version now, so is its view
   pub still_true : IsLegal book.reference book.history → proposal.view.version ≡ version_of book.history proposal.view.group → proposal.view ≡ group_view book.reference book.history proposal.view.group
   still_true legal same = one.view ∙ equal_views book.reference (take seen book.history) book.history proposal.view.group (drop seen book.history, take-append-drop seen book.history) legal (version_seen ∙ same)
 

@@ -1,4 +1,4 @@
--- What becomes of what a worker holds that proposes.
+-- Work in hand of a worker that proposes.
 use Rattle.std.proofs.Common.{◌≡◌, ℕ, List, length, take, Option, Some, None, refl, sym, ap, ◌∙◌, subst}
 use Rattle.std.specs.Prelude.{slice_index_or, slice_set}
 use Rattle.std.specs.Option.{option_map}
@@ -19,7 +19,7 @@ use Rattle.gu_world.specs.declared.outcome.Outcome.{Outcome}
 use Rattle.gu_world.specs.declared.outcome.Outcome.TheVariants.{Nothing, Proposed}
 use Rattle.gu_world.proofs.SlotLemmas.{look_of-held, looks_in-put, looks_in-taken, set-own, set-twice, true-grown, true-put, true-taken}
 
--- a look has the group of its view, and what was seen
+-- a look has the group of its view, and the number of entries seen
 pub look_by-group : (seen : ℕ) (work : Work) → (look_by seen work).group ≡ (view_in work).group
 look_by-group seen (Looking view) = refl
 look_by-group seen (Ready proposal) = refl
@@ -28,7 +28,7 @@ pub look_by-seen : (seen : ℕ) (work : Work) → (look_by seen work).seen ≡ s
 look_by-seen seen (Looking view) = refl
 look_by-seen seen (Ready proposal) = refl
 
--- what has the view of a true look, and saw as much, is one
+-- work with the same view as a true one, and as many entries seen, is true
 pub true-alike : (book : BookState) (seen : ℕ) (work other : Work) → view_in other ≡ view_in work → IsTrueLook book (record { seen = seen; work = work }) → IsTrueLook book (record { seen = seen; work = other })
 true-alike book seen work other same one = record {
   known = ap (λ (v : GroupView). is_group book.reference v.group) same ∙ one.known;
@@ -38,7 +38,7 @@ true-alike book seen work other same one = record {
 }
 
 module _ (old left : List (Option Held)) (worker : ℕ) (is_left : left ≡ slice_set old worker None) where
-  -- a worker that held nothing holds nothing
+  -- a worker without work has none
   pub nothing-held : slice_index_or old worker None ≡ None → left ≡ old
   nothing-held at = is_left ∙ set-own old worker None at
 
@@ -48,7 +48,7 @@ module _ (old left : List (Option Held)) (worker : ℕ) (is_left : left ≡ slic
       (refl, ap (state_in book) (nothing-held at))
 
   module _ (seen : ℕ) (work : Work) (at : slice_index_or old worker None ≡ Some (record { seen = seen; work = work })) where
-    -- what it held it may hold again
+    -- it may have its work back
     pub put-back : (new : List (Option Held)) (other : Work) → work ≡ other → new ≡ slice_set left worker (Some (record { seen = seen; work = other })) → new ≡ old
     put-back new other same put =
         put
@@ -57,7 +57,7 @@ module _ (old left : List (Option Held)) (worker : ℕ) (is_left : left ≡ slic
         ∙ set-own old worker (Some (record { seen = seen; work = work })) at
 
     module _ (proposal : ProposedSweep) (new : List (Option Held)) (of_view : proposal.view ≡ view_in work) (put : new ≡ slice_set left worker (Some (record { seen = seen; work = Ready proposal }))) where
-      -- a proposal is as true as the view was
+      -- a proposal is true if the view was
       pub proposal-true : (book : BookState) → AreTrue book old → AreTrue book new
       proposal-true book trues =
           subst (AreTrue book) (sym put)
@@ -115,13 +115,13 @@ module _ (old left : List (Option Held)) (worker : ℕ) (is_left : left ≡ slic
     abbrev look_is : (book : BookState) → look_of (state_in book old) worker ≡ Some (look_by seen work)
     look_is book = look_of-held book old worker ∙ ap (option_map look_in) at
 
-    -- nor with a look alone, which stays
+    -- nor with only a look, which stays
     pub commits-no_look : (book : BookState) (view : GroupView) (new : List (Option Held)) → work ≡ Looking view → new ≡ old → (Nothing, state_in book new) ≡ committed_on (look_of (state_in book old) worker) (state_in book old) worker
     commits-no_look book view new is same =
         subst (λ (look : Option Look). (Nothing, state_in book new) ≡ committed_on look (state_in book old) worker) (sym (look_is book ∙ ap (λ (w : Work). Some (look_by seen w)) is))
         (λ i. (Nothing, state_in book (same i)))
 
-    -- with a proposal the look goes, whatever comes of it
+    -- with a proposal the look is gone, whatever the outcome
     pub commits-proposal : (book after : BookState) (proposal : ProposedSweep) (outcome : Outcome) → work ≡ Ready proposal → length left ≡ 64
         → (outcome, record { book = after; looks = slice_set (looks_in old) worker None })
         ≡ committed_for (record { book = book; looks = slice_set (looks_in old) worker None }) (look_by seen (Ready proposal)) (sweep_of proposal)
@@ -133,6 +133,6 @@ module _ (old left : List (Option Held)) (worker : ℕ) (is_left : left ≡ slic
         looks : looks_in left ≡ slice_set (looks_in old) worker None
         looks = ap looks_in is_left ∙ looks_in-taken old worker (ap {A = List (Option Held)} length (sym is_left) ∙ made)
 
-  -- what others hold stays true
+  -- the work of others stays true
   pub left-true : (book after : BookState) → Grows book after → AreTrue book old → AreTrue after left
   left-true book after grows trues = true-grown book after left grows (subst (AreTrue book) (sym is_left) (true-taken book old worker trues))

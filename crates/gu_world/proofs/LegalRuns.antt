@@ -28,19 +28,19 @@ use Rattle.gu_world.proofs.HeadlineLemmas.{run-reference}
 use Rattle.gu_world.proofs.SlotLemmas.{index-nothing}
 use Rattle.gu_world.proofs.Touches.{versions_and_touches}
 
--- a look is at entries that are there, and its sweep might be committed after them
+-- a look is at existing entries, and its sweep may follow them
 record IsSeen (reference : Tables) (history : List Entry) (look : Look) : Type 0 where
   seen : look.seen ≤ length history
   may : (sweep : SweepEntry) → look.proposal ≡ Some sweep → (sweep.group ≡ look.group) × MaySweep reference (take look.seen history) sweep
 
--- a legal history, and such looks
+-- a legal history with such looks
 record IsGood (state : State) : Type 0 where
   legal : IsLegal state.book.reference state.book.history
   looks : (worker : ℕ) (look : Look) → look_of state worker ≡ Some look → IsSeen state.book.reference state.book.history look
 
 -- ---- looks
 
--- what is read after one is written is that one, or was there
+-- an element read after a write is the one written, or was there before
 read_set : {X : Type 0} (xs : List (Option X)) (place worker : ℕ) (x : Option X) (y : X) → slice_index_or (slice_set xs place x) worker None ≡ Some y
     → (x ≡ Some y) ⊎ (slice_index_or xs worker None ≡ Some y)
 read_set [] place worker x y at = inr at
@@ -68,7 +68,7 @@ module _ (state : State) (good : IsGood state) where
     ];
   }
 
-  -- an entry more leaves what was seen
+  -- one more entry keeps what was seen
   good_entry : (entry : Entry) → is_full state ≡ false → MayBeEntered entry → MayFollow state.book.reference state.book.history entry → IsGood (with_entry state entry)
   good_entry entry room entered may = record {
     legal = legal_push state.book.reference state.book.history entry good.legal (leb-false 1000000 (length state.book.history) room) entered may;

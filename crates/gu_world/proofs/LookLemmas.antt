@@ -1,4 +1,4 @@
--- What becomes of looks as steps are taken.
+-- Looks as steps are taken.
 use Rattle.std.proofs.Common.{◌≡◌, ℕ, ◌<◌, ◌≤◌, Bool, true, false, nat_lt, List, [], ◌∷◌, ◌++◌, length, take, Option, Some, None, is_some, refl, sym, ap, ◌∙◌, subst, if◌then◌else◌, append-nil, inl, inr}
 use Rattle.std.specs.List.{find}
 use Rattle.std.specs.Option.{option_and_then, option_map_or}
@@ -52,7 +52,7 @@ leads-grow old (See worker group) outcome new h =
 leads-grow old (Propose worker) outcome new h = proposes-grows (look_of old worker) old worker outcome new h
 leads-grow old (Commit worker) outcome new h = subst (λ (p : Outcome × State). Grows old.book p.1.book) (sym h) (commits-grow (look_of old worker) old worker)
 
--- so what was seen stays
+-- so what was seen is unchanged
 pub seen-stays : (old new : State) (step : Step) (outcome : Outcome) (look : Look) → look.seen ≤ length old.book.history → LeadsTo old step outcome new
     → (seen_history new look ≡ seen_history old look) × (view_seen new look ≡ view_seen old look)
 seen-stays old new step outcome look within leads =
@@ -62,7 +62,7 @@ seen-stays old new step outcome look within leads =
 
 -- ---- stale commits
 
--- what is found above a number is above it
+-- a number found above another is greater
 found-above : (n : ℕ) (ns : List ℕ) → is_some (find (nat_lt n) ns) ≡ true → (k : ℕ) × (find (nat_lt n) ns ≡ Some k) × (n < k)
 found-above n [] h = cc
 found-above n (m ∷ ns) h =
@@ -74,7 +74,7 @@ found-above n (m ∷ ns) h =
           (found.0, rw miss found.1, found.2)
     ]
 
--- a commit is stale where the look was overtaken
+-- a commit is stale if the look was overtaken
 overtaken : (look : Option Look) (before : State) (worker seen now : ℕ) → (committed_on look before worker).0 ≡ Stale seen now → (it : Look) × (look ≡ Some it) × (is_overtaken before it ≡ true)
 overtaken None before worker seen now h = cc
 overtaken (Some look) before worker seen now h = of look.proposal h
@@ -104,7 +104,7 @@ stale-blamed before after worker seen now leads =
 
 -- ---- looks that weren't overtaken
 
--- a sweep is committed only where the look wasn't overtaken
+-- a sweep is committed only if the look wasn't overtaken
 not_overtaken : (look : Option Look) (before : State) (worker : ℕ) (receipt : Receipt) → (committed_on look before worker).0 ≡ Swept receipt → (it : Look) × (look ≡ Some it) × (is_overtaken before it ≡ false)
 not_overtaken None before worker receipt h = cc
 not_overtaken (Some look) before worker receipt h = of look.proposal h

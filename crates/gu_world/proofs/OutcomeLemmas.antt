@@ -1,4 +1,4 @@
--- Outcomes as a world keeps them: what is kept gives them back, however many entries come after.
+-- Outcomes as a world stores them: the stored form gives them back, however many entries follow.
 use Rattle.std.proofs.Common.{◌≡◌, ℕ, zero, suc, ◌+◌, ◌≤◌, arith, Bool, true, false, List, [], ◌∷◌, ◌++◌, length, map, Option, Some, None, refl, sym, ap, subst, ◌∙◌, get_or, if◌then◌else◌}
 use Rattle.std.specs.Prelude.{slice_get}
 use Rattle.std.specs.Option.{option_map_or}
@@ -20,7 +20,7 @@ use Rattle.gu_world.specs.declared.step.Step.{Step}
 use Rattle.gu_world.specs.declared.step.Step.TheVariants.{Enter, See, Propose, Commit}
 use Rattle.gu_world.proofs.LookLemmas.{leads-grow}
 
--- an entry stays where it is
+-- an entry stays at its index
 slice_get-front : (history more : List Entry) (place : ℕ) → suc place ≤ length history → slice_get (history ++ more) place ≡ slice_get history place
 slice_get-front [] more place within = absurd (omega (arith, within))
 slice_get-front (e ∷ history) more zero within = refl
@@ -68,7 +68,7 @@ IsNumbered-more count more (kept.Stale seen now) le h = tt
 IsNumbered-more count more kept.Foreign le h = tt
 IsNumbered-more count more kept.Nothing le h = tt
 
--- what is kept of an outcome gives it back, by the entries of a state
+-- the stored form of an outcome gives it back, from the entries of a state
 pub record IsToldBy (outcome : Outcome) (state : State) : Type 0 where
   pub back : outcome_in state.book.history (kept_of outcome) ≡ outcome
   pub numbered : IsNumbered (length state.book.history) (kept_of outcome)
@@ -76,11 +76,11 @@ pub record IsToldBy (outcome : Outcome) (state : State) : Type 0 where
 abbrev IsTold : Outcome × State → Type 0
 IsTold end = IsToldBy end.0 end.1
 
--- of an outcome that tells of no entry
+-- for an outcome without an entry
 no_entry : (outcome : Outcome) (state : State) → ((history : List Entry) → outcome_in history (kept_of outcome) ≡ outcome) → ((count : ℕ) → IsNumbered count (kept_of outcome)) → IsToldBy outcome state
 no_entry outcome state back numbered = record { back = back state.book.history; numbered = numbered (length state.book.history) }
 
--- of a receipt
+-- for a receipt
 asked_entry : (old : State) (entry : Entry) → IsTold (Asked (next_receipt old entry), with_entry old entry)
 asked_entry old entry = record {
   back = ap (λ (found : Option Entry). option_map_or (λ (e : Entry). Asked (record { number = length old.book.history + 1; entry = e })) found Nothing) (entry_at-last old.book.history entry);
@@ -119,7 +119,7 @@ leads-told old (See worker group) outcome new h =
 leads-told old (Propose worker) outcome new h = proposes-told (look_of old worker) old worker outcome new h
 leads-told old (Commit worker) outcome new h = subst IsTold (sym h) (committed_on-told (look_of old worker) old worker)
 
--- the outcomes so far, and that of one step more
+-- the outcomes so far, and that of one more step
 module _ (outcomes : List KeptOutcome) (old : State) (step : Step) (outcome : Outcome) (new : State) (leads : LeadsTo old step outcome new)
     (numbered : AreNumbered (length old.book.history) outcomes) where
   told : IsToldBy outcome new

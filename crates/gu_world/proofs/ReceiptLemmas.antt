@@ -1,4 +1,4 @@
--- The receipts in outcomes that are kept, one outcome and one series on.
+-- The receipts in stored outcomes, after one more outcome and after one more series.
 use Rattle.std.proofs.Common.{◌≡◌, ℕ, ◌+◌, ◌<◌, List, [], ◌∷◌, ◌++◌, length, map, take, get_or, Some, sym, ap, ◌∙◌, append-nil, append_assoc}
 use Rattle.std.specs.Prelude.{slice_get}
 use Rattle.std.specs.Option.{option_to_list}
@@ -16,7 +16,7 @@ use Rattle.gu_world.specs.declared.outcome.Outcome.{Outcome}
 use Rattle.gu_world.specs.declared.outcomes.KeptOutcome.{KeptOutcome}
 use Rattle.gu_world.specs.declared.series.Series.{Series}
 
--- the receipts in outcomes that are kept so
+-- the receipts in these stored outcomes
 abbrev pub receipts_by : List Entry → List KeptOutcome → List Receipt
 receipts_by history outcomes = receipts_in (map (outcome_in history) outcomes)
 
@@ -24,7 +24,7 @@ receipts_by-append : (history : List Entry) (some more : List KeptOutcome) → r
 receipts_by-append history some more =
     ap receipts_in (map-append (outcome_in history) some more) ∙ filter_map-append receipt_of (map (outcome_in history) some) (map (outcome_in history) more)
 
--- one outcome on
+-- after one more outcome
 receipts_by-more : (history : List Entry) (outcomes : List KeptOutcome) (i : ℕ) (k : KeptOutcome) → slice_get outcomes i ≡ Some k
     → receipts_by history (take (i + 1) outcomes) ≡ receipts_by history (take i outcomes) ++ option_to_list (receipt_of (outcome_in history k))
 receipts_by-more history outcomes i k at =
@@ -32,7 +32,7 @@ receipts_by-more history outcomes i k at =
     ∙ ap receipts_in (map-append (outcome_in history) (take i outcomes) (k ∷ []))
     ∙ filter_map-last receipt_of (map (outcome_in history) (take i outcomes)) (outcome_in history k)
 
--- one outcome on, after receipts of others
+-- after one more outcome, following other receipts
 pub receipts_after-more : (history : List Entry) (outcomes : List KeptOutcome) (i : ℕ) (k : KeptOutcome) (outcome : Outcome) (others : List Receipt) → slice_get outcomes i ≡ Some k → outcome ≡ outcome_in history k
     → (others ++ receipts_by history (take i outcomes)) ++ option_to_list (receipt_of outcome) ≡ others ++ receipts_by history (take (i + 1) outcomes)
 receipts_after-more history outcomes i k outcome others at is =
@@ -40,7 +40,7 @@ receipts_after-more history outcomes i k outcome others at is =
     ∙ ap (λ (o : Outcome). others ++ (receipts_by history (take i outcomes) ++ option_to_list (receipt_of o))) is
     ∙ ap (λ (rs : List Receipt). others ++ rs) (sym (receipts_by-more history outcomes i k at))
 
--- one series on
+-- after one more series
 pub receipts_by-series : (history : List Entry) (list : List Series) (i : ℕ) (first : Series) → i < length list
     → receipts_by history (all_outcomes (take (i + 1) list)) ≡ receipts_by history (all_outcomes (take i list)) ++ receipts_by history (outcomes_of (get_or list i first))
 receipts_by-series history list i first within =

@@ -1,4 +1,4 @@
--- Runs, one step on.
+-- Runs, with one more step.
 use Rattle.std.proofs.Common.{◌≤◌, arith, ◌≡◌, ℕ, suc, Bool, true, false, List, [], ◌∷◌, ◌++◌, drop, length, map, take, take-append-drop, Option, Some, None, refl, sym, ap, ◌∙◌, subst, if◌then◌else◌}
 use Rattle.std.specs.Prelude.{IsSome, slice_index_or, take}
 use Rattle.std.specs.Option.{option_map, option_map_or}
@@ -27,21 +27,21 @@ use Rattle.gu_world.proofs.Holding.{look_by-group, look_by-seen}
 use Rattle.gu_world.proofs.SlotLemmas.{look_of-held}
 use Rattle.gu_world.proofs.Touches.{versions_and_touches}
 
--- a run of some steps and a run of more are a run of all
+-- a run of some steps followed by a run of more is a run of all
 pub IsRun-append : (old mid new : State) (steps more : List Step) (outcomes others : List Outcome) → IsRun old steps outcomes mid → IsRun mid more others new → IsRun old (steps ++ more) (outcomes ++ others) new
 IsRun-append old mid new [] more [] others h k = subst (λ (s : State). IsRun s more others new) h k
 IsRun-append old mid new [] more (o ∷ outcomes) others h k = elim h [ ]
 IsRun-append old mid new (s ∷ steps) more [] others h k = elim h [ ]
 IsRun-append old mid new (s ∷ steps) more (o ∷ outcomes) others h k = (h.0, h.1, IsRun-append h.0 mid new steps more outcomes others h.2 k)
 
--- a run has one outcome a step
+-- a run has one outcome for each step
 pub length-outcomes : (old new : State) (steps : List Step) (outcomes : List Outcome) → IsRun old steps outcomes new → length outcomes ≡ length steps
 length-outcomes old new [] [] h = refl
 length-outcomes old new [] (o ∷ outcomes) h = elim h [ ]
 length-outcomes old new (s ∷ steps) [] h = elim h [ ]
 length-outcomes old new (s ∷ steps) (o ∷ outcomes) h = ap suc (length-outcomes h.0 new steps outcomes h.2)
 
--- a run goes on by a step
+-- a run continues with a step
 pub run-goes_on : (reference : Tables) (steps : List Step) (step : Step) (old new : Course) → IsRunOf reference steps old → GoesOn old step new → IsRunOf reference (steps ++ step ∷ []) new
 run-goes_on reference steps step old new run goes =
     subst (λ (os : List Outcome). IsRun (beginning reference).state (steps ++ step ∷ []) os new.state) (sym goes.outcomes)
@@ -49,7 +49,7 @@ run-goes_on reference steps step old new run goes =
 
 -- ---- the reference
 
--- of a choice of two that have the same, either has it
+-- if two alternatives have the same reference, either has it
 either : (b : Bool) (reference : Tables) (x y : Outcome × State) → x.1.book.reference ≡ reference → y.1.book.reference ≡ reference → (if b then x else y).1.book.reference ≡ reference
 either true reference x y h k = h
 either false reference x y h k = k
@@ -77,7 +77,7 @@ leads-reference old (See worker group) outcome new h = ap (λ (p : Outcome × St
 leads-reference old (Propose worker) outcome new h = proposes-reference (look_of old worker) old worker outcome new h
 leads-reference old (Commit worker) outcome new h = ap (λ (p : Outcome × State). p.1.book.reference) h ∙ committed_on-reference (look_of old worker) old worker
 
--- ---- what is kept
+-- ---- what is stored
 
 pub kept-beginning : (reference : Tables) (book : BookState) (slots : List (Option Held)) (outcomes : List KeptOutcome) → book ≡ record { reference = reference; history = [] } → slots ≡ [] → outcomes ≡ []
     → IsKeptCourse book slots outcomes
@@ -121,7 +121,7 @@ module _ (book after : BookState) (slots left : List (Option Held)) (outcomes mo
 
 -- ---- looks
 
--- the view that is kept is the one that was seen
+-- the stored view is the one that was seen
 pub kept-look : (book : BookState) (slots : List (Option Held)) (worker : ℕ) (held : Held) (view : GroupView) → AreTrue book slots → slice_index_or slots worker None ≡ Some held → view ≡ view_in held.work
     → Some view ≡ option_map (view_seen (state_in book slots)) (look_of (state_in book slots) worker)
 kept-look book slots worker held view trues at is =
@@ -137,7 +137,7 @@ no-look book slots worker at = sym (ap (option_map (view_seen (state_in book slo
 pub no-seen : (book : BookState) (slots : List (Option Held)) (worker : ℕ) → slice_index_or slots worker None ≡ None → look_of (state_in book slots) worker ≡ None
 no-seen book slots worker at = look_of-held book slots worker ∙ ap (option_map look_in) at
 
--- and where nothing touched its group since, it is the group's as the book stands
+-- if nothing touched its group since, it is the group's view in the book now
 pub kept-current : (book : BookState) (slots : List (Option Held)) (worker : ℕ) (held : Held) (view : GroupView) → IsLegal book.reference book.history → AreTrue book slots
     → slice_index_or slots worker None ≡ Some held → view ≡ view_in held.work → (look : Look) → look_of (state_in book slots) worker ≡ Some look → is_overtaken (state_in book slots) look ≡ false
     → Some view ≡ Some (group_view book.reference book.history look.group)
@@ -157,7 +157,7 @@ no-current book slots worker at look looks still =
     let here : None ≡ Some look = sym (look_of-held book slots worker ∙ ap (option_map look_in) at) ∙ looks in
     cc
 
--- the view that a worker has a proposal for, where nothing touched its group since
+-- the view for which a worker has a proposal, if nothing touched its group since
 pub proposed-current : (book : BookState) (slots : List (Option Held)) (worker : ℕ) → IsLegal book.reference book.history → AreTrue book slots
     → ShowsProposed (state_in book slots) worker (view_proposed (slice_index_or slots worker None))
 proposed-current book slots worker legal trues look looks has still = by (slice_index_or slots worker None) refl

@@ -1,4 +1,4 @@
--- Series of outcomes: how long they are, what is at a place of them, and one outcome more.
+-- Series of outcomes: their length, the outcome at an index, and one more outcome.
 use Rattle.std.proofs.Common.{◌≡◌, ℕ, zero, suc, ◌+◌, ◌-◌, ◌<◌, ◌≤◌, arith, List, [], ◌∷◌, ◌++◌, length, Some, refl, sym, ap, subst, ◌∙◌, append_assoc, append-nil, get_or, take, drop}
 use Rattle.std.specs.Prelude.{slice_get, slice_set, All}
 use Rattle.std.proofs.lemmas.List.{length-append, drop_more, take_all, take_more}
@@ -12,7 +12,7 @@ use Rattle.gu_world.specs.declared.outcomes.KeptOutcome.TheVariants as kept
 use Rattle.gu_world.specs.declared.series.Series.{Series}
 use Rattle.gu_world.specs.declared.series.Series.TheVariants.{Asked}
 
--- ---- commands in a row
+-- ---- consecutive commands
 
 pub asked_len : (first more : ℕ) → length (outcomes_of (Asked first more)) ≡ more + 1
 asked_len first more = length-map-range_with_len kept.Asked first (more + 1)
@@ -25,9 +25,9 @@ asked_at first more place within =
 pub asked_more : (first more : ℕ) → outcomes_of (Asked first (more + 1)) ≡ outcomes_of (Asked first more) ++ kept.Asked (first + more + 1) ∷ []
 asked_more first more = map-range_with_len_more kept.Asked first (more + 1) (first + more + 1) (omega arith)
 
--- ---- places in what series stand for
+-- ---- indexes in what series stand for
 
--- what is at a place of two lists together is of the first, or of the second
+-- an element of two joined lists is in the first or in the second
 pub get-left : {X : Type 0} (xs ys : List X) (place : ℕ) → place < length xs → slice_get (xs ++ ys) place ≡ slice_get xs place
 get-left [] ys place within = absurd (omega (arith, within))
 get-left (x ∷ xs) ys zero within = refl
@@ -39,7 +39,7 @@ get-right {X} (x ∷ xs) ys place =
     let next : suc (length xs) + place ≡ suc (length xs + place) = omega arith in
     ap (slice_get {X = X} (x ∷ xs ++ ys)) next ∙ get-right xs ys place
 
--- where some series are left, a place is in the first of them, or past it
+-- among the remaining series, an index is in the first or past it
 module _ (list : List Series) (i left : ℕ) (first : Series) (within : i < length list) where
   begins : all_outcomes (drop i list) ≡ outcomes_of (get_or list i first) ++ all_outcomes (drop (i + 1) list)
   begins = ap all_outcomes (drop_more list i first within)
@@ -102,7 +102,7 @@ pub last_extended : (list : List Series) (last longer : Series) (kept : KeptOutc
     → outcomes_of longer ≡ outcomes_of last ++ kept ∷ [] → all_outcomes (slice_set list (length list - 1) longer) ≡ all_outcomes list ++ kept ∷ []
 last_extended list last longer kept some is more = extended_at last longer kept more list (length list - 1) (omega (arith, some)) is
 
--- what holds of each outcome holds of those of each series
+-- a property of each outcome is one of those in each series
 pub All-part : (P : KeptOutcome → Type 0) (list : List Series) (i : ℕ) (first : Series) → All P (all_outcomes list) → i < length list → All P (outcomes_of (get_or list i first))
 All-part P list i first all within j k short =
     subst P (get_or-flat_map outcomes_of list i j first k within short)

@@ -1,4 +1,4 @@
--- What is kept of a step's outcome is short: a book has at most 1,000,000 entries, and no version is above their number.
+-- The stored outcome of a step fits in 32 bits: a book has at most 1,000,000 entries, and no version is above their number.
 use Rattle.std.proofs.Common.{ℕ, ◌≤◌, arith, Bool, true, false, length, Option, Some, None, sym, subst, if◌then◌else◌}
 use Rattle.std.specs.Option.{option_map_or}
 use Rattle.std.proofs.lemmas.List.{length-append, length-take}
@@ -13,7 +13,7 @@ use Rattle.gu_world.specs.declared.outcome.Outcome.TheVariants.{Nothing}
 use Rattle.gu_world.specs.declared.step.Step.{Step}
 use Rattle.gu_world.specs.declared.step.Step.TheVariants.{Enter, See, Propose, Commit}
 
--- where the book has no more than that
+-- if the book has at most that many
 abbrev IsKeptShort : Outcome × State → Type 0
 IsKeptShort end = length end.1.book.history ≤ 1000000 → IsShort (kept_of end.0)
 

@@ -1,4 +1,4 @@
--- What is kept for workers, in its places.
+-- Workers' slots.
 use Rattle.std.proofs.Common.{◌≡◌, ◌⊎◌, ℕ, zero, suc, true, List, [], ◌∷◌, length, map, replicate, take, Option, Some, None, refl, sym, ap, ◌∙◌, arith, subst, inl, inr, length-append}
 use Rattle.std.specs.Prelude.{slice_index_or, slice_set}
 use Rattle.std.specs.Option.{option_map}
@@ -16,21 +16,21 @@ use Rattle.gu_world.specs.declared.held.Held.{Held}
 use Rattle.gu_world.specs.declared.held.Work.TheVariants.{Looking}
 use Rattle.gu_world.specs.declared.outcome.Outcome.TheVariants.{Seen}
 
--- ---- places in a list
+-- ---- slots of a list
 
--- of nothing everywhere nothing is read, and nothing written there changes it
+-- in a list of empty slots nothing is read, and writing nothing changes nothing
 pub index-nothing : {X : Type 0} (n place : ℕ) → slice_index_or (replicate {A = Option X} n None) place None ≡ None
 index-nothing zero place = refl
 index-nothing (suc n) zero = refl
 index-nothing (suc n) (suc place) = index-nothing n place
 
--- what stands in a place may be written there
+-- writing what is already in a slot changes nothing
 pub set-own : {X : Type 0} (xs : List (Option X)) (place : ℕ) (x : Option X) → slice_index_or xs place None ≡ x → slice_set xs place x ≡ xs
 set-own [] place x is = refl
 set-own (first ∷ xs) zero x is = ap (λ f. f ∷ xs) (sym is)
 set-own (first ∷ xs) (suc place) x is = ap (λ more. first ∷ more) (set-own xs place x is)
 
--- what is written last stays
+-- the last write counts
 pub set-twice : {X : Type 0} (xs : List X) (place : ℕ) (x y : X) → slice_set (slice_set xs place x) place y ≡ slice_set xs place y
 set-twice [] place x y = refl
 set-twice (first ∷ xs) zero x y = refl
@@ -42,7 +42,7 @@ looks_in-full : (slots : List (Option Held)) → length slots ≡ 64 → looks_i
 looks_in-full [] made = absurd (omega (arith, made))
 looks_in-full (slot ∷ slots) made = refl
 
--- the look of a worker is that of what it holds
+-- a worker's look is that of its work in hand
 pub look_of-held : (book : BookState) (slots : List (Option Held)) (worker : ℕ) → look_of (state_in book slots) worker ≡ option_map look_in (slice_index_or slots worker None)
 look_of-held book [] worker = index-nothing 64 worker
 look_of-held book (slot ∷ slots) worker = along (slot ∷ slots) worker
@@ -52,14 +52,14 @@ look_of-held book (slot ∷ slots) worker = along (slot ∷ slots) worker
     along (slot ∷ slots) zero = refl
     along (slot ∷ slots) (suc place) = along slots place
 
--- where a worker is given something to hold, it is its look
+-- a worker that is given work has its look
 pub looks_in-put : (slots : List (Option Held)) (worker : ℕ) (held : Held) → length slots ≡ 64 → looks_in (slice_set slots worker (Some held)) ≡ slice_set (looks_in slots) worker (Some (look_in held))
 looks_in-put slots worker held made =
     looks_in-full (slice_set slots worker (Some held)) (length-set slots worker (Some held) ∙ made)
     ∙ map-set (option_map look_in) slots worker (Some held)
     ∙ ap (λ (looks : List (Option Look)). slice_set looks worker (Some (look_in held))) (sym (looks_in-full slots made))
 
--- and where what it held is taken, it has none
+-- a worker whose work is taken has no look
 pub looks_in-taken : (slots : List (Option Held)) (worker : ℕ) → length (slice_set slots worker None) ≡ 64 → looks_in (slice_set slots worker None) ≡ slice_set (looks_in slots) worker None
 looks_in-taken slots worker made =
     let full : length slots ≡ 64 = sym (length-set slots worker None) ∙ made in
@@ -67,7 +67,7 @@ looks_in-taken slots worker made =
     ∙ map-set (option_map look_in) slots worker None
     ∙ ap (λ (looks : List (Option Look)). slice_set looks worker None) (sym (looks_in-full slots full))
 
--- places are made, and no look changes
+-- slots are allocated, and no look changes
 abbrev pub IsMadeOf : List (Option Held) → List (Option Held) → Type 0
 IsMadeOf old new = (new ≡ old) ⊎ ((old ≡ []) × (new ≡ replicate 64 None))
 
@@ -112,7 +112,7 @@ true-grown old new slots grows trues worker held at =
 -- ---- a look
 
 module _ (book : BookState) (group : Group) (worker : ℕ) (view : GroupView) (seen : ℕ) (old made new : List (Option Held)) where
-  -- what a worker holds that has just looked
+  -- the work of a worker that has just looked
   abbrev held : Held
   held = record { seen = seen; work = Looking view }
 

@@ -1,4 +1,4 @@
--- Versions that are equal, and entries that touch nothing between them.
+-- Equal versions, and entries between them that touch nothing.
 use Rattle.std.proofs.Common.{◌≡◌, ◌↔◌, ℕ, ◌+◌, ◌<◌, ◌≤◌, Bool, true, false, nat_lt, List, [], ◌∷◌, ◌++◌, length, take, drop, Option, Some, None, is_some, cond, if◌then◌else◌, refl, sym, ap, subst, ◌∙◌, arith, length-append, append_assoc, append-nil, take-append-drop}
 use Rattle.std.specs.List.{find}
 use Rattle.std.specs.Option.{option_to_list}
@@ -10,7 +10,7 @@ use Rattle.gu_rules.specs.Versions.{touches, touching, touching_after, version_o
 use Rattle.gu_rules.proofs.VersionLemmas.{touching_after-append}
 use Rattle.gu_world.specs.Steps.{first_touch_above}
 
--- a number in front, where a test passes
+-- a number at the front, if a test passes
 abbrev in_front : Bool → ℕ → List ℕ → List ℕ
 in_front b n ns = option_to_list (if b then Some n else None) ++ ns
 
@@ -25,7 +25,7 @@ low before (e ∷ es) group n h =
     none_low (touches before group e) n (length before + 1) (touching_after (before ++ e ∷ []) group es) (omega arith)
     (low (before ++ e ∷ []) es group n (omega (arith, length-append before (e ∷ []))))
 
--- and those after it have one above it where they have one
+-- those after it have one above it if they have one
 some_high : (b : Bool) (n k : ℕ) (ns : List ℕ) → n < k → is_some (find (nat_lt n) ns) ≡ nat_lt 0 (length ns) → is_some (find (nat_lt n) (in_front b k ns)) ≡ nat_lt 0 (length (in_front b k ns))
 some_high true n k ns high h = grind (arith, nat_tests)
 some_high false n k ns high h = h
@@ -45,18 +45,18 @@ found_after n [] second h = refl
 found_after n (x ∷ first) second h = kept_after (nat_lt n x) x (find (nat_lt n) first) (find (nat_lt n) (first ++ second)) (find (nat_lt n) second) h (found_after n first second)
 
 module _ (history : List Entry) (n : ℕ) (group : Group) where
-  -- the touches of the entries up to a number, and of those above it
+  -- the touches of the entries up to a number, then those of the later ones
   pub touching_at : touching history group ≡ touching (take n history) group ++ touching_after (take n history) group (drop n history)
   touching_at = ap (λ (h : List Entry). touching h group) (sym (take-append-drop n history)) ∙ touching_after-append [] (take n history) (drop n history) group
 
-  -- an entry above the number touches the group where there is a touch after
+  -- an entry above the number touches the group if there is a later touch
   touched_above : n ≤ length history → is_some (first_touch_above history group n) ≡ nat_lt 0 (length (touching_after (take n history) group (drop n history)))
   touched_above within =
       ap (λ (ns : List ℕ). is_some (find (nat_lt n) ns)) touching_at
       ∙ ap (λ (o : Option ℕ). is_some o) (found_after n (touching (take n history) group) (touching_after (take n history) group (drop n history)) (low [] (take n history) group n (omega (arith, length-take n history))))
       ∙ high (take n history) (drop n history) group n (omega (arith, length-take n history, within))
 
-  -- versions at two moments are equal just where no entry between touches the group
+  -- versions at two moments are equal if and only if no entry between touches the group
   sizes : (first second all : List ℕ) → all ≡ first ++ second → (length first ≡ length all) ↔ (nat_lt 0 (length second) ≡ false)
   sizes first second all e =
       let size : length all ≡ length first + length second = ap {A = List ℕ} length e ∙ length-append first second in

@@ -1,4 +1,4 @@
--- The headline: what holds of the book that any steps lead to.
+-- The headline: what holds of the book after any steps.
 use Rattle.std.specs.Prelude.{◌≡◌, ℕ, ◌+◌, ◌≤◌, List, All, IsTrue, Some, slice_get, take}
 use Rattle.gu_terms.specs.Takes.{lots_of}
 use Rattle.gu_terms.specs.declared.account.AccountId.{AccountId}
@@ -17,10 +17,9 @@ use Rattle.gu_rules.specs.Positions.{long_of, moved_into, moved_out, short_of, t
 use Rattle.gu_rules.specs.Reports.{reports_of}
 use Rattle.gu_rules.specs.Views.{group_view}
 
--- a sweep of a view: it takes lots of the view's offers alone, no more of any offer than it has and no more under any key than its room,
--- and the oldest offers of an agreement first; no admissible takes have more lots, and of those that have as many and give each older
--- offer the same, none gives an offer more; and its cut names keys and offers of the view alone, covers each offer, and has the lots taken
--- as its room
+-- a sweep of a view: it takes lots only from the view's offers, no more from an offer than it has and no more under a key than its room,
+-- and the oldest offers of an agreement first; no admissible takes have more lots, and among those with as many that give each older offer
+-- the same, none gives an offer more; its cut names only keys and offers of the view, covers each offer, and its room equals the lots taken
 pub record IsGreatestSweep (view : GroupView) (sweep : SweepEntry) : Type 0 where
   pub known : All (λ t. IsTrue (has_offer view.offers t.offer)) sweep.takes
   pub within : IsAdmissible view (lots_of sweep.takes)
@@ -39,9 +38,9 @@ abbrev pub AreGreatestSweeps : Tables → List Entry → Type 0
 AreGreatestSweeps reference history =
     (k : ℕ) (sweep : SweepEntry) → slice_get history k ≡ Some (Swept sweep) → IsGreatestSweep (group_view reference (take k history) sweep.group) sweep
 
--- what an account holds long of an instrument is what it bought in trades, and what claims and sweeps of buys moved to it, less what they
--- moved from it, where what was taken back counts as never moved; what it holds short is the same of sells. (As sums on both sides, since
--- a difference of numbers would be cut off at 0.)
+-- an account's long position in an instrument is what it bought in trades, plus what claims and sweeps of buys moved to it, less what they
+-- moved from it (lots moved back count as never moved); its short position is the same for sells. (Stated as sums on both sides, since a
+-- difference of natural numbers would be truncated at 0.)
 pub record ArePositionsSums (history : List Entry) : Type 0 where
   pub long : (account : AccountId) (symbol : Symbol)
       → long_of history account symbol + moved_out (reports_of history) (standing_of history) Buy account symbol

@@ -1,4 +1,4 @@
--- Machinery: outcomes as a world keeps them: of what was entered, the number alone.
+-- Machinery: outcomes as a world stores them: an entry as its number.
 use Rattle.std.specs.Prelude.{ℕ, ◌≤◌, All, List}
 use Rattle.std.specs.Option.{option_map_or}
 use Rattle.gu_terms.specs.Histories.{entry_at}
@@ -8,7 +8,7 @@ use Rattle.gu_world.specs.declared.outcome.Outcome.TheVariants.{Asked, Full, See
 use Rattle.gu_world.specs.declared.outcomes.KeptOutcome.{KeptOutcome}
 use Rattle.gu_world.specs.declared.outcomes.KeptOutcome.TheVariants as kept
 
--- what is kept of an outcome
+-- the stored form of an outcome
 abbrev pub kept_of : Outcome → KeptOutcome
 kept_of (Asked receipt) = kept.Asked receipt.number
 kept_of Full = kept.Full
@@ -20,7 +20,7 @@ kept_of (Stale seen now) = kept.Stale seen now
 kept_of Foreign = kept.Foreign
 kept_of Nothing = kept.Nothing
 
--- the outcome that is kept so (no number is kept of an entry that isn't there)
+-- the outcome stored as this (`Nothing` if its number isn't that of an entry; none such is stored)
 abbrev pub outcome_in : List Entry → KeptOutcome → Outcome
 outcome_in history (kept.Asked n) = option_map_or (λ (e : Entry). Asked (record { number = n; entry = e })) (entry_at history n) Nothing
 outcome_in history kept.Full = Full
@@ -32,7 +32,7 @@ outcome_in history (kept.Stale seen now) = Stale seen now
 outcome_in history kept.Foreign = Foreign
 outcome_in history kept.Nothing = Nothing
 
--- a number that is kept is that of one of this number of entries
+-- a stored number is that of one of the first `count` entries
 abbrev pub IsNumbered : ℕ → KeptOutcome → Type 0
 IsNumbered count (kept.Asked n) = (1 ≤ n) × (n ≤ count)
 IsNumbered count (kept.Swept n) = (1 ≤ n) × (n ≤ count)

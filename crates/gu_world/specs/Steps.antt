@@ -23,7 +23,7 @@ use Rattle.gu_world.specs.declared.outcome.Outcome.TheVariants.{Asked, Full, See
 use Rattle.gu_world.specs.declared.step.Step.{Step}
 use Rattle.gu_world.specs.declared.step.Step.TheVariants.{Enter, See, Propose, Commit}
 
--- a worker's look: the group, how many entries the book had then, and the sweep that the worker proposes for what it saw, if it does
+-- a worker's look: the group, the number of entries that the book had then, and the sweep that the worker proposes, if it does
 pub record Look : Type 0 where
   pub group : Group
   pub seen : ℕ
@@ -34,7 +34,7 @@ pub record State : Type 0 where
   pub book : BookState
   pub looks : List (Option Look)
 
--- a book without entries, and 64 workers that haven't looked
+-- an empty book, and 64 workers that haven't looked
 abbrev pub start : Tables → State
 start reference = record { book = record { reference = reference; history = [] }; looks = replicate 64 None }
 
@@ -46,15 +46,15 @@ look_of state worker = slice_index_or state.looks worker None
 abbrev pub with_look : State → ℕ → Option Look → State
 with_look state worker look = record { book = state.book; looks = slice_set state.looks worker look }
 
--- the same with one entry more
+-- the same state with one more entry
 abbrev pub with_entry : State → Entry → State
 with_entry state entry = record { book = record { reference = state.book.reference; history = state.book.history ++ entry ∷ [] }; looks = state.looks }
 
--- the receipt of an entry that comes next
+-- the receipt for the next entry
 abbrev pub next_receipt : State → Entry → Receipt
 next_receipt state entry = record { number = length state.book.history + 1; entry = entry }
 
--- the book has a million entries
+-- the book has 1,000,000 entries
 abbrev pub is_full : State → Bool
 is_full state = nat_le 1000000 (length state.book.history)
 
@@ -62,11 +62,11 @@ is_full state = nat_le 1000000 (length state.book.history)
 abbrev pub seen_history : State → Look → List Entry
 seen_history state look = take look.seen state.book.history
 
--- the view that it saw
+-- the view that a worker saw
 abbrev pub view_seen : State → Look → GroupView
 view_seen state look = group_view state.book.reference (seen_history state look) look.group
 
--- the first entry above a number that touches a group
+-- the first entry after a number that touches a group
 abbrev pub first_touch_above : List Entry → Group → ℕ → Option ℕ
 first_touch_above history group n = find (nat_lt n) (touching history group)
 
@@ -74,24 +74,24 @@ first_touch_above history group n = find (nat_lt n) (touching history group)
 abbrev pub is_overtaken : State → Look → Bool
 is_overtaken state look = is_some (first_touch_above state.book.history look.group look.seen)
 
--- where a worker's look has a proposal and wasn't overtaken, this is the view of its group as the book is now
+-- if a worker's look has a proposal and wasn't overtaken, this is the view of its group as the book is now
 abbrev pub ShowsProposed : State → ℕ → Option GroupView → Type 0
 ShowsProposed state worker view =
     (look : Look) → look_of state worker ≡ Some look → IsSome look.proposal → is_overtaken state look ≡ false
     → view ≡ Some (group_view state.book.reference state.book.history look.group)
 
--- what came of a command, by what is told of it: the receipt of its entry, and where nothing is told, that the book was full
+-- the outcome of a command, given the answer to it: the receipt of its entry, or Full if there is no answer
 abbrev pub outcome_of : Command → Option Answered → Outcome
 outcome_of command None = Full
 outcome_of command (Some answered) = Asked (record { number = answered.number; entry = AskedEntry command answered.reply })
 
--- a command is entered with its answer; in a full book nothing is
+-- a command is entered with its answer; nothing is entered in a full book
 abbrev pub entered : State → Command → Outcome × State
 entered state command =
     let entry = AskedEntry command (answer state.book.reference state.book.history command) in
     if is_full state then (Full, state) else (Asked (next_receipt state entry), with_entry state entry)
 
--- a worker looks at a group, and what it saw or proposed before is gone; of a group that the reference lacks it sees nothing, and keeps what it had
+-- a worker looks at a group, which replaces its earlier look or proposal; if the reference lacks the group, it keeps what it had
 abbrev pub looked : State → ℕ → Group → Outcome × State
 looked state worker group =
     if is_group state.book.reference group
@@ -101,11 +101,11 @@ looked state worker group =
     )
     else (NoGroup, state)
 
--- the look with a proposal
+-- the look with this proposal
 abbrev pub with_proposal : Look → SweepEntry → Look
 with_proposal look sweep = record { group = look.group; seen = look.seen; proposal = Some sweep }
 
--- a worker proposes some sweep of its group that might be committed after the entries that it saw, and no others
+-- a worker proposes some sweep of its group that may follow the entries that it saw
 pub record ProposesFor (old : State) (worker : ℕ) (look : Look) (outcome : Outcome) (new : State) : Type 0 where
   pub sweep : SweepEntry
   pub own : sweep.group ≡ look.group
@@ -113,12 +113,12 @@ pub record ProposesFor (old : State) (worker : ℕ) (look : Look) (outcome : Out
   pub outcome_is : outcome ≡ Proposed sweep.lots
   pub new_is : new ≡ with_look old worker (Some (with_proposal look sweep))
 
--- without a look, nothing
+-- the same; without a look, nothing happens
 abbrev pub ProposesOn : Option Look → State → ℕ → Outcome → State → Type 0
 ProposesOn None old worker outcome new = (outcome ≡ Nothing) × (new ≡ old)
 ProposesOn (Some look) old worker outcome new = ProposesFor old worker look outcome new
 
--- a proposed sweep is entered, but not in a full book, and not where the look was overtaken: then the versions are told, that which was seen and that of now
+-- a proposed sweep is entered, unless the book is full or the look was overtaken: then the outcome has the version seen and the one now
 abbrev pub committed_for : State → Look → SweepEntry → Outcome × State
 committed_for state look sweep =
     if is_full state then (Full, state)
@@ -126,12 +126,12 @@ committed_for state look sweep =
     then (Stale (version_of (seen_history state look) look.group) (version_of state.book.history look.group), state)
     else (Swept (next_receipt state (SweptEntry sweep)), with_entry state (SweptEntry sweep))
 
--- a worker commits: without a proposal nothing, and its look stays; with one, look and proposal go, whatever comes of it
+-- a worker commits: without a proposal nothing happens, and its look stays; with one, its look and proposal are gone, whatever the outcome
 abbrev pub committed_on : Option Look → State → ℕ → Outcome × State
 committed_on None state worker = (Nothing, state)
 committed_on (Some look) state worker = option_map_or (committed_for (with_look state worker None) look) look.proposal (Nothing, state)
 
--- a step leads from a state to another, with an outcome; a command is one that may be asked
+-- a step leads from one state to another, with an outcome; a command must be one that may be entered
 abbrev pub LeadsTo : State → Step → Outcome → State → Type 0
 LeadsTo old (Enter command) outcome new = MayBeAsked command × ((outcome, new) ≡ entered old command)
 LeadsTo old (See worker group) outcome new = (outcome, new) ≡ looked old worker group

@@ -1,8 +1,8 @@
-//! What is told of commands.
+//! Answers to entered commands.
 
 use gu_terms::Reply;
 
-/// What is told of a command that was entered: the number of its entry, and its reply.
+/// The answer to an entered command: the number of its entry, and its reply.
 #[derive(Clone, Copy, Debug, PartialEq, Eq)]
 pub struct Answered {
     pub number: u64,

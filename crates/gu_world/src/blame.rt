@@ -18,7 +18,7 @@ use gu_ref::Reference;
 use gu_terms::{Command, Done, Entry, Group, History, Reply};
 use std::alloc::{AllocError, Global};
 
-/// Pushes, so many times, whether an offer is of the group.
+/// Appends `count` times whether offers are in the group.
 fn push_own(own: &mut Vec<bool>, is_own: bool, count: usize) -> Result<(), AllocError>
     ensures { OnOk result (own.new.items ≡ own.old.items ++ replicate count is_own) }
 {
@@ -28,7 +28,7 @@ fn push_own(own: &mut Vec<bool>, is_own: bool, count: usize) -> Result<(), Alloc
     Ok(())
 }
 
-/// Adds the offers that an entry makes to those of which it is known whether they are of the group.
+/// Appends, for each offer that an entry makes, whether it is in the group.
 fn know(own: &mut Vec<bool>, group: &Group, entry: &Entry) -> Result<(), AllocError>
     ensures { (before : List EntryOf) → own.old.items ≡ own_of before group.now → OnOk result (own.new.items ≡ own_of (before ++ entry.now ∷ []) group.now) }
 {
@@ -47,7 +47,7 @@ fn know(own: &mut Vec<bool>, group: &Group, entry: &Entry) -> Result<(), AllocEr
     push_own(own, at == *group, give_up.lines.as_slice().len())
 }
 
-/// The first entry above a number that touches a group.
+/// Returns the first entry after a number that touches a group.
 fn first_touch(
     alloc: Global,
     history: &History,
@@ -69,7 +69,7 @@ fn first_touch(
     Ok(None)
 }
 
-/// The first entry that touched the group of a worker's look after those that the worker saw.
+/// Returns the first entry that touched the group of a worker's look after those that the worker saw.
 fn first_after(alloc: Global, world: &World, worker: Worker) -> Result<Option<u64>, AllocError>
     ensures { IfOk result (λ first. first
         ≡ option_and_then (λ (look : Look). first_touch_above world.now.state.book.history look.group look.seen) (look_of world.now.state worker)) }
@@ -81,7 +81,7 @@ fn first_after(alloc: Global, world: &World, worker: Worker) -> Result<Option<u6
     first_touch(alloc, history, &group, seen)
 }
 
-/// The same where a step is that worker's commit, and none for other steps.
+/// Returns the same if the step is that worker's commit, and None for any other step.
 fn first_for(alloc: Global, world: &World, step: &Step) -> Result<Option<u64>, AllocError>
     ensures { IfOk result (λ first. first ≡ first_after world.now.state step.now) }
 {
@@ -91,14 +91,14 @@ fn first_for(alloc: Global, world: &World, step: &Step) -> Result<Option<u64>, A
     }
 }
 
-/// Whether an outcome is that of a stale commit.
+/// Returns whether an outcome is a stale commit.
 fn is_stale(outcome: &Outcome) -> bool
     ensures { result ≡ is_stale outcome.now }
 {
     matches!(outcome, Outcome::Stale { .. })
 }
 
-/// Whether the last outcome is that of a stale commit.
+/// Returns whether the last outcome is a stale commit.
 fn ends_stale(outcomes: &Outcomes<'_>) -> Result<bool, AllocError>
     ensures { IfOk result (λ ends. ends ≡ ends_stale outcomes.now) }
 {
@@ -108,7 +108,7 @@ fn ends_stale(outcomes: &Outcomes<'_>) -> Result<bool, AllocError>
     }
 }
 
-/// Takes one step more, and answers which entry is to blame for its outcome.
+/// Takes one more step, and returns the entry to blame for its outcome.
 fn blame(alloc: Global, world: &mut World, step: Step) -> Result<Option<u64>, AllocError>
     ensures { IfOk result (IsBlamedFor world.old step world.new) }
 {
@@ -118,7 +118,7 @@ fn blame(alloc: Global, world: &mut World, step: Step) -> Result<Option<u64>, Al
     if ends { Ok(first) } else { Ok(None) }
 }
 
-/// The entry to blame for the outcome of the step at a place, counted from 0: where that is a stale commit, the first entry that
+/// Returns the entry to blame for the outcome of the step at an index, counted from 0: if that is a stale commit, the first entry that
 /// touched its group after those that its worker saw. None otherwise, and after the last step.
 pub fn culprit(
     alloc: Global,

@@ -15,7 +15,7 @@ use gu_flow::Proposal;
 use gu_view::View;
 use std::alloc::AllocError;
 
-/// The view of a proposal. The rest is dropped.
+/// Returns the view of a proposal, and drops the rest.
 fn into_view(proposal: Proposal) -> View
     ensures { result ≡ proposal.view }
 {
@@ -25,7 +25,7 @@ fn into_view(proposal: Proposal) -> View
     view
 }
 
-/// Commits a proposal for a true look. Its view is handed back, and all of it where an allocation fails.
+/// Commits a proposal for a true look. Returns its view, or all of it if an allocation fails.
 fn commit(book: &mut Book, proposal: Proposal) -> Result<(Outcome, View), Proposal>
     requires { (seen : ℕ) × IsTrueLook book.old (record { seen = seen; work = Ready proposal }) }
     ensures committed { IfOk result (λ r. (seen : ℕ) (looks : List (Option Look))
@@ -52,7 +52,7 @@ fn commit(book: &mut Book, proposal: Proposal) -> Result<(Outcome, View), Propos
     }
 }
 
-/// Has a worker commit what it proposed, and hands back the view that it proposed for.
+/// Commits a worker's proposal, and returns the view that it was for.
 pub fn commit_for(
     book: &mut Book,
     looks: &mut Looks,

@@ -1,4 +1,4 @@
-//! What a worker holds.
+//! A worker's work in hand.
 
 use gu_flow::Proposal;
 use gu_view::View;
@@ -10,7 +10,7 @@ pub enum Work {
     Ready(Proposal),
 }
 
-/// What a worker saw, and how many entries the book had then.
+/// A worker's work in hand, and the number of entries that the book had when the worker looked.
 #[derive(Drop)]
 pub struct Held {
     pub seen: u64,
@@ -21,7 +21,7 @@ impl Held {
     ghost use Rattle.std.specs.Prelude.{◌≡◌};
     ghost use Rattle.gu_world.specs.Looks.{view_in};
 
-    /// The view that was seen.
+    /// Returns the view that was seen.
     pub fn view(&self) -> &View
         ensures { result.now ≡ view_in self.now.work }
     {

@@ -1,4 +1,4 @@
-//! The outcomes of a world, as they are kept.
+//! The outcomes of a world, as stored.
 
 ghost use Rattle.std.specs.Prelude.{◌≡◌, ◌-◌, ◌++◌, ◌∷◌, [], ◌<◌, ◌≤◌, length, slice_get, slice_set, vec_capacity, vec_len, IfSome, OnOk};
 ghost use Rattle.gu_world.specs.Series.{all_outcomes, IsShort};
@@ -8,8 +8,8 @@ use crate::series::Series;
 use std::alloc::{AllocError, Global};
 use std::marker::Model;
 
-/// The outcomes of steps. Those of commands that were entered one after the other take one place together.
-/// To a contract it is their list, and how many more have room.
+/// The outcomes of steps. Those of commands entered one after the other share one element. To a contract it is their list, and how many
+/// more fit.
 pub(crate) struct KeptOutcomes {
     list: Vec<Series>,
     count: usize,
@@ -31,7 +31,7 @@ impl Model for KeptOutcomes {
     ghost invariant = { λ k. k.count ≡ length (all_outcomes k.list.items) };
 }
 
-// By hand, so that who holds outcomes lets them go by one call.
+// By hand, so that their owner drops them with one call.
 impl Drop for KeptOutcomes {
     fn drop(self) {
         let KeptOutcomes { list, count: _ } = self;
@@ -40,7 +40,7 @@ impl Drop for KeptOutcomes {
 }
 
 #[tactic(auto, using(crate::proofs::SeriesLemmas::last_extended))]
-/// The last series with one outcome more, if that is of the command entered next.
+/// Returns the last series extended by one outcome, if that is of the command entered next.
 fn extended_last(list: &[Series], kept: KeptOutcome) -> Option<Series>
     ensures some { IfSome result (λ longer. 1 ≤ length list.now) }
     ensures longer { IfSome result (λ longer. all_outcomes (slice_set list.now (length list.now - 1) longer)
@@ -52,7 +52,7 @@ fn extended_last(list: &[Series], kept: KeptOutcome) -> Option<Series>
     }
 }
 
-/// Adds an outcome after the others. There is room.
+/// Adds an outcome after the others. There is room for it.
 fn add(list: &mut Vec<Series>, kept: KeptOutcome)
     requires room { vec_len list.old < vec_capacity list.old }
     requires short { IsShort kept }
@@ -67,7 +67,7 @@ fn add(list: &mut Vec<Series>, kept: KeptOutcome)
 }
 
 #[tactic(auto, using(crate::proofs::SeriesLemmas::place_here, crate::proofs::SeriesLemmas::place_past))]
-/// The outcome at a place of those of all series, counted from 0.
+/// Returns the outcome at an index among those of all series, counted from 0.
 fn outcome_at(list: &[Series], place: usize) -> Option<KeptOutcome>
     ensures { result ≡ slice_get (all_outcomes list.now) place }
 {
@@ -82,7 +82,7 @@ fn outcome_at(list: &[Series], place: usize) -> Option<KeptOutcome>
 }
 
 #[tactic(auto, using(crate::proofs::SeriesLemmas::last_is))]
-/// The last outcome of the last series.
+/// Returns the last outcome of the last series.
 fn last_outcome(list: &[Series]) -> Option<KeptOutcome>
     ensures { result ≡ slice_get (all_outcomes list.now) (length (all_outcomes list.now) - 1) }
 {
@@ -93,7 +93,7 @@ fn last_outcome(list: &[Series]) -> Option<KeptOutcome>
 }
 
 impl KeptOutcomes {
-    /// None as yet.
+    /// Returns an empty list.
     pub(crate) fn new(alloc: Global) -> Self
         ensures { result.items ≡ [] }
     {
@@ -103,28 +103,28 @@ impl KeptOutcomes {
         }
     }
 
-    /// How many there are.
+    /// Returns the number of outcomes.
     pub(crate) fn len(&self) -> usize
         ensures { result ≡ length self.now.items }
     {
         self.count
     }
 
-    /// The series, in order.
+    /// Returns the series, in order.
     pub(crate) fn list(&self) -> &[Series]
         ensures { all_outcomes result.now ≡ self.now.items }
     {
         &self.list
     }
 
-    /// The outcome at a place, counted from 0.
+    /// Returns the outcome at an index, counted from 0.
     pub(crate) fn get(&self, place: usize) -> Option<KeptOutcome>
         ensures { result ≡ slice_get self.now.items place }
     {
         outcome_at(&self.list, place)
     }
 
-    /// The last outcome.
+    /// Returns the last outcome.
     pub(crate) fn last(&self) -> Option<KeptOutcome>
         ensures { result ≡ slice_get self.now.items (length self.now.items - 1) }
     {
@@ -142,7 +142,7 @@ impl KeptOutcomes {
         self.list.reserve(1)
     }
 
-    /// Adds an outcome after the others. There is room.
+    /// Adds an outcome after the others. There is room for it.
     pub(crate) fn push(&mut self, kept: KeptOutcome)
         requires room { 1 ≤ self.old.room }
         requires short { IsShort kept }

@@ -1,4 +1,4 @@
-//! Every order of steps: commands are entered while workers look, propose and commit.
+//! Every interleaving of steps: commands are entered while workers look, propose and commit.
 #![tactic(auto)]
 
 mod answered;

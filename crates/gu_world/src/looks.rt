@@ -1,4 +1,4 @@
-//! What each worker holds.
+//! Each worker's work in hand.
 
 ghost use Rattle.std.specs.Prelude.{◌≡◌, ◌⊎◌, [], length, replicate, None, Some, IsSome, IfOk, OnOk, OnSome, slice_index_or, slice_set};
 ghost use Rattle.std.specs.Option.{option_copied};
@@ -9,8 +9,7 @@ use std::alloc::{AllocError, Global};
 use std::marker::Model;
 use std::mem;
 
-/// What each worker holds. Places for all of them are made when one first looks.
-/// To a contract it is the list of these places.
+/// Each worker's work in hand. Slots for all workers are allocated at the first look. To a contract it is the list of these slots.
 pub struct Looks {
     slots: Vec<Option<Held>>,
     alloc: Global,
@@ -28,7 +27,7 @@ impl Model for Looks {
     ghost invariant = { λ l. AreMade l.slots.items };
 }
 
-// By hand, so that who holds looks lets them go by one call.
+// By hand, so that their owner drops them with one call.
 impl Drop for Looks {
     fn drop(self) {
         let Looks { slots, alloc: _ } = self;
@@ -36,7 +35,7 @@ impl Drop for Looks {
     }
 }
 
-/// A place for each worker.
+/// Returns an empty slot for each worker.
 fn empty_places(alloc: Global) -> Result<Vec<Option<Held>>, AllocError>
     ensures { IfOk result (λ slots. slots.items ≡ replicate 64 None) }
 {
@@ -48,7 +47,7 @@ fn empty_places(alloc: Global) -> Result<Vec<Option<Held>>, AllocError>
 }
 
 impl Looks {
-    /// No places as yet.
+    /// Returns no slots.
     pub fn new(alloc: Global) -> Self
         ensures { result ≡ [] }
     {
@@ -58,7 +57,7 @@ impl Looks {
         }
     }
 
-    /// Makes the places, where there are none.
+    /// Allocates the slots, if there are none.
     pub fn make(&mut self) -> Result<(), AllocError>
         ensures made { OnOk result (length self.new ≡ 64) }
         ensures kept { (self.new ≡ self.old) ⊎ ((self.old ≡ []) × (self.new ≡ replicate 64 None)) }
@@ -69,7 +68,7 @@ impl Looks {
         Ok(())
     }
 
-    /// What a worker holds.
+    /// Returns a worker's work in hand.
     pub fn get(&self, worker: Worker) -> Option<&Held>
         ensures { option_copied result ≡ slice_index_or self.now worker None }
     {
@@ -80,7 +79,7 @@ impl Looks {
         self.slots[place].as_ref()
     }
 
-    /// Takes what a worker holds, which then holds nothing.
+    /// Takes a worker's work in hand, which leaves it none.
     pub fn take(&mut self, worker: Worker) -> Option<Held>
         ensures held { result ≡ slice_index_or self.old worker None }
         ensures left { self.new ≡ slice_set self.old worker None }
@@ -93,7 +92,7 @@ impl Looks {
         mem::replace(&mut self.slots[place], None)
     }
 
-    /// Has a worker hold this.
+    /// Gives a worker this work.
     pub fn put(&mut self, worker: Worker, held: Held)
         requires { length self.old ≡ 64 }
         ensures { self.new ≡ slice_set self.old worker (Some held) }

@@ -1,4 +1,4 @@
-//! The outcomes of a world, as they are kept and as they are shown.
+//! The outcomes of a world, as stored and as shown.
 
 ghost use Rattle.std.specs.Prelude.{◌≡◌, ◌++◌, ◌-◌, ◌≤◌, length, map, slice_get, IfOk, OnOk, Some};
 ghost use Rattle.std.specs.Option.{option_to_list};
@@ -17,7 +17,7 @@ use gu_terms::{History, Receipt};
 use std::alloc::{AllocError, Global};
 use std::marker::Model;
 
-/// An outcome as it is kept: of what was entered, the number alone.
+/// An outcome as stored: an entry is stored as its number.
 #[derive(Clone, Copy)]
 pub(crate) enum KeptOutcome {
     Asked(u64),
@@ -32,7 +32,7 @@ pub(crate) enum KeptOutcome {
 }
 
 impl KeptOutcome {
-    /// What is kept of an outcome.
+    /// Returns the stored form of an outcome.
     pub(crate) fn of(outcome: &Outcome) -> Self
         ensures { result ≡ kept_of outcome.now }
     {
@@ -52,7 +52,7 @@ impl KeptOutcome {
         }
     }
 
-    /// What is kept of the outcome of a command of which this is told.
+    /// Returns the stored form of a command's outcome, given the answer to it, if there is one.
     pub(crate) fn of_answer(answered: &Option<Answered>) -> Self
         ensures { (command : CommandOf) → result ≡ kept_of (outcome_of command answered.now) }
     {
@@ -62,7 +62,7 @@ impl KeptOutcome {
         }
     }
 
-    /// The outcome that is kept so, with the entry out of the history.
+    /// Returns the outcome stored as this, with its entry from the history.
     fn outcome(self, history: &History) -> Result<Outcome, AllocError>
         requires { IsNumbered (length history.now) self }
         ensures { IfOk result (λ outcome. outcome ≡ outcome_in history.now self) }
@@ -81,7 +81,7 @@ impl KeptOutcome {
     }
 }
 
-/// The receipt of the entry of a number.
+/// Returns the receipt for the entry with this number.
 fn receipt(history: &History, number: u64) -> Result<Receipt, AllocError>
     requires { (1 ≤ number) × (number ≤ length history.now) }
     ensures number { IfOk result (λ r. r.number ≡ number) }
@@ -101,7 +101,7 @@ fn append_receipt(receipts: &mut Vec<Receipt>, outcome: Outcome) -> Result<(), A
     Ok(())
 }
 
-/// Appends the receipts of what was entered by steps in a row.
+/// Appends the receipts of what was entered by consecutive steps.
 fn append_receipts(
     receipts: &mut Vec<Receipt>,
     series: &Series,
@@ -117,7 +117,7 @@ fn append_receipts(
     Ok(())
 }
 
-/// The outcome of each step, in order. To a contract it is their list.
+/// The outcomes of the steps, in order. To a contract it is their list.
 #[derive(Drop)]
 pub struct Outcomes<'a> {
     kept: &'a KeptOutcomes,
@@ -137,7 +137,7 @@ impl<'a> Model for Outcomes<'a> {
 }
 
 impl<'a> Outcomes<'a> {
-    /// These outcomes, with the entries of this history.
+    /// Returns these outcomes, with the entries of this history.
     pub(crate) fn new(kept: &'a KeptOutcomes, history: &'a History) -> Self
         requires { AreNumbered (length history.now) kept.now.items }
         ensures { result ≡ map (outcome_in history.now) kept.now.items }
@@ -145,14 +145,14 @@ impl<'a> Outcomes<'a> {
         Outcomes { kept, history }
     }
 
-    /// How many there are, which is how many steps were taken.
+    /// Returns the number of outcomes, which is the number of steps taken.
     pub fn len(&self) -> usize
         ensures { result ≡ length self.now }
     {
         self.kept.len()
     }
 
-    /// The outcome of the step at a place, counted from 0.
+    /// Returns the outcome of the step at an index, counted from 0.
     pub fn get(&self, place: usize) -> Result<Option<Outcome>, AllocError>
         ensures { IfOk result (λ outcome. outcome ≡ slice_get self.now place) }
     {
@@ -162,7 +162,7 @@ impl<'a> Outcomes<'a> {
         }
     }
 
-    /// The receipts of what was entered, in order.
+    /// Returns the receipts of what was entered, in order.
     pub fn receipts(&self, alloc: Global) -> Result<Vec<Receipt>, AllocError>
         ensures { IfOk result (λ receipts. receipts.items ≡ receipts_in self.now) }
     {
@@ -173,7 +173,7 @@ impl<'a> Outcomes<'a> {
         Ok(receipts)
     }
 
-    /// The outcome of the last step.
+    /// Returns the outcome of the last step.
     pub fn last(&self) -> Result<Option<Outcome>, AllocError>
         ensures { IfOk result (λ outcome. outcome ≡ slice_get self.now (length self.now - 1)) }
     {

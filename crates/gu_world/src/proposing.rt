@@ -17,7 +17,7 @@ use gu_flow::{Proposal, propose};
 use gu_view::View;
 use std::alloc::{AllocError, Global};
 
-/// The lots of a proposal, which is one of a sweep of its view.
+/// Returns the lots of a proposal, which is for a sweep of its view.
 fn proposed_lots(proposal: &Proposal) -> u64
     ensures lots { result ≡ proposal.now.lots }
     ensures sweeps { IsSweepOf proposal.now.view (sweep_of proposal.now) }
@@ -29,7 +29,7 @@ fn proposed_lots(proposal: &Proposal) -> u64
     proposal.lots()
 }
 
-/// A proposal for the view that a worker has: the one that it has already, or a new one.
+/// Returns a proposal for a worker's view: the one that the worker has already, or a new one.
 fn proposal_for(alloc: Global, work: Work) -> Result<Proposal, (AllocError, View)>
     requires { IsNested (view_in work) }
     ensures view { IfOk result (λ proposal. proposal.view ≡ view_in work) }
@@ -41,7 +41,7 @@ fn proposal_for(alloc: Global, work: Work) -> Result<Proposal, (AllocError, View
     }
 }
 
-/// Has a worker propose for what it saw.
+/// Makes a worker's proposal for the view that it saw.
 pub fn propose_for(alloc: Global, looks: &mut Looks, worker: Worker) -> Result<Outcome, AllocError>
     requires { AreNested looks.old }
     ensures proposes { (book : BookState) → AreTrue book looks.old

@@ -12,7 +12,7 @@ use crate::world::World;
 use gu_ref::Reference;
 use std::alloc::{AllocError, Global};
 
-/// Takes the steps, from a book without entries.
+/// Takes the steps, starting from an empty book.
 pub fn take_all(alloc: Global, reference: Reference, steps: &[Step]) -> Result<World, AllocError>
     ensures { IfOk result (IsRunOf reference steps.now) }
 {
@@ -23,19 +23,19 @@ pub fn take_all(alloc: Global, reference: Reference, steps: &[Step]) -> Result<W
     Ok(world)
 }
 
-/// Runs the steps of firms and workers, in whatever order they come, from a book without entries.
+/// Runs the steps of firms and workers, in any order, starting from an empty book.
 pub fn run(alloc: Global, reference: Reference, steps: &[Step]) -> Result<World, AllocError>
     // The history, the looks and the outcomes are those of a run of the steps, with one outcome each.
     ensures run { IfOk result (IsRunOf reference steps.now) }
     ensures legal { IfOk result (λ world. IsLegal reference world.state.book.history) }
 
     // Each committed sweep stays within every offer and limit of its group as the book was at its commit, and takes as many lots as any
-    // admissible takes would, oldest first; its cut names keys and offers of the view alone, covers each offer, and has the lots taken as
-    // its room.
+    // admissible takes could, oldest first; its cut names only keys and offers of the view, covers each offer, and its room equals the lots
+    // taken.
     ensures sweeps { IfOk result (λ world. AreGreatestSweeps reference world.state.book.history) }
 
-    // What each account holds long, and what it holds short, is the sum of its trades and of what claims and sweeps moved to it, less what
-    // they moved from it; and over the accounts, as many lots of each instrument are held long as short.
+    // Each account's long and short positions are the sums of its trades and of what claims and sweeps moved to it, less what they moved
+    // from it; and over all accounts, as many lots of each instrument are held long as short.
     ensures positions { IfOk result (λ world. ArePositionsSums world.state.book.history) }
     ensures even { IfOk result (λ world. LongIsShort world.state.book) }
     ensures never_foreign { IfOk result (λ world. All (λ outcome. outcome ≢ Foreign) world.outcomes) }

@@ -1,4 +1,4 @@
-//! Outcomes of steps in a row, as they are kept.
+//! Outcomes of consecutive steps, as stored.
 
 ghost use Rattle.std.specs.Prelude.{◌≡◌, ◌++◌, ◌∷◌, [], ◌<◌, ◌≤◌, length, slice_get, IfSome, Some};
 ghost use Rattle.gu_world.specs.Series.{outcomes_of, IsShort};
@@ -6,7 +6,7 @@ ghost use Rattle.gu_world.specs.declared.series.Series.TheVariants.{Asked};
 
 use crate::outcomes::KeptOutcome;
 
-/// Commands that were entered one after the other, by the number of the first and how many follow it; or one other step.
+/// Commands entered one after the other, stored as the number of the first and how many follow it; or one other step.
 #[derive(Clone, Copy)]
 pub(crate) enum Series {
     Asked { first: u32, more: u32 },
@@ -21,7 +21,7 @@ pub(crate) enum Series {
 }
 
 #[tactic(auto, using(crate::proofs::SeriesLemmas::asked_more))]
-/// Commands in a row with one outcome more, if that is of the command entered next.
+/// Returns a run of commands extended by one outcome, if that is of the command entered next.
 fn one_more(first: u32, more: u32, kept: KeptOutcome) -> Option<Series>
     ensures { IfSome result (λ longer. outcomes_of longer ≡ outcomes_of (Asked first more) ++ kept ∷ []) }
 {
@@ -36,7 +36,7 @@ fn one_more(first: u32, more: u32, kept: KeptOutcome) -> Option<Series>
 }
 
 impl Series {
-    /// A series of one outcome.
+    /// Returns a series of one outcome.
     pub(crate) fn of(kept: KeptOutcome) -> Self
         requires { IsShort kept }
         ensures { outcomes_of result ≡ kept ∷ [] }
@@ -61,7 +61,7 @@ impl Series {
     }
 
     #[tactic(auto, using(crate::proofs::SeriesLemmas::asked_len))]
-    /// How many outcomes it is short for.
+    /// Returns the number of outcomes that it stands for.
     pub(crate) fn len(&self) -> usize
         ensures len { result ≡ length (outcomes_of self.now) }
         ensures some { 1 ≤ result }
@@ -73,14 +73,14 @@ impl Series {
     }
 
     #[tactic(auto, using(crate::proofs::SeriesLemmas::asked_len, crate::proofs::SeriesLemmas::asked_at))]
-    /// The outcome at a place of it, counted from 0.
+    /// Returns its outcome at an index, counted from 0.
     pub(crate) fn at(&self, place: usize) -> KeptOutcome
         requires { place < length (outcomes_of self.now) }
         ensures { slice_get (outcomes_of self.now) place ≡ Some result }
     {
         match self {
             Series::Asked { first, more } => {
-                // Shows the prover: so many follow as 32 bits can say.
+                // Shows the prover: the number that follow fits in 32 bits.
                 let _more = *more;
                 KeptOutcome::Asked(u64::from(*first) + place as u64)
             }
@@ -98,7 +98,7 @@ impl Series {
         }
     }
 
-    /// The series with one outcome more, if that is of the command entered next.
+    /// Returns the series extended by one outcome, if that is of the command entered next.
     pub(crate) fn extended(&self, kept: KeptOutcome) -> Option<Self>
         ensures { IfSome result (λ longer. outcomes_of longer ≡ outcomes_of self.now ++ kept ∷ []) }
     {

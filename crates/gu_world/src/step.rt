@@ -6,12 +6,12 @@ use crate::worker::Worker;
 use gu_terms::{Command, Group};
 use std::alloc::AllocError;
 
-/// What a firm, the house or a worker does at one moment.
+/// A step of a firm, the house or a worker.
 #[derive(Debug, Drop)]
 pub enum Step {
     /// A command is entered.
     Enter(Command),
-    /// A worker looks at a group: its view, as the book is then.
+    /// A worker looks at a group, and sees its view as the book is then.
     See(Worker, Group),
     /// A worker proposes a sweep of the view that it saw.
     Propose(Worker),
@@ -20,7 +20,7 @@ pub enum Step {
 }
 
 impl Step {
-    /// A copy.
+    /// Returns a copy.
     pub fn copy(&self) -> Result<Step, AllocError>
         ensures { IfOk result (λ step. step ≡ self.now) }
     {

@@ -14,7 +14,7 @@ use gu_book::{AskError, Book, CommitError, EnterError};
 use gu_terms::{Command, Entry, Group, Receipt};
 use std::alloc::{AllocError, Global};
 
-/// Enters a command.
+/// Enters a command, and returns the outcome.
 pub fn enter(book: &mut Book, command: Command) -> Result<Outcome, AllocError>
     ensures may { MayBeAsked command }
     ensures entered { IfOk result (λ outcome. (looks : List (Option Look))
@@ -31,7 +31,7 @@ pub fn enter(book: &mut Book, command: Command) -> Result<Outcome, AllocError>
     }
 }
 
-/// Enters a command, and tells its answer; nothing where the book is full.
+/// Enters a command, and returns its answer, or None if the book is full.
 pub fn ask(book: &mut Book, command: &Command) -> Result<Option<Answered>, AllocError>
     ensures may { MayBeAsked command.now }
     ensures asked { IfOk result (λ answered. (looks : List (Option Look))
@@ -39,7 +39,7 @@ pub fn ask(book: &mut Book, command: &Command) -> Result<Option<Answered>, Alloc
     ensures grows { Grows book.old book.new }
     ensures refused { OnErr result (book.new ≡ book.old) }
 {
-    // Shows the prover: what the type of a give-up's lines keeps.
+    // Shows the prover: the invariant of a give-up's lines.
     command.rules();
     match book.reply_to(command) {
         Ok(reply) => {
@@ -51,7 +51,7 @@ pub fn ask(book: &mut Book, command: &Command) -> Result<Option<Answered>, Alloc
     }
 }
 
-/// Has a worker look at a group.
+/// Lets a worker look at a group.
 pub fn see(
     book: &Book,
     looks: &mut Looks,

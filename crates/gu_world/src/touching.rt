@@ -10,7 +10,7 @@ ghost use Rattle.gu_world.specs.Blame.{own_of};
 use gu_terms::{Command, Done, Entry, Group, OfferNo, Reply};
 use std::alloc::AllocError;
 
-/// Whether an offer is of the group; of those before, in the order of their numbers, this is known.
+/// Returns whether an offer is in the group, given this for each offer so far, by number.
 fn is_own(own: &[bool], offer: OfferNo, group: &Group) -> bool
     ensures { (before : List EntryOf) → own.now ≡ own_of before group.now → result ≡ is_of_group before group.now offer }
 {
@@ -21,7 +21,7 @@ fn is_own(own: &[bool], offer: OfferNo, group: &Group) -> bool
     }
 }
 
-/// Whether an accepted command touches the group.
+/// Returns whether an accepted command touches the group.
 fn is_touched_by(own: &[bool], group: &Group, command: &Command, done: Done) -> bool
     ensures { (before : List EntryOf) → own.now ≡ own_of before group.now → result ≡ touches before group.now (Asked command.now (Accepted done)) }
 {
@@ -36,7 +36,7 @@ fn is_touched_by(own: &[bool], group: &Group, command: &Command, done: Done) -> 
     }
 }
 
-/// Whether an entry touches the group.
+/// Returns whether an entry touches the group.
 pub fn is_touching(own: &[bool], group: &Group, entry: &Entry) -> bool
     ensures { (before : List EntryOf) → own.now ≡ own_of before group.now → result ≡ touches before group.now entry.now }
 {

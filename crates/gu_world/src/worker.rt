@@ -4,7 +4,7 @@ ghost use Rattle.std.specs.Prelude.{◌≡◌, ◌<◌, ◌↔◌, IsSome, IfSom
 
 use std::marker::Model;
 
-/// How many workers there are.
+/// The number of workers.
 pub const WORKERS: u8 = 64;
 
 /// A worker: 0 to 63. To a contract it is the number.
@@ -26,7 +26,7 @@ impl Model for Worker {
 }
 
 impl Worker {
-    /// The worker of this number.
+    /// Returns the worker with this number.
     pub fn new(number: u8) -> Option<Self>
         ensures sound { IsSome result ↔ (number < 64) }
         ensures same { IfSome result (λ worker. worker ≡ number) }
@@ -38,7 +38,7 @@ impl Worker {
         }
     }
 
-    /// The worker of a number that is known to be below 64.
+    /// Returns the worker with a number that is known to be below 64.
     pub fn known(number: u8) -> Self
         requires { number < 64 }
         ensures { result ≡ number }
@@ -46,7 +46,7 @@ impl Worker {
         Worker { number }
     }
 
-    /// The number.
+    /// Returns the number.
     pub fn get(self) -> u8
         ensures number { result ≡ self }
         ensures within { self < 64 }

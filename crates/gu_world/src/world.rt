@@ -1,4 +1,4 @@
-//! The world: a book, its workers, and what came of each step.
+//! The world: a book, its workers, and the outcome of each step.
 
 ghost use Rattle.std.specs.Prelude.{◌≡◌, false, IfOk, OnOk, OnErr, Some};
 ghost use Rattle.std.specs.Option.{option_copied, option_map};
@@ -49,8 +49,7 @@ fn take(
     }
 }
 
-/// A book, its workers, and what came of each step.
-/// To a contract it is a state, and the outcomes.
+/// A book, its workers, and the outcome of each step. To a contract it is a state and the outcomes.
 pub struct World {
     book: Book,
     looks: Looks,
@@ -72,7 +71,7 @@ impl Model for World {
     ghost invariant = { λ w. IsKeptCourse w.book w.looks w.outcomes.items };
 }
 
-// By hand, so that who holds a world lets it go by one call.
+// By hand, so that a world's owner drops it with one call.
 impl Drop for World {
     fn drop(self) {
         let World {
@@ -88,15 +87,15 @@ impl Drop for World {
 }
 
 impl World {
-    /// A book without entries, whose workers haven't looked, for runs that serve no peers: its tables have a fixed seed.
+    /// Returns a world with an empty book and workers that haven't looked, for runs that serve no peers: its tables have a fixed seed.
     pub fn new(alloc: Global, reference: Reference) -> Self
         ensures { result ≡ beginning reference }
     {
         World::seeded(alloc, reference, Seed::new(0))
     }
 
-    /// A book without entries, whose tables of ids that firms choose have this seed, and whose workers haven't looked. No step's
-    /// outcome depends on the seed.
+    /// Returns a world with an empty book, whose tables of firm-chosen ids use `seed`, and workers that haven't looked. The seed affects no
+    /// outcome.
     pub fn seeded(alloc: Global, reference: Reference, seed: Seed) -> Self
         ensures { result ≡ beginning reference }
     {
@@ -108,7 +107,7 @@ impl World {
         }
     }
 
-    /// Takes one step, adds its outcome, and tells it.
+    /// Takes one step, adds its outcome and returns it.
     pub fn take(&mut self, step: Step) -> Result<Outcome, AllocError>
         ensures taken { IfOk result (λ outcome. (goes : GoesOn self.old step self.new) × (goes.outcome ≡ outcome)) }
         ensures refused { OnErr result (self.new ≡ self.old) }
@@ -121,7 +120,7 @@ impl World {
         Ok(outcome)
     }
 
-    /// Enters a command, adds its outcome, and tells the command's answer; nothing where the book is full.
+    /// Enters a command, adds its outcome and returns the command's answer, or None if the book is full.
     pub fn enter(&mut self, command: &Command) -> Result<Option<Answered>, AllocError>
         ensures taken { IfOk result (λ answered. (goes : GoesOn self.old (Enter command.now) self.new)
             × (goes.outcome ≡ outcome_of command.now answered)) }
@@ -135,11 +134,11 @@ impl World {
         Ok(answered)
     }
 
-    /// Has a worker commit, adds the outcome, and reports it with the view of the worker's proposal.
+    /// Commits a worker's proposal, adds the outcome, and returns it with the proposal's view.
     pub fn commit(&mut self, worker: Worker) -> Result<(Outcome, Option<View>), AllocError>
         ensures taken { IfOk result (λ r. (goes : GoesOn self.old (Commit worker) self.new) × (goes.outcome ≡ r.0)) }
 
-        // Where no entry touched the group of the look that has the proposal, the view is the group's.
+        // If no entry touched the group of the worker's look, the proposal's view is the group's.
         ensures view { IfOk result (λ r. ShowsProposed self.old.state worker r.1) }
         ensures refused { OnErr result (self.new ≡ self.old) }
     {
@@ -147,7 +146,7 @@ impl World {
         let _entries = self.book.history().len();
         self.outcomes.reserve()?;
         let (outcome, view) = commit_for(&mut self.book, &mut self.looks, worker)?;
-        // Shows the prover: so is the history after the commit.
+        // Shows the prover: the history after the commit is legal too.
         let _more = self.book.history().len();
         self.outcomes.push(KeptOutcome::of(&outcome));
         Ok((outcome, view))
@@ -163,14 +162,14 @@ impl World {
         Ok(())
     }
 
-    /// The book.
+    /// Returns the book.
     pub fn book(&self) -> &Book
         ensures { result.now ≡ self.now.state.book }
     {
         &self.book
     }
 
-    /// The group of a worker's look, and how many entries the book had then.
+    /// Returns the group of a worker's look, and the number of entries that the book had then.
     pub(crate) fn seen(&self, worker: Worker) -> Option<(Group, u64)>
         ensures { result ≡ option_map (λ (look : Look). (look.group, look.seen)) (look_of self.now.state worker) }
     {
@@ -180,7 +179,7 @@ impl World {
         }
     }
 
-    /// The view that a worker saw, while it has a look.
+    /// Returns the view that a worker saw, as long as it has a look.
     pub fn look(&self, worker: Worker) -> Option<&View>
         ensures seen { option_copied result ≡ option_map (view_seen self.now.state) (look_of self.now.state worker) }
 
@@ -196,7 +195,7 @@ impl World {
         }
     }
 
-    /// The outcome of each step, in order.
+    /// Returns the outcomes of the steps, in order.
     pub fn outcomes(&self) -> Outcomes<'_>
         ensures outcomes { result ≡ self.now.outcomes }
         ensures reached { IsReached self.now }
@@ -204,7 +203,7 @@ impl World {
         Outcomes::new(&self.outcomes, self.book.history())
     }
 
-    /// The book, for who keeps it.
+    /// Returns the book, and drops the rest.
     pub fn into_book(self) -> Book
         ensures { result ≡ self.state.book }
     {

@@ -1,4 +1,4 @@
-//! What is opened, and what is refused as damaged.
+//! Logs that are opened, and logs that are refused as damaged.
 use crate::days::STEP;
 use gu_journal::{Call, Device, DeviceError, Log, Memory, OpenError};
 use std::alloc::Global;
@@ -62,9 +62,9 @@ fn stained(alloc: Global, after: usize) -> Result<Vec<u8>, DeviceError> {
 #[test]
 fn more_than_a_batch_can_leave_is_damaged_and_stays(rt: HostRuntime) -> Result<(), Fail> {
     let alloc = rt.alloc();
-    let most = opened(alloc, &stained(alloc, 1 << 20)?);
-    assert!(rt; matches!(most, Ok((_, 1_048_576, _))));
-    let damaged = Memory::new(alloc, stained(alloc, (1 << 20) + 1)?)?;
+    let most = opened(alloc, &stained(alloc, 1 << 19)?);
+    assert!(rt; matches!(most, Ok((_, 524_288, _))));
+    let damaged = Memory::new(alloc, stained(alloc, (1 << 19) + 1)?)?;
     match Log::open(alloc, damaged, STEP) {
         Ok(_) => assert!(rt; false, "it was opened"),
         Err(stopped) => {

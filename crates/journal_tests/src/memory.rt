@@ -4,7 +4,7 @@ use crate::days::{BATCHES, joined, recorded};
 use gu_journal::SinkError;
 use std::alloc::Global;
 
-/// Returns whether the bytes of a day are its text, at the second try if the first gets no memory.
+/// Returns whether the bytes of a day are its text, retrying once if memory is refused.
 fn is_kept(alloc: Global) -> Result<bool, SinkError> {
     let day = match recorded(alloc, BATCHES) {
         Err(SinkError::Memory) => recorded(alloc, BATCHES)?,

@@ -1,4 +1,4 @@
-//! What a batch is, byte by byte. The digests are what sha256sum prints of the digest before, and of what is shown of the entries of a
+//! A batch, byte by byte. The digests are those that sha256sum prints for the digest before it and the lines of the entries of a
 //! batch: `1 OK` and so on, and for the sweep `10 SWEPT G1 7` and its lines.
 
 ghost use Rattle.std.specs.Prelude.{◌≡◌, []};

@@ -60,7 +60,8 @@ fn begins(alloc: Global, first: &History, all: &History) -> bool {
     true
 }
 
-/// What a crash may find: the whole text of the day, how many entries its first bytes play (for each length, once it is known), and the book.
+/// What a crash may find: the whole text of the day, how many entries its first bytes play (for each length, once it is known), and the
+/// book.
 #[derive(Drop)]
 struct Walk<'a> {
     alloc: Global,
@@ -100,7 +101,7 @@ impl Walk<'_> {
         entries
     }
 
-    /// Tries each tear of a call, after which at least so many entries and at most so many more are found.
+    /// Tries each tear of a call, after which at least this many entries and at most this many more are found.
     fn tries(&mut self, olds: &[u8], call: &Call, least: usize, most: usize) -> Option<()> {
         for tear in 0..tears(call, olds.len()) {
             let image = torn(self.alloc, olds, call, tear).ok()?;

@@ -76,7 +76,7 @@ pub fn lines_of_day(alloc: Global) -> Result<String, AllocError> {
     Ok(lines)
 }
 
-/// Returns a log on an empty device in memory, at the second try if memory is refused to the first.
+/// Returns a log on an empty device in memory, retrying once if memory is refused.
 pub fn empty_log(alloc: Global) -> Option<Log<Memory>> {
     for _ in 0..2 {
         if let Ok(device) = Memory::new(alloc, Vec::new(alloc)) {
@@ -124,7 +124,7 @@ pub fn keep_all<E: EntryLedger, S: LotLedger, K: Sink, R: Wait>(
     Ok(keeper)
 }
 
-/// What is kept of a day: a keeper, and how many entries were kept after each batch.
+/// The kept part of a day: a keeper, and how many entries were kept after each batch.
 #[derive(Drop)]
 pub struct Kept<E: EntryLedger> {
     pub keeper: Keeper<E, Log<Memory>>,

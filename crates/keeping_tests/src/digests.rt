@@ -4,8 +4,8 @@ use crate::sample::played;
 use gu_keeping::{DigestFault, check_digests};
 use std::alloc::{AllocError, Global};
 
-/// A text with two digests: of the first two entries, and of that digest and the next three. The second comes again where nothing came
-/// since.
+/// A text with two digests: one of the first two entries, and one of that digest and the next three entries. The second comes again if
+/// nothing came since.
 const TEXT: &str = "\
 # giveup 1.0
 # reference: SHA-256 8d980c84f4024befc1ee160a646dd0e064a6db8924d8cc96ee9d94567e2feb43
@@ -20,7 +20,7 @@ LIMIT G1 CARRY C1 100
 REPORT E1 R1 M1 B XF6 10 101.5 H1
 ";
 
-/// What stands in the place of which part of the text, and what is then said of it.
+/// A part of the text, its replacement, and the verdict on the text then.
 const ROWS: &[(&str, &str, &str)] = &[
     ("", "", "6 entries"),
     ("# 2 d48901f8", "# 2 d48901f9", "Differs 2"),
@@ -70,7 +70,7 @@ const ROWS: &[(&str, &str, &str)] = &[
     ),
 ];
 
-/// Returns what is said of a text.
+/// Returns the verdict on a text.
 fn told(alloc: Global, text: &str) -> Result<String, AllocError> {
     let Some(book) = played(alloc, text.as_bytes()) else {
         return format!(in alloc; "bad line");

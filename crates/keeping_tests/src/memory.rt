@@ -33,7 +33,7 @@ LIMIT G1 EXEC E1 100
 # 2 d48901f842f4370289eedf797b95baa669d03dc847c5937ed69861c0a653369c
 ";
 
-/// Returns the command of a line, at the second try if memory is refused to the first.
+/// Returns the command of a line, retrying once if memory is refused.
 fn command_again(alloc: Global, line: &str) -> Option<Command> {
     match command_of(alloc, line) {
         Some(command) => Some(command),
@@ -41,7 +41,7 @@ fn command_again(alloc: Global, line: &str) -> Option<Command> {
     }
 }
 
-/// Enters a line from a seat, at the second try if memory is refused to the first.
+/// Enters a line from a seat, retrying once if memory is refused.
 fn entered<E: EntryLedger, S: LotLedger, R: Wait>(
     rt: &R,
     alloc: Global,
@@ -58,7 +58,7 @@ fn entered<E: EntryLedger, S: LotLedger, R: Wait>(
     }
 }
 
-/// Returns the origins of two entries, at the second try if memory is refused to the first.
+/// Returns the origins of two entries, retrying once if memory is refused.
 fn two_origins(alloc: Global) -> Option<Vec<Origin>> {
     match origins(alloc, 1, 2) {
         Ok(origins) => Some(origins),
@@ -66,7 +66,7 @@ fn two_origins(alloc: Global) -> Option<Vec<Origin>> {
     }
 }
 
-/// Keeps two entries, at the second try if memory is refused to the first, which keeps nothing.
+/// Keeps two entries, retrying once if memory is refused, which keeps nothing.
 fn kept_again<E: EntryLedger, S: LotLedger, R: Wait + Abort>(
     rt: &R,
     alloc: Global,
@@ -137,7 +137,7 @@ fn open_and_keep<E: EntryLedger, S: LotLedger, R: Wait + Abort>(
     }
 }
 
-/// Returns a book without entries, at the second try if memory is refused to the first.
+/// Returns a book without entries, retrying once if memory is refused.
 fn book_again(alloc: Global) -> Option<Book>
     ensures { IfSome result (λ book. book.history ≡ []) }
 {
@@ -147,7 +147,7 @@ fn book_again(alloc: Global) -> Option<Book>
     }
 }
 
-/// Returns the history of a book, at the second try if memory is refused to the first.
+/// Returns the history of a book, retrying once if memory is refused.
 fn annals_again(alloc: Global, book: &Book) -> Option<BlankAnnals>
     ensures { IfSome result (λ annals. annals.entries ≡ book.now.history) }
 {

@@ -30,7 +30,7 @@ LIMIT G1 AGR P1 100
 # 20260105-09:00:00.004 E1 3 4
 LIMIT G1 ACCT A1 10\0\0\0\0\0\0";
 
-/// What is kept after two lines more.
+/// The journal after two more lines.
 const TEXT: &str = "\
 # giveup 1.0
 DAY 20260105

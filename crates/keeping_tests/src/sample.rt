@@ -1,4 +1,4 @@
-//! The sample reference, and what is said to its book.
+//! The sample reference, and the lines for its book.
 
 ghost use Rattle.std.specs.Prelude.{◌≡◌, [], IfSome};
 
@@ -110,7 +110,7 @@ pub fn command_of(alloc: Global, line: &str) -> Option<Command> {
     })
 }
 
-/// Returns the origin of the entry of a number: of three entries two are messages of E1.
+/// Returns the origin of the entry with a number: two of three entries are messages of E1.
 fn origin_of(number: u64) -> Option<Origin> {
     let moment = Moment::new(1_767_603_600_000_u64.saturating_add(number))?;
     let message = FirmMessage {

@@ -61,7 +61,7 @@ fn tear_write(left: &mut Vec<u8>, at: usize, bytes: &[u8], tear: usize) {
     }
 }
 
-/// Returns what is left of bytes in one of the tears of a call.
+/// Returns the bytes that one of a call's tears leaves.
 pub fn torn(alloc: Global, olds: &[u8], call: &Call, tear: usize) -> Result<Vec<u8>, AllocError> {
     let mut left = Vec::from_slice(alloc, olds)?;
     match call {

@@ -44,12 +44,12 @@ const SWEEP_FAULTS: &[(SweepFault, &str)] = &[
     (SweepFault::Clock, "clock"),
 ];
 
-/// The firm E1.
+/// Returns the firm E1.
 fn e1(rt: &impl Abort) -> FirmId {
     FirmId::new(b"E1").expect(rt, "a firm")
 }
 
-/// The group G1.
+/// Returns the group G1.
 fn g1(rt: &impl Abort) -> Group {
     Group::new(b"G1").expect(rt, "a group")
 }
@@ -108,7 +108,7 @@ fn a_firm_has_logged_on(rt: HostRuntime) {
     );
 }
 
-/// Asserts the line of a Logon that was refused, where the firm is known.
+/// Asserts the line of a Logon that was refused, if the firm is known.
 fn check_logon<'x>(
     rt: &(impl Abort + AllocGlobal),
     fault: LogonFault,

@@ -20,7 +20,7 @@ pub struct Row {
     pub fields: Vec<Field>,
 }
 
-/// Where a reading is.
+/// The position of a reader within a line.
 #[derive(Clone, Copy, PartialEq, Eq)]
 enum At {
     Moment,
@@ -54,7 +54,7 @@ struct Reading {
     at: At,
 }
 
-/// The number that a digit of the base 16 writes.
+/// Returns the number that a digit of the base 16 writes.
 fn hex_value(digit: u8) -> Option<u8> {
     match digit {
         b'0'..=b'9' => Some(digit - b'0'),
@@ -64,7 +64,7 @@ fn hex_value(digit: u8) -> Option<u8> {
 }
 
 impl Reading {
-    /// A reading that begins.
+    /// Creates a reader at the beginning of a line.
     fn new(alloc: Global) -> Self {
         let row = Row {
             moment: Vec::new(alloc),
@@ -93,7 +93,7 @@ impl Reading {
         Ok(())
     }
 
-    /// A byte of the moment or of the name.
+    /// Takes a byte of the moment or of the name, and returns whether it may be there.
     fn take_word(&mut self, byte: u8) -> Result<bool, AllocError> {
         let is_moment = self.at == At::Moment;
         match byte {
@@ -106,7 +106,7 @@ impl Reading {
         Ok(true)
     }
 
-    /// A byte of a key.
+    /// Takes a byte of a key, and returns whether it may be there.
     fn take_key(&mut self, byte: u8) -> Result<bool, AllocError> {
         match byte {
             b'=' => self.at = At::Value,
@@ -116,7 +116,7 @@ impl Reading {
         Ok(true)
     }
 
-    /// A byte of a value without quotes, or the first of a value.
+    /// Takes a byte of a value without quotes, or the first byte of a value, and returns whether it may be there.
     fn take_plain(&mut self, byte: u8) -> Result<bool, AllocError> {
         let is_first = self.at == At::Value;
         match byte {
@@ -131,7 +131,7 @@ impl Reading {
         Ok(true)
     }
 
-    /// The byte after a value.
+    /// Takes the byte after a value, and returns whether it may be there.
     fn take_end(&mut self, byte: u8) -> Result<bool, AllocError> {
         match byte {
             b' ' => self.at = At::Key,
@@ -142,7 +142,7 @@ impl Reading {
         Ok(true)
     }
 
-    /// A byte between quotes.
+    /// Takes a byte between quotes, and returns whether it may be there.
     fn take_quoted(&mut self, byte: u8) -> Result<bool, AllocError> {
         match byte {
             b'"' => self.at = At::Closed,
@@ -153,7 +153,7 @@ impl Reading {
         Ok(true)
     }
 
-    /// A byte after `\`.
+    /// Takes a byte after `\`, and returns whether it may be there.
     fn take_escape(&mut self, byte: u8) -> Result<bool, AllocError> {
         match byte {
             b'"' | b'\\' => {
@@ -166,7 +166,7 @@ impl Reading {
         Ok(true)
     }
 
-    /// A digit after `\x`, after this one if there was one.
+    /// Takes a digit after `\x`, which follows this one if there was one, and returns whether it may be there.
     fn take_digit(&mut self, high: Option<u8>, byte: u8) -> Result<bool, AllocError> {
         let Some(digit) = hex_value(byte) else {
             return Ok(false);
@@ -181,7 +181,7 @@ impl Reading {
         Ok(true)
     }
 
-    /// Takes a byte. Returns whether a line may have it there.
+    /// Takes a byte, and returns whether a line may have it there.
     fn take(&mut self, byte: u8) -> Result<bool, AllocError> {
         match self.at {
             At::Moment | At::Name => self.take_word(byte),
@@ -197,7 +197,7 @@ impl Reading {
     }
 }
 
-/// Reads a line with its LF. None where it is none.
+/// Reads a line with its LF. None if it is none.
 pub fn read(alloc: Global, line: &[u8]) -> Result<Option<Row>, AllocError> {
     let mut reading = Reading::new(alloc);
     for byte in line {
@@ -229,7 +229,7 @@ impl HasLine for Beginning<'_> {
     }
 }
 
-/// The line of what happened, two seconds and a millisecond after nine.
+/// Returns the line of what happened, two seconds and a millisecond after nine.
 pub fn line_of<H: HasLine>(alloc: Global, happened: &H) -> Result<Vec<u8>, AllocError> {
     let mut line = Vec::new(alloc);
     let moment = Moment::new(1_767_603_602_001);

@@ -23,7 +23,7 @@ pub struct Machine<'a, R> {
 }
 
 impl<'a, R> Machine<'a, R> {
-    /// A machine, two milliseconds and a second after nine on 2026-01-05.
+    /// Returns a machine, two milliseconds and a second after nine on 2026-01-05.
     pub fn new(rt: &'a R) -> Self {
         Machine {
             rt,
@@ -35,12 +35,12 @@ impl<'a, R> Machine<'a, R> {
         }
     }
 
-    /// How many milliseconds were slept.
+    /// Returns how many milliseconds were slept.
     pub fn slept(&self) -> u64 {
         self.slept.load(Ordering::SeqCst)
     }
 
-    /// The runtime under it.
+    /// Returns the runtime under it.
     pub fn under(&self) -> &'a R {
         self.rt
     }

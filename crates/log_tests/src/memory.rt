@@ -39,7 +39,7 @@ fn a_line_that_is_refused_memory_leaves_what_was_there(rt: HostRuntime) {
     }
 }
 
-/// What a log of five notes writes, where there is memory for it.
+/// Returns what a log of five notes writes, if there is memory for it.
 fn written<R: Wait>(rt: &R, alloc: Global) -> Result<Output, AllocError> {
     let machine = Machine::new(rt);
     let (log, mut reader) = EventLog::new(alloc)?;
@@ -51,7 +51,7 @@ fn written<R: Wait>(rt: &R, alloc: Global) -> Result<Output, AllocError> {
     Ok(output)
 }
 
-/// How many lines there are, and how many are said to be lost.
+/// Returns how many lines there are, and how many are reported lost.
 fn counted(rt: &impl Abort, alloc: Global, text: &[u8]) -> Result<(u64, u64), AllocError> {
     let (mut lines, mut lost) = (0_u64, 0_u64);
     for line in text.split_inclusive(|byte| *byte == b'\n') {

@@ -9,13 +9,13 @@ use std::io::{Error, ErrorKind, Write};
 /// How a writer answers when it is asked.
 #[derive(Clone, Copy)]
 pub enum Mood {
-    /// It takes so many bytes at most.
+    /// It takes this many bytes at most.
     Takes(usize),
     /// It fails so.
     Fails(ErrorKind),
 }
 
-/// A writer that answers in this way for so many writes, and takes all after them.
+/// A writer that answers in this way for this many writes, and takes all after them.
 #[derive(Drop)]
 pub struct Output {
     pub text: Vec<u8>,
@@ -28,7 +28,7 @@ pub struct Output {
 }
 
 impl Output {
-    /// A writer that has taken nothing yet.
+    /// Returns a writer that has taken nothing yet.
     pub fn new(alloc: Global, mood: Mood, lasts: u64) -> Self {
         Output {
             text: Vec::new(alloc),

@@ -13,7 +13,7 @@ use std::sync::Wait;
 use std::thread::Threads;
 use std::{io, thread};
 
-/// A writer that is full for so many writes of a day that goes on, in each of which something more is noted; after them it takes all, and
+/// A writer that is full for this many writes of a day that goes on, in each of which something more is noted; after them it takes all, and
 /// the day ends.
 #[derive(Drop)]
 struct Crowded<'m, 'v, R> {
@@ -86,7 +86,7 @@ fn written_beside<R: Threads + Wait + Clock + Sync>(
     Some(writer.text)
 }
 
-/// How often each number from 1 to 400 was noted, or None where a line is none.
+/// Returns how often each number from 1 to 400 was noted, or None if a line isn't one of the log.
 fn counts(rt: &impl Abort, alloc: Global, text: &[u8]) -> Vec<u32> {
     let mut counts = vec![in alloc; 0_u32; 401].expect(rt, "memory");
     for line in text.split_inclusive(|byte| *byte == b'\n') {

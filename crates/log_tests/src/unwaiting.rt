@@ -33,7 +33,7 @@ fn fill<W: Write>(rt: &impl Abort, alloc: Global, writer: &mut W) -> Result<u64,
     Ok(bytes)
 }
 
-/// Reads so many bytes.
+/// Reads this many bytes.
 fn empty<R: Read>(alloc: Global, reader: &mut R, bytes: usize) -> Result<(), Fail> {
     let mut piece = vec![in alloc; 0_u8; bytes]?;
     reader.read_exact(&mut piece)?;

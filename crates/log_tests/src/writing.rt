@@ -1,4 +1,4 @@
-//! The log's thread: what it writes, and what becomes of lines where a writer takes nothing or fails.
+//! The log's thread: what it writes, and what becomes of lines if a writer takes nothing or fails.
 
 use crate::machine::Machine;
 use crate::outputs::{Mood, Output};
@@ -16,7 +16,7 @@ const THREE: &str = "\
 20260105-09:00:02.001 journal.lost kept=3
 ";
 
-/// A log, and where its notes are taken.
+/// Returns a log, and the reader of its notes.
 pub fn opened(rt: &impl Abort, alloc: Global) -> (EventLog, LogReader) {
     EventLog::new(alloc).expect(rt, "memory")
 }

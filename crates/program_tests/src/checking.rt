@@ -1,5 +1,5 @@
-//! Sheets and what a check of them answers. The first line of a case is its name; then come the sheet and, after ` -> `, what the check tells. An
-//! empty line comes between two cases, and other ends of lines mean nothing.
+//! Sheets and what a check of them answers. The first line of a case is its name; then come the sheet and, after ` -> `, what the check
+//! reports. An empty line comes between two cases, and other ends of lines mean nothing.
 
 use crate::engines::Engine;
 use crate::rows::{check_told, told_of_text};
@@ -103,13 +103,13 @@ SHEET G1 6/OFFER 1 5 P1 E1 A1 C1/TAKE 1 x/END/ -> bad line 3:
 a line that isn't silent after an end whose view is none
 SHEET G1 6/OFFER 1 5 P1 E1 A1 C1/END/END/ -> bad line 3: ";
 
-/// What the check tells of a sheet that begins with this view.
+/// Returns the check's verdict on a sheet that begins with this view.
 fn told(alloc: Global, view: &str, sheet: &str) -> Result<String, AllocError> {
     let text = joined(alloc, &[view, sheet])?;
     told_of_text(alloc, Engine::Check, &text.replace(alloc, "\n", "")?, AMPLE)
 }
 
-/// Asserts that the check tells of each case, after this view, what the case says.
+/// Asserts that the check's verdict on each case, after this view, is the one that the case says.
 fn check(rt: &impl Abort, alloc: Global, view: &str, table: &str) {
     for case in table.split("\n\n") {
         let (name, rest) = case.split_once('\n').unwrap_or((case, ""));

@@ -36,7 +36,7 @@ pub struct Disk {
     names: Vec<(String, usize)>,
 }
 
-/// Returns the kind of a file that is made with this name, or nothing where none can be made.
+/// Returns the kind of a file that is made with this name, or nothing if none can be made.
 fn kind_of(name: &str) -> Option<Kind> {
     match name {
         "log.new" => Some(Kind::Sound),
@@ -77,7 +77,7 @@ impl Disk {
         }
     }
 
-    /// Returns the number of the file that has a name, which is made where there is none.
+    /// Returns the number of the file that has a name, which is made if there is none.
     pub fn find_or_make(&mut self, name: &str) -> io::Result<usize> {
         if let Some(number) = self.find(name) {
             return Ok(number);

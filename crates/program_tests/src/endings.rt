@@ -16,7 +16,7 @@ use std::fs::File;
 use std::sync::{Mutex, Wait};
 use trials::shown;
 
-/// What becomes of the journal of a day.
+/// The fate of a day's journal.
 #[derive(Clone, Copy)]
 enum Fate {
     /// The day has none.
@@ -86,7 +86,7 @@ fn end_on<R: Wait>(machine: &Machine<'_, R>, fate: Fate) -> Option<u32> {
     }
 }
 
-/// Returns what is told of such a day, whose journal has this fate.
+/// Returns the outcome of such a day, whose journal has this fate.
 fn told<R: Wait>(host: &R, alloc: Global, fate: Fate) -> Result<String, AllocError> {
     let mut files = Disk::new(alloc);
     files.add("log", Kind::Sound, b"")?;

@@ -1,4 +1,4 @@
-//! Engines that run over streams. What a run tells is how it ended, `: `, and what it wrote, where `|` is SOH, and `/` ends a line.
+//! Engines that run over streams. A run is reported as how it ended, `: `, and what it wrote; `|` is SOH, and `/` ends a line.
 
 use gu_capture::capture;
 use gu_program::{RunError, check, replay, sample_day, sample_reference};
@@ -19,7 +19,7 @@ pub enum Engine {
     Replay,
 }
 
-/// How a run of an engine ends.
+/// Returns how a run of an engine ends.
 fn ended(
     alloc: Global,
     engine: Engine,
@@ -46,7 +46,7 @@ fn ended(
     }
 }
 
-/// How a run ends, in words.
+/// Returns how a run ends, in words.
 pub fn end_text(alloc: Global, end: Result<Status, RunError>) -> Result<String, AllocError> {
     match end {
         Ok(Status::Done) => String::from_str(alloc, "done"),
@@ -56,7 +56,7 @@ pub fn end_text(alloc: Global, end: Result<Status, RunError>) -> Result<String, 
     }
 }
 
-/// What a run tells that ended so and wrote this.
+/// Returns the report of a run that ended in this way and wrote this.
 fn told_of(
     alloc: Global,
     end: Result<Status, RunError>,
@@ -67,7 +67,7 @@ fn told_of(
     joined(alloc, &[end.as_str(), ": ", written.as_str()])
 }
 
-/// What a run on an input tells.
+/// Returns the report of a run on an input.
 pub fn told(
     alloc: Global,
     engine: Engine,

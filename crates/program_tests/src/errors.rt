@@ -1,7 +1,7 @@
-//! What is said on standard error.
+//! Messages on standard error.
 
 use crate::rows::check_told;
-use gu_program::{DoorsFault, RunError, SecretsError};
+use gu_program::{DoorsFault, JournalFault, RunError, SecretsError};
 use gu_ref::RefFault;
 use gu_script::ScriptError;
 use gu_secrets::SecretsFault;
@@ -9,7 +9,7 @@ use gu_streams::StreamError;
 use std::alloc::Global;
 use std::process::Abort;
 
-/// Asserts that an error is said so.
+/// Asserts the message for an error.
 fn check<E>(rt: &impl Abort, alloc: Global, error: E, text: &str)
 where
     RunError: From<E>,
@@ -39,4 +39,10 @@ fn errors_are_said_in_these_words(rt: HostRuntime) {
     check(&rt, alloc, taken, "doors: InUse");
     let many = RunError::Doors(DoorsFault::TooFewFiles(75));
     check(&rt, alloc, many, "doors: TooFewFiles 75");
+    let fenced = RunError::Journal(JournalFault::Fenced);
+    check(&rt, alloc, fenced, "journal: Fenced");
+    let unreachable = RunError::Journal(JournalFault::Unreachable);
+    check(&rt, alloc, unreachable, "journal: Unreachable");
+    let unopened = RunError::Journal(JournalFault::Unopened);
+    check(&rt, alloc, unopened, "journal: Unopened");
 }

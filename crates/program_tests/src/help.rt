@@ -3,23 +3,23 @@
 use crate::rows::check_told;
 use crate::told_words::{Telling, check, told};
 
-/// What is said of a word that is no command.
+/// The message about a word that is no command.
 const NO_COMMAND: &str =
     "error: unrecognized subcommand 'claim'\n\nUsage: giveup [COMMAND]\n\nFor more information, try '--help'.\n";
 
-/// What is said of a word that is almost a command.
+/// The message about a word that is almost a command.
 const ALMOST: &str =
     "error: unrecognized subcommand 'sweep'\n\n  tip: some similar subcommands exist: 'secret', 'serve'\n\nUsage: giveup [COMMAND]\n\nFor more information, try '--help'.\n";
 
-/// What is said of a word that `check` doesn't take.
+/// The message about a word that `check` doesn't take.
 const UNEXPECTED: &str =
     "error: unexpected argument 'sheet' found\n\nUsage: giveup check\n\nFor more information, try '--help'.\n";
 
-/// What is said of a number that is no port.
+/// The message about a number that is no port.
 const NO_PORT: &str =
     "error: invalid value '0' for '<PORT>': 0 is not in 1..=65535\n\nFor more information, try '--help'.\n";
 
-/// What is said of more connections than there may be.
+/// The message about more connections than there may be.
 const MANY_CONNECTIONS: &str =
     "error: invalid value '33' for '--connections <N>': 33 is not in 1..=32\n\nFor more information, try '--help'.\n";
 
@@ -29,7 +29,7 @@ const HELP_TEXT: &str =
 
 /// What help says of a server.
 const SERVE_TEXT: &str =
-    "Serves firms at a port or at doors of this machine, with sweepers beside them: prints ENTRIES, SWEPT and AUDIT at the end\n\nUsage: giveup serve [OPTIONS] <REF> <PORT>\n\nArguments:\n  <REF>   The path of the reference\n  <PORT>  The port on which it listens, 1 to 65535, or - for none\n\nOptions:\n      --script <FILE>    The path of a script that is run first, without output\n      --connections <N>  How many connections it accepts, 1 to 32 [default: 8]\n      --every <K>        Each connection sends every K-th of its accepted give-ups to the sweepers, 0 to 1000; 0 sends none [default: 16]\n      --journal <FILE>   The path of a new or empty file to which the day is written as it goes on, as a script that makes the same entries; an answer leaves once what it shows is on the disk\n      --resume           Goes on with the day in the file of --journal, if it has lines: they are played in the place of --script\n      --console <PATH>   The path of a socket that answers operators: lines of a script, STATUS, JOURNAL, CUT and CLOSE\n      --watch <PATH>     The path of a socket that answers those who only look: STATUS, JOURNAL, POSITION, INTEREST and LIMITS\n      --until-closed     Goes on until CLOSE at the console; N, 1 to 1024, is then how many connections there may be at once\n      --workers <W>      How many threads serve the connections with --until-closed, 1 to 60; as many as processors where none is given\n      --doors <FOLDER>   The path of a folder in which each firm of the reference has a socket of its own, at which that firm alone may log on\n      --secrets <FILE>   The path of a file of secrets: a firm then logs on only with a Password (554) that fits one of its rows\n      --log              Writes a line on standard error for each thing that happens: who connects, logs on and is refused, what is swept, and so on\n      --share <PERCENT>  The percentage that the sessions of one firm may make of the entries for which there is room when it begins, and of a group's open offers, 1 to 100 [default: 100]\n  -h, --help             Print help\n\nExample: giveup serve house.csv 9878 --script open.script --journal day.script\n";
+    "Serves firms at a port or at doors of this machine, with sweepers beside them: prints ENTRIES, SWEPT and AUDIT at the end\n\nUsage: giveup serve [OPTIONS] <REF> <PORT>\n\nArguments:\n  <REF>   The path of the reference\n  <PORT>  The port on which it listens, 1 to 65535, or - for none\n\nOptions:\n      --script <FILE>    The path of a script that is run first, without output\n      --connections <N>  How many connections it accepts, 1 to 32 [default: 8]\n      --every <K>        Each connection sends every K-th of its accepted give-ups to the sweepers, 0 to 1000; 0 sends none [default: 16]\n      --journal <FILE>   The path of a new or empty file to which the day is written as it goes on, as a script that makes the same entries; an answer leaves once what it shows is on the disk. Or etcd://HOST:PORT[,HOST:PORT..]/NAME: the log NAME of an etcd on this machine, which keeps it on several\n      --resume           Goes on with the day in the file or log of --journal, if it has lines: they are played in the place of --script\n      --console <PATH>   The path of a socket that answers operators: lines of a script, STATUS, JOURNAL, CUT and CLOSE\n      --watch <PATH>     The path of a socket that answers those who only look: STATUS, JOURNAL, POSITION, INTEREST and LIMITS\n      --until-closed     Goes on until CLOSE at the console; N, 1 to 1024, is then how many connections there may be at once\n      --workers <W>      How many threads serve the connections with --until-closed, 1 to 60; as many as processors where none is given\n      --doors <FOLDER>   The path of a folder in which each firm of the reference has a socket of its own, at which that firm alone may log on\n      --secrets <FILE>   The path of a file of secrets: a firm then logs on only with a Password (554) that fits one of its rows\n      --log              Writes a line on standard error for each thing that happens: who connects, logs on and is refused, what is swept, and so on\n      --share <PERCENT>  The percentage that the sessions of one firm may make of the entries for which there is room when it begins, and of a group's open offers, 1 to 100 [default: 100]\n  -h, --help             Print help\n\nExample: giveup serve house.csv 9878 --script open.script --journal day.script\n";
 
 /// What help says of a session.
 const FIX_TEXT: &str =
@@ -51,47 +51,47 @@ const TELL_TEXT: &str =
 const SECRET_TEXT: &str =
     "Draws a secret for a firm: prints its row for the file of secrets, and the secret, once, on standard error\n\nUsage: giveup secret <FIRM>\n\nArguments:\n  <FIRM>  The name of the firm\n\nOptions:\n  -h, --help  Print help\n\nExample: giveup secret E1 >> firms.secrets\n\nThe row alone goes to standard output, so that >> adds it to the file and the secret stays out of it.\nNothing keeps the secret: give it to the firm, which sends it as Password (554).\n";
 
-/// What is said of more connections than there may be at once.
+/// The message about more connections than there may be at once.
 const MANY_AT_ONCE: &str =
     "error: invalid value '1025' for '--connections <N>': 1025 is not in 1..=1024\n\nFor more information, try '--help'.\n";
 
-/// What is said of a server that nobody could close.
+/// The message about a server that nobody could close.
 const NO_CONSOLE: &str =
     "error: the following required arguments were not provided:\n  --console <PATH>\n\nUsage: giveup serve [OPTIONS] <REF> <PORT>\n\nFor more information, try '--help'.\n";
 
-/// What is said of workers of a server that isn't closed.
+/// The message about a number of workers for a server of a counted day.
 const NOT_UNTIL_CLOSED: &str =
     "error: the following required arguments were not provided:\n  --until-closed\n\nUsage: giveup serve [OPTIONS] <REF> <PORT>\n\nFor more information, try '--help'.\n";
 
-/// What is said of one path for two sockets.
+/// The message about one path for two sockets.
 const ONE_PATH: &str =
     "error: the arguments '--console <PATH>' and '--watch <PATH>' cannot have the same path\n\nUsage: giveup serve [OPTIONS] <REF> <PORT>\n\nFor more information, try '--help'.\n";
 
-/// What is said of many connections where a word that isn't the option has its text.
+/// The message for too many connections if another word has the option's text.
 const NOT_CLOSED: &str =
     "error: invalid value for '--connections <N>': without '--until-closed' it is 1 to 32\n\nUsage: giveup serve [OPTIONS] <REF> <PORT>\n\nFor more information, try '--help'.\n";
 
-/// What is said of a day that is to go on, and has no journal in which it is.
+/// The message about resuming a day without naming a journal.
 const NO_JOURNAL: &str =
     "error: the following required arguments were not provided:\n  --journal <FILE>\n\nUsage: giveup serve [OPTIONS] <REF> <PORT>\n\nFor more information, try '--help'.\n";
 
-/// What is said of a server that nobody could reach.
+/// The message about a server that nobody could reach.
 const NO_DOORS: &str =
     "error: the following required arguments were not provided:\n  --doors <FOLDER>\n\nUsage: giveup serve [OPTIONS] <REF> <PORT>\n\nFor more information, try '--help'.\n";
 
-/// What is said of a port that is open to all, beside doors.
+/// The message about a port that is open to all, beside doors.
 const NO_SECRETS: &str =
     "error: the following required arguments were not provided:\n  --secrets <FILE>\n\nUsage: giveup serve [OPTIONS] <REF> <PORT>\n\nFor more information, try '--help'.\n";
 
-/// What is said of a word that begins with `-` in the place of a port.
+/// The message about a word that begins with `-`, given as a port.
 const MINUS_ONE: &str =
     "error: invalid value '-1' for '<PORT>': invalid digit found in string\n\nFor more information, try '--help'.\n";
 
-/// What is said of nothing in the place of a port.
+/// The message about an empty word, given as a port.
 const EMPTY_PORT: &str =
     "error: invalid value '' for '<PORT>': cannot parse integer from empty string\n\nFor more information, try '--help'.\n";
 
-/// Words of which something is said.
+/// Words that get a message.
 const SAID: &[(&str, &str)] = &[
     ("giveup serve house.csv -", NO_DOORS),
     ("giveup serve house.csv 9878 --doors hall", NO_SECRETS),

@@ -35,7 +35,7 @@ pub enum Setting {
     Logged,
 }
 
-/// What a machine is given, and what it is told. It waits and starts threads as its host does.
+/// What a machine is given, and what it printed. It waits and starts threads as its host does.
 #[derive(Drop)]
 pub struct Machine<'a, R> {
     pub host: &'a R,
@@ -53,11 +53,11 @@ pub struct Machine<'a, R> {
     pub err: Mutex<Vec<u8>>,
     /// What was asked for, each with a blank after it: the path of a file that is opened, `+` and the path of one that is opened or made
     /// to be written, `!` and the path of one that is synced with its length, `-` and the path of one that is removed, two paths with `=`
-    /// between them where a file gets a name, and the address of a port.
+    /// between them when a file gets a name, and the address of a port.
     pub opened: &'a Mutex<Vec<u8>>,
 }
 
-/// What no run asks of a machine.
+/// Fails: no run asks this of a machine.
 fn unsupported<T>() -> io::Result<T> {
     Err(Error::from(ErrorKind::Unsupported))
 }
@@ -252,14 +252,14 @@ pub struct Text<'a, R> {
     bytes: &'a [u8],
     disk: &'a Mutex<Disk>,
     number: Option<usize>,
-    /// Where the next read or write of one that can be written begins.
+    /// The place at which the next read or write of a writable file begins.
     at: usize,
-    /// Where it is written down that it was synced.
+    /// The place where each sync of it is noted.
     opened: &'a Mutex<Vec<u8>>,
 }
 
 impl<R: Wait> Text<'_, R> {
-    /// Returns its number, where it can be written.
+    /// Returns its number, if it can be written.
     fn number(&self) -> io::Result<usize> {
         match self.number {
             Some(number) => Ok(number),
@@ -345,7 +345,7 @@ impl<R: Wait> OpenFile for Text<'_, R> {
     }
 }
 
-/// Returns the mark of how a file is opened: to be read, or to be written, and made where there is none. A journal isn't emptied or
+/// Returns the mark of how a file is opened: to be read, or to be written, and made if there is none. A journal isn't emptied or
 /// appended to as it is opened.
 fn mark_of(how: &OpenOptions) -> &'static str {
     match (

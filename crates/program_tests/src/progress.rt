@@ -1,4 +1,4 @@
-//! What is told of the progress of a long input.
+//! The progress that is printed for a long input.
 
 use crate::rows::check_told;
 use gu_program::Told;
@@ -6,7 +6,7 @@ use std::alloc::{AllocError, Global};
 use std::io::Read;
 use trials::shown;
 
-/// Reads all in pieces of 4,096 bytes, and tells how many bytes came.
+/// Reads all in pieces of 4,096 bytes, and reports how many bytes came.
 fn read_through<R: Read>(reader: &mut R) -> usize {
     let mut buffer = [0; 4_096];
     let mut sum: usize = 0;
@@ -20,7 +20,7 @@ fn read_through<R: Read>(reader: &mut R) -> usize {
     sum
 }
 
-/// How many bytes come of so many lines of four bytes, and what a terminal is told, where there is one.
+/// Returns how many bytes come of this many lines of four bytes, and what is printed at a terminal, if there is one.
 fn told(alloc: Global, lines: usize, is_terminal: bool) -> Result<String, AllocError> {
     let lines = "DAY\n".repeat(alloc, lines)?;
     let mut notes = Vec::new(alloc);

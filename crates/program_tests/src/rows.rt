@@ -10,13 +10,13 @@ pub fn check_text(rt: &impl Abort, row: &str, text: &str, expected: &str) {
     assert_eq!(rt; text, expected, "{row}");
 }
 
-/// Asserts that a run tells what a row says.
+/// Asserts that the report of a run is the one in a row.
 pub fn check_told(rt: &impl Abort, row: &str, told: Result<String, AllocError>, expected: &str) {
     let told = told.expect(rt, "memory");
     check_text(rt, row, &told, expected);
 }
 
-/// Asserts that a run tells this, with a number in the place of a row.
+/// Asserts that a run reports this, with a number in the place of a row.
 pub fn check_numbered(
     rt: &impl Abort,
     alloc: Global,
@@ -28,7 +28,7 @@ pub fn check_numbered(
     check_told(rt, &row, told, expected);
 }
 
-/// What a run on a text tells, as it is meant.
+/// Returns the report of a run on a text, with its signs replaced.
 pub fn told_of_text(
     alloc: Global,
     engine: Engine,
@@ -39,7 +39,7 @@ pub fn told_of_text(
     told(alloc, engine, input.as_bytes(), terms)
 }
 
-/// Asserts that the run on the text of each row, on these terms, tells what the row says.
+/// Asserts that the run on the text of each row, on these terms, reports what the row says.
 pub fn check(rt: &impl Abort, alloc: Global, engine: Engine, terms: &str, table: &str) {
     for row in table.lines() {
         let (text, expected) = columns(row);
@@ -66,7 +66,7 @@ pub fn check_terms(
     }
 }
 
-/// Asserts that a run tells the same wherever its input is cut.
+/// Asserts that a run prints the same wherever its input is cut.
 pub fn check_cuts(rt: &impl Abort, alloc: Global, engine: Engine, input: &str, output: &str) {
     let expected = front_told(alloc, "done: all", output).expect(rt, "memory");
     for first in 1..input.len() {

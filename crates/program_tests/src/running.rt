@@ -3,7 +3,7 @@
 //! the zeros at its end, if anything. `/` ends a line, and `|` is SOH. The file `house` is the sample, `bad` has an eighteenth row that is
 //! none, `day` opens a day, the second line of `two` is bad, three lines of `amiss` do nothing, and after `traded` E1 may give up ten lots.
 //! `keys` and `alike` are files of secrets. Nothing can be written to these, nor to `stuck`, which is empty; `worn` takes an opening and
-//! nothing else. `.` is a folder. Of the journals `alien` is of another reference, `edited` has another digest, `decayed` a bad line,
+//! nothing else. `.` is a folder. Among the journals, `alien` is of another reference, `edited` has another digest, `decayed` a bad line,
 //! `padded` too much after its text, and another program has `held`. The digests are what sha256sum prints: of the sample, of 32 zeros and
 //! `1 OK` with its LF, and of that digest and `2 OK OPEN`.
 
@@ -41,8 +41,8 @@ REPORT E1 R1 M1 B XF6 10 101.5 H1
 REPORT E2 S1 M1 S XF6 10 101.5 H2
 ";
 
-/// Secrets: that of the sample's E1 is 32 digits, 07 sixteen times. The machine's random bytes are all 7, and the digest is that of Python's
-/// hashlib: `sha256(bytes([7] * 16) + b'07' * 16)`.
+/// Secrets: that of the sample's E1 is 32 digits, 07 sixteen times. The machine's random bytes are all 7, and the digest is that of
+/// Python's hashlib: `sha256(bytes([7] * 16) + b'07' * 16)`.
 const KEYS: &[u8] =
     b"E1,07070707070707070707070707070707,40e450030d0b857819fc046187cddb246c4842f9a8c23810b93201ebc4e28520\n";
 
@@ -96,23 +96,24 @@ giveup serve house 9878 --secrets day --journal held --resume < x -> 1 house day
 giveup serve house - --doors hall < x -> 1 house ; ; giveup: doors: NotMade/giveup: hall/E1: unsupported/
 giveup serve house - < x -> 2 ; ; error: the following required arguments were not provided:/  --doors <FOLDER>//Usage: giveup serve [OPTIONS] <REF> <PORT>//For more information, try '--help'./
 giveup secret E1 < x -> 0 ; E1,07070707070707070707070707070707,40e450030d0b857819fc046187cddb246c4842f9a8c23810b93201ebc4e28520/; 554=07070707070707070707070707070707/
+giveup serve house 9878 --journal etcd://10.0.0.1:2379/DAY < x -> 2 ; ; error: invalid value for '--journal <FILE>': a log is etcd://HOST:PORT[,HOST:PORT..]/NAME, with hosts of this machine//Usage: giveup serve [OPTIONS] <REF> <PORT>//For more information, try '--help'./
 giveup secret e1 < x -> 2 ; ; error: invalid value for '<FIRM>': a firm is 1 to 12 of A-Z, 0-9 and -//Usage: giveup secret <FIRM>//For more information, try '--help'./
 giveup serve house 0 < x -> 2 ; ; error: invalid value '0' for '<PORT>': 0 is not in 1..=65535//For more information, try '--help'./
 ";
 
-/// The same where standard error takes nothing: the status alone shows the fault.
+/// The same if standard error takes nothing: the status alone shows the fault.
 const UNHEARD: &str = "\
 giveup check < SHEET G1 0/ -> 1 ; ;
 giveup secret E1 < x -> 1 ; E1,07070707070707070707070707070707,40e450030d0b857819fc046187cddb246c4842f9a8c23810b93201ebc4e28520/;
 giveup claim < x -> 2 ; ;
 ";
 
-/// The same where standard output takes nothing: a secret whose row is lost is shown to nobody.
+/// The same if standard output takes nothing: a secret whose row is lost is shown to nobody.
 const UNSHOWN: &str = "\
 giveup secret E1 < x -> 1 ; ; giveup: write fault/
 ";
 
-/// The same where there are no random bytes: tables of ids would have no seed, so nothing is opened or read but a sheet, and no secret is
+/// The same if there are no random bytes: tables of ids would have no seed, so nothing is opened or read but a sheet, and no secret is
 /// issued.
 const UNSEEDED: &str = "\
 giveup secret E1 < x -> 1 ; ; giveup: read fault/
@@ -123,7 +124,7 @@ giveup serve house 9878 < x -> 1 ; ; giveup: read fault/
 giveup check < SHEET G1 0/END/ -> 1 ; ; giveup: read fault/
 ";
 
-/// The same at a terminal, where it is said what is waited for, and what is at fault and why.
+/// The same at a terminal, which also shows what is waited for, and what failed and why.
 const WATCHED: &str = "\
 giveup <  -> 0 ; ; giveup: trade capture waits for FIX messages on standard input; giveup --help shows the other commands/
 giveup check < SHEET G1 0/END/ -> 0 ; OK 0/;
@@ -154,17 +155,17 @@ giveup serve house 9878 --script traded --connections 1 --every 0 < 8=FIXT.1.1|9
 giveup serve house 9878 --script traded --connections 1 --every 1 < 8=FIXT.1.1|9=66|35=A|49=E1|56=GIVEUP|34=1|52=20260105-09:00:00|98=0|108=30|1137=9|10=004|8=FIXT.1.1|9=93|35=J|49=E1|56=GIVEUP|34=2|52=20260105-09:00:00|70=L1|71=0|53=10|124=1|17=R1|78=1|79=A1|80=10|10=229| -> 0 house traded 127.0.0.1:9878 ; ENTRIES 9/SWEPT 10/AUDIT OK/;
 ";
 
-/// The same with a log, in which the firm's port stands as P.
+/// The same with a log, in which P replaces the firm's port.
 const LOGGED: &str = "\
 giveup serve house 9878 --script day --connections 1 --log < 8=FIXT.1.1|9=66|35=A|49=E1|56=GIVEUP|34=1|52=20260105-09:00:00|98=0|108=30|1137=9|10=004|8=FIXT.1.1|9=112|35=AE|49=E1|56=GIVEUP|34=2|52=20260105-09:00:00|571=R1|880=M1|55=XF6|32=10|31=101.5|75=20260105|552=1|54=1|1=H1|10=236| -> 0 house day 127.0.0.1:9878 ; ENTRIES 2/SWEPT 0/AUDIT OK/; 20260105-09:00:00.000 day.opened reference=house day=20260105 entries=1/20260105-09:00:00.000 listening at=port port=9878/20260105-09:00:00.000 firms.unknown note=\"whoever reaches the port is any firm\"/20260105-09:00:00.000 connection.accepted n=1 at=port port=P/20260105-09:00:00.000 logon.accepted n=1 firm=E1/20260105-09:00:00.000 connection.ended n=1 firm=E1 reason=done/20260105-09:00:00.000 day.closed entries=2 swept=0 audit=OK/
 ";
 
-/// A day whose lines can't be printed: its journal is written all the same, and both faults are said.
+/// A day whose lines can't be printed: its journal is written all the same, and both faults are reported.
 const UNPRINTED: &str = "\
 giveup serve house 9878 --script day --connections 1 --journal log < 8=FIXT.1.1|9=66|35=A|49=E1|56=GIVEUP|34=1|52=20260105-09:00:00|98=0|108=30|1137=9|10=004|8=FIXT.1.1|9=112|35=AE|49=E1|56=GIVEUP|34=2|52=20260105-09:00:00|571=R1|880=M1|55=XF6|32=10|31=101.5|75=20260105|552=1|54=1|1=H1|10=236| -> 1 house day +log +log.new !log.new 127.0.0.1:9878 log.new=log . !. !log.new ; ; giveup: write fault/; # giveup 0.1.0 for rattle-kit-13f (logic dac8208d650f15bf)/# reference: SHA-256 8167b5abead291b098903bd30fe0583fc384d2e678c4feae8d5f0182aa6165f4/# opened: 2026-01-05T09:00:00Z/DAY 20260105/# 1 087463b66c4a0bef301fae1c9da17125a35ee073bc886113b17bdebdcc15eb43/# 20260105-09:00:00.000 E1 1 2/REPORT E1 R1 M1 B XF6 10 101.5 H1/# 2 f7a1e81ddc4699d97f0dd50273a849abc37ad8ffdbf90d5a612000d801439a2a/
 ";
 
-/// A day that goes on: of its journal a torn line is cut off, and the digest of what is left comes again.
+/// A day that is resumed: a torn line of its journal is cut off, and the digest of the rest comes again.
 const RESUMED: &str = "\
 giveup serve house 9878 --script gone --connections 1 --journal log --resume < 8=FIXT.1.1|9=66|35=A|49=E1|56=GIVEUP|34=1|52=20260105-09:00:00|98=0|108=30|1137=9|10=004|8=FIXT.1.1|9=112|35=AE|49=E1|56=GIVEUP|34=2|52=20260105-09:00:00|571=R1|880=M1|55=XF6|32=10|31=101.5|75=20260105|552=1|54=1|1=H1|10=236| -> 0 house +log !log 127.0.0.1:9878 !log ; ENTRIES 2/SWEPT 0/AUDIT OK/; giveup: log: bytes cut after its last whole line: 6/; # giveup 0.1.0 for rattle-kit-13f (logic dac8208d650f15bf)/# reference: SHA-256 8167b5abead291b098903bd30fe0583fc384d2e678c4feae8d5f0182aa6165f4/# opened: 2026-01-05T09:00:00Z/DAY 20260105/# 1 087463b66c4a0bef301fae1c9da17125a35ee073bc886113b17bdebdcc15eb43/# giveup 0.1.0 for rattle-kit-13f (logic dac8208d650f15bf)/# resumed: 2026-01-05T09:00:00Z/# 1 087463b66c4a0bef301fae1c9da17125a35ee073bc886113b17bdebdcc15eb43/# 20260105-09:00:00.000 E1 1 2/REPORT E1 R1 M1 B XF6 10 101.5 H1/# 2 f7a1e81ddc4699d97f0dd50273a849abc37ad8ffdbf90d5a612000d801439a2a/
 ";
@@ -308,7 +309,7 @@ fn check<R: Abort + Threads + Wait + Sync + Alloc<A = Global>>(
     }
 }
 
-/// A port, and the connection of a firm to it.
+/// Returns a port, and the connection of a firm to it.
 fn connected<R: Net<Listener = TcpListener, Stream = TcpStream>>(
     rt: &R,
 ) -> io::Result<(TcpListener, TcpStream)> {
@@ -326,7 +327,7 @@ fn send_all(alloc: Global, mut stream: TcpStream, bytes: &[u8]) -> io::Result<us
     stream.read_to_end(&mut rest)
 }
 
-/// What a run does on whose port a firm sends the input.
+/// Returns what a run does if a firm sends the input to its port.
 fn served<
     R: Net<Listener = TcpListener, Stream = TcpStream> + Threads + Wait + Sync + Alloc<A = Global>,
 >(rt: &R, run: &str, setting: Setting) -> io::Result<String> {

@@ -1,5 +1,5 @@
-//! Engines over streams that are cut, that fail, or that are long. A row of a table of terms is ` -> `, how the run ends, `: `, and how many bytes of
-//! the answer are written then.
+//! Engines over streams that are cut, that fail, or that are long. A row of a table of terms is ` -> `, how the run ends, `: `, and how
+//! many bytes of the answer are written then.
 
 use crate::engines::{Engine, told};
 use crate::rows::{check, check_cuts, check_numbered, check_terms, check_told, told_of_text};
@@ -15,8 +15,9 @@ const REPORTS: &str =
 const POSITIONS: &str =
     "8=FIXT.1.1|9=72|35=AR|49=GIVEUP|56=E1|34=1|52=20260105-00:00:00.000|571=R1|880=M1|939=0|10=121|8=FIXT.1.1|9=72|35=AR|49=GIVEUP|56=E2|34=2|52=20260105-00:00:00.000|571=R2|880=M1|939=0|10=124|POSITION H1 XF6 10 0/POSITION H2 XF6 0 10/";
 
-/// Cut in one piece, byte by byte and in pieces of 100 bytes; in pieces of 64 bytes, where the reports end in the third and the fifth, and the sixth
-/// read finds the end; with at most 50 bytes a write: two writes for each acknowledgement, and one for the positions; with writes that take nothing.
+/// Cut in one piece, byte by byte and in pieces of 100 bytes; in pieces of 64 bytes, with the reports ending in the third and the fifth,
+/// and the sixth read finds the end; with at most 50 bytes a write: two writes for each acknowledgement, and one for the positions; with
+/// writes that take nothing.
 const CAPTURES: &str = "\
 first 277 -> done: 232
 piece 1 -> done: 232
@@ -44,7 +45,7 @@ fn two_reports_make_a_trade_however_they_are_cut_and_what_was_answered_stays(rt:
     check_cuts(&rt, alloc, Engine::Capture, REPORTS, POSITIONS);
 }
 
-/// What a run tells whose input comes byte by byte, with so many reads.
+/// Returns the report of a run whose input comes byte by byte, with this many reads.
 fn told_by_bytes(
     alloc: Global,
     engine: Engine,
@@ -83,7 +84,7 @@ fn the_reports_that_came_are_answered_where_the_reader_fails(rt: HostRuntime) {
     }
 }
 
-/// What is to be told where a byte is taken by each of so many writes, and no more.
+/// Returns the expected report if each of this many writes takes one byte, and later ones none.
 fn front_of_bytes(alloc: Global, writes: usize) -> Result<String, AllocError> {
     let end = format!(in alloc; "write fault: {writes}")?;
     front_told(alloc, &end, POSITIONS)
@@ -106,7 +107,7 @@ fn what_is_taken_byte_by_byte_is_a_prefix_of_the_answers(rt: HostRuntime) {
     check_terms(&rt, alloc, Engine::Capture, REPORTS, POSITIONS, enough);
 }
 
-/// Bytes that begin no message, one a read: of 999,999 the last read finds the end, and after 1,000,000 no read is left.
+/// Bytes that begin no message, one a read: with 999,999 the last read finds the end; after 1,000,000 no read is left.
 const MOST_READS: &str = "\
 (x*999999) -> done: 
 (x*1000000) -> read fault: 
@@ -118,7 +119,7 @@ fn a_million_reads_are_the_most(rt: HostRuntime) {
     check(&rt, rt.alloc(), Engine::Capture, "piece 1", MOST_READS);
 }
 
-/// Bytes that begin no message, one a read, and then the two reports.
+/// Returns bytes that begin no message, one a read, and then the two reports.
 fn told_after_thousands(alloc: Global) -> Result<String, AllocError> {
     let input = format!(in alloc; "(x*3000){REPORTS}")?;
     told_of_text(alloc, Engine::Capture, &input, Terms::of("piece 1"))
@@ -160,7 +161,7 @@ fn a_sheet_may_come_in_pieces_and_a_failing_read_leaves_nothing_written(rt: Host
     check_cuts(&rt, alloc, Engine::Check, SHEET, "OK 0/");
 }
 
-/// Sheets of which one read gives all but their end, or one line is bad: then it is named, whatever the reader has behind it.
+/// Sheets of which one read gives all but their end, or one line is bad: then it is named, whatever the reader has after it.
 const BAD_LINES: &str = "\
 X/SHEET G1 0/END/(#/*5000) -> bad line 1: 
 SHEET G1 0/X -> read fault: 
@@ -173,7 +174,7 @@ SHEET G1 6/OFFER 1 5 P1 E1 A1 C1/END -> read fault:
 SHEET G1 0/ -> read fault: 
 ";
 
-/// The same sheets, where a second read finds the end.
+/// The same sheets, if a second read finds the end.
 const BAD_AT_THE_END: &str = "\
 SHEET G1 0/X -> bad line 2: 
 SHEET G1 0/END/X -> bad line 3: 
@@ -230,7 +231,7 @@ fn a_line_of_a_sheet_that_is_too_long_is_bad_before_it_ends(rt: HostRuntime) {
 const SPACED: &str =
     "# A day is opened./DAY 20260105/< 1 OK/LIMIT G1 EXEC E1 100/< 2 OK/LIMIT G1 AGR P1 100/< 3 OK/LIMIT G1 ACCT A1 100/< 4 OK/LIMIT G1 CARRY C1 100/< 5 OK//REPORT E1 R1 M1 B XF6 10 101.5 H1/< 6 OK OPEN/REPORT E2 R2 M1 S XF6 10 101.5 H2/< 7 OK MATCHED/GIVEUP E1 L1 R1 A1 10/< 8 OK OFFERS 1 1/SWEEP G1/< 9 SWEPT G1 10/< SHEET G1 6/< OFFER 1 10 P1 E1 A1 C1/< ROOM EXEC E1 100/< ROOM AGR P1 100/< ROOM ACCT A1 100/< ROOM CARRY C1 100/< TAKE 1 10/< CUT OFFER 1/< END/POSITION A1 XF6\r/< POSITION A1 XF6 10 0/";
 
-/// The script of `SPACED`, and what answers it.
+/// Returns the script of `SPACED`, and what answers it.
 fn spaced(alloc: Global) -> Result<(String, String), AllocError> {
     let mut script = String::new(alloc);
     let mut answers = String::new(alloc);
@@ -311,7 +312,7 @@ fn the_lines_that_came_are_answered_where_the_reader_fails(rt: HostRuntime) {
     assert_eq!(rt; came, script.len());
 }
 
-/// What is told of a script whose answers are taken in this many writes of at most sixteen bytes.
+/// Returns the report of a script whose answers are taken in this many writes of at most sixteen bytes.
 fn told_in_writes(alloc: Global, script: &str, writes: usize) -> Result<String, AllocError> {
     let terms = Terms {
         most: 16,
@@ -321,7 +322,7 @@ fn told_in_writes(alloc: Global, script: &str, writes: usize) -> Result<String, 
     told_of_text(alloc, Engine::Replay, script, terms)
 }
 
-/// What is to be told where this many writes are too few.
+/// Returns the expected report if this many writes are too few.
 fn prefix_in_writes(alloc: Global, answers: &str, writes: usize) -> Result<String, AllocError> {
     let taken = format!(in alloc; "write fault: {}", writes.saturating_mul(16))?;
     front_told(alloc, &taken, answers)
@@ -380,7 +381,7 @@ DAY 20260105/(#*1025) -> bad line 2: 1 OK/
 DAY 20260105/(#*1025)\r/ -> bad line 2: 1 OK/
 ";
 
-/// The same where the reader fails after the comment: a line that may end well waits, and one that can't is refused.
+/// The same if the reader fails after the comment: a line that may end well waits, and one that can't is refused.
 const COMMENTS_WITHOUT_END: &str = "\
 DAY 20260105/(#*1024) -> read fault: 1 OK/
 DAY 20260105/(#*1025) -> read fault: 1 OK/

@@ -9,7 +9,7 @@ use std::alloc::{AllocError, Global};
 use std::io::{self, Read, Write};
 use trials::{AMPLE, Sink, Source, columns, joined, meant, shown, wire};
 
-/// A desk that answers each line by the next of its answers, in pieces of so many bytes. An answer without an end ends the connection.
+/// A desk that answers each line by the next of its answers, in pieces of this many bytes. An answer without an end ends the connection.
 #[derive(Drop)]
 struct Answering<'a> {
     alloc: Global,
@@ -45,7 +45,7 @@ impl Write for Answering<'_> {
     }
 }
 
-/// What came of these lines, in words.
+/// Returns what came of these lines, in words.
 fn told(alloc: Global, input: &str, answers: &str, piece: usize) -> Result<String, AllocError> {
     let input = wire(alloc, input)?;
     let answers = wire(alloc, answers)?;

@@ -1,4 +1,4 @@
-//! What is told of words of the command line, for tests.
+//! The outcome of words of the command line, for tests.
 
 use crate::engines::end_text;
 use crate::rows::check_told;
@@ -61,20 +61,20 @@ impl Eprint for Streams {
     }
 }
 
-/// What is told of words that ask for no task.
+/// The outcome of words that ask for no task.
 #[derive(Clone, Copy)]
 pub enum Telling {
     /// The kind of their error, and the status that it gives.
     Kind,
-    /// What is said of them.
+    /// Their message.
     Text,
     /// How they are answered, and how many bytes are shown on standard output and on standard error.
     Answer,
-    /// The same where neither takes anything.
+    /// The same if neither takes anything.
     AnswerToNobody,
 }
 
-/// How an error is answered, and how many bytes are shown on standard output and on standard error.
+/// Returns how an error is answered, and how many bytes are shown on standard output and on standard error.
 fn answer_text(alloc: Global, error: &Error, is_closed: bool) -> Result<String, AllocError> {
     let streams = Streams {
         alloc,
@@ -86,7 +86,7 @@ fn answer_text(alloc: Global, error: &Error, is_closed: bool) -> Result<String, 
     format!(in alloc; "{end} {} {}", streams.out.get(), streams.err.get())
 }
 
-/// What is told of an error.
+/// Returns an error's outcome.
 pub fn error_text(alloc: Global, telling: Telling, error: &Error) -> Result<String, AllocError> {
     match telling {
         Telling::Kind => format!(in alloc; "{:?} {}", error.kind(), error.exit_code()),
@@ -96,7 +96,7 @@ pub fn error_text(alloc: Global, telling: Telling, error: &Error) -> Result<Stri
     }
 }
 
-/// How long a server goes on, as words.
+/// Returns how long a server goes on, as words.
 fn span_text(alloc: Global, span: Span<'_>) -> Result<String, AllocError> {
     match span {
         Span::Counted(
@@ -125,7 +125,7 @@ fn span_text(alloc: Global, span: Span<'_>) -> Result<String, AllocError> {
     }
 }
 
-/// The port of a server, as a word.
+/// Returns the port of a server, as a word.
 fn port_text(alloc: Global, port: Option<u16>) -> Result<String, AllocError> {
     match port {
         Some(port) => format!(in alloc; "{port}"),
@@ -133,7 +133,7 @@ fn port_text(alloc: Global, port: Option<u16>) -> Result<String, AllocError> {
     }
 }
 
-/// A path with what it is, where it is named.
+/// Returns a path with what it is, if it is named.
 fn named_text(alloc: Global, what: &str, path: Option<&str>) -> Result<String, AllocError> {
     match path {
         Some(path) => format!(in alloc; ", {what} {path}"),
@@ -141,7 +141,7 @@ fn named_text(alloc: Global, what: &str, path: Option<&str>) -> Result<String, A
     }
 }
 
-/// The share of a firm, where it isn't all.
+/// Returns the share of a firm, if it isn't all.
 fn share_text(alloc: Global, share: u16) -> Result<String, AllocError> {
     if share == 100 {
         Ok(String::new(alloc))
@@ -150,7 +150,7 @@ fn share_text(alloc: Global, share: u16) -> Result<String, AllocError> {
     }
 }
 
-/// What a server is started with, as words.
+/// Returns what a server is started with, as words.
 fn serving_text(alloc: Global, serving: Serving<'_>) -> Result<String, AllocError> {
     let Serving {
         reference,
@@ -182,7 +182,7 @@ fn serving_text(alloc: Global, serving: Serving<'_>) -> Result<String, AllocErro
     )
 }
 
-/// The lines for a desk, as words.
+/// Returns the lines for a desk, as words.
 fn telling_text(alloc: Global, path: &str, lines: &[&str]) -> Result<String, AllocError> {
     let mut text = format!(in alloc; "tell {path}")?;
     for line in lines {
@@ -192,7 +192,7 @@ fn telling_text(alloc: Global, path: &str, lines: &[&str]) -> Result<String, All
     Ok(text)
 }
 
-/// A task, with its words.
+/// Returns a task, with its words.
 fn task_text(alloc: Global, task: Task<'_>) -> Result<String, AllocError> {
     match task {
         Task::Capture => String::from_str(alloc, "capture"),
@@ -212,7 +212,7 @@ fn task_text(alloc: Global, task: Task<'_>) -> Result<String, AllocError> {
     }
 }
 
-/// The task that these words ask for, or what is told of them.
+/// Returns the task that these words ask for, or their outcome.
 fn told_of(alloc: Global, telling: Telling, words: &[&str]) -> Result<String, AllocError> {
     match read(alloc, words) {
         Ok(task) => task_text(alloc, task),
@@ -224,7 +224,7 @@ fn told_of(alloc: Global, telling: Telling, words: &[&str]) -> Result<String, Al
     }
 }
 
-/// The same of the words of a row.
+/// Returns the same for the words of a row.
 pub fn told(alloc: Global, telling: Telling, row: &str) -> Result<String, AllocError> {
     let mut words = Vec::new(alloc);
     for word in row.split(' ') {
@@ -233,7 +233,7 @@ pub fn told(alloc: Global, telling: Telling, row: &str) -> Result<String, AllocE
     told_of(alloc, telling, &words)
 }
 
-/// Asserts that this is told of the words of each row.
+/// Asserts this outcome for the words of each row.
 pub fn check(rt: &impl Abort, alloc: Global, telling: Telling, table: &str) {
     for row in table.lines() {
         let (words, expected) = columns(row);

@@ -196,7 +196,7 @@ E 1 -> InvalidValue 2
 ABCDEFGHIJKLM -> InvalidValue 2
 ";
 
-/// The firm of a name after a command, or what is told of it.
+/// Returns the firm that a command names, or the outcome if there is none.
 fn firm_told(alloc: Global, command: FirmCommand, name: &str) -> Result<String, AllocError> {
     match firm_named(alloc, command, name) {
         Ok(firm) => String::from_str(alloc, str::from_utf8(firm.get()).unwrap_or("?")),

@@ -21,7 +21,7 @@ DAY 20260105/LIMIT G1 EXEC E1 10/LIMIT G1 EXEC E2 20/LIMIT G1 ACCT A1 10/LIMIT G
 DAY 20260105/SEE 0 G1/PROPOSE 0/SEE 1 G9/COMMIT 0/COMMIT 1/SWEEP G2/SWEEP G9/ -> DAY 20260105/SWEEP G1/SWEEP G2/
 DAY 20260105/(REPORT E1 R% M% B XF6 10 101.5 H1/*2..20000) -> DAY 20260105/(REPORT E1 R% M% B XF6 10 101.5 H1/*2..20000)";
 
-/// The world that a script leads to.
+/// Returns the world that a script leads to.
 pub fn world_after(alloc: Global, script: &str) -> Result<World, ScriptError> {
     let script = meant(alloc, script)?.replace(alloc, "/", "\n")?;
     let script = Pieces {
@@ -31,7 +31,7 @@ pub fn world_after(alloc: Global, script: &str) -> Result<World, ScriptError> {
     played(alloc, "", script, &mut io::sink())
 }
 
-/// The journal of a world's history.
+/// Returns the journal of a world's history.
 fn journal_of(alloc: Global, world: &World) -> Result<String, AllocError> {
     let mut written = Vec::new(alloc);
     if write_journal(alloc, world.book().history(), &mut written).is_err() {
@@ -42,7 +42,7 @@ fn journal_of(alloc: Global, world: &World) -> Result<String, AllocError> {
         .replace(alloc, "\n", "/")
 }
 
-/// The journal of the history that a script leads to.
+/// Returns the journal of the history that a script leads to.
 fn journal_after(alloc: Global, script: &str) -> Result<String, ScriptError> {
     let world = world_after(alloc, script)?;
     Ok(journal_of(alloc, &world)?)
@@ -60,7 +60,7 @@ fn a_journal_has_the_line_of_each_entry(rt: HostRuntime) {
     }
 }
 
-/// A report of E1 with this id that names a day of January 2026.
+/// Returns a report of E1 with this id that names a day of January 2026.
 fn report_of(id: &[u8], day: u8) -> Option<Command> {
     Some(Command::ReportSide(ReportSide {
         firm: FirmId::new(b"E1")?,
@@ -83,7 +83,7 @@ fn enter(world: &mut World, id: &[u8], day: u8) -> Result<(), AllocError> {
     }
 }
 
-/// The journal of a history with reports that name days: before a day is open, of another day, and of the open one.
+/// Returns the journal of a history with reports that name days: before a day is open, of another day, and of the open one.
 fn dated_journal(alloc: Global) -> Result<String, ScriptError> {
     let mut world = world_after(alloc, "")?;
     enter(&mut world, b"R1", 5)?;
@@ -107,7 +107,8 @@ fn a_report_of_another_day_is_a_comment(rt: HostRuntime) {
     check_told(&rt, "reports with days", Ok(told), DATED);
 }
 
-/// Whether a journal whose writer takes three bytes a write, and fails after this many writes, is a fault and a prefix of this length.
+/// Returns whether a journal whose writer takes three bytes a write, and fails after this many writes, is a fault and a prefix of this
+/// length.
 fn is_prefix(alloc: Global, world: &World, whole: &str, writes: usize) -> bool {
     let mut sink = Sink::new(alloc, 3, writes);
     let end = write_journal(alloc, world.book().history(), &mut sink);

@@ -7,7 +7,7 @@ use std::fmt;
 use std::fmt::Write;
 use trials::{columns, meant};
 
-/// What a script tells, as it is meant.
+/// Returns the report of a script, with its signs replaced.
 fn told_of(alloc: Global, script: &str) -> Result<String, AllocError> {
     told(alloc, "", &meant(alloc, script)?, 4_096)
 }
@@ -41,7 +41,7 @@ fn a_script_of_twenty_thousand_reads_is_answered_in_as_many_writes(rt: HostRunti
 const OFFERS: &str =
     "DAY 20260105/LIMIT G1 EXEC E1 100/LIMIT G1 AGR P1 100/LIMIT G1 ACCT A1 100/LIMIT G1 CARRY C1 100/REPORT E1 R1 M1 B XF6 5000 101.5 H1/REPORT E2 R2 M1 S XF6 5000 101.5 H2/(GIVEUP E1 L% R1 A1 1 A1 1 A1 1 A1 1 A1 1 A1 1 A1 1 A1 1 A1 1 A1 1 A1 1 A1 1 A1 1 A1 1 A1 1 A1 1/*0..255)GIVEUP E1 L256 R1 A1 1/";
 
-/// What is told of them.
+/// Returns their outcomes.
 fn offers_told(alloc: Global) -> Result<String, AllocError> {
     let front = "done: 1 OK/2 OK/3 OK/4 OK/5 OK/6 OK OPEN/7 OK MATCHED/";
     let mut told = String::from_str(alloc, front)?;
@@ -64,7 +64,7 @@ fn a_group_has_4096_open_offers_at_most(rt: HostRuntime) {
 /// Entries of a full book.
 const ENTRIES: u32 = 1_000_000;
 
-/// What answers openings of one day that fill a book, and one more: the first opens the day.
+/// Returns what answers openings of one day that fill a book, and one more: the first opens the day.
 fn openings_told(alloc: Global) -> Result<String, AllocError> {
     let mut told = String::from_str(alloc, "done: 1 OK/")?;
     for number in 2..=ENTRIES {
@@ -108,7 +108,7 @@ impl Transcript {
     }
 }
 
-/// The rows of a house of 9,999 accounts, 9,999 agreements and fourteen groups.
+/// Returns the rows of a house of 9,999 accounts, 9,999 agreements and fourteen groups.
 fn many_rows(alloc: Global) -> Result<String, AllocError> {
     let mut rows = String::new(alloc);
     for group in 3..=14_u32 {
@@ -123,7 +123,7 @@ fn many_rows(alloc: Global) -> Result<String, AllocError> {
     Ok(rows)
 }
 
-/// 33,000 limits, in four groups.
+/// Adds 33,000 limits, in four groups.
 fn say_limits(transcript: &mut Transcript) -> Result<(), AllocError> {
     for place in 0..8_250_u32 {
         for (group, kind, name) in [
@@ -141,7 +141,7 @@ fn say_limits(transcript: &mut Transcript) -> Result<(), AllocError> {
     Ok(())
 }
 
-/// A trade of a group whose ids have 64 bytes, given up in this many give-ups of sixteen lots to as many accounts.
+/// Adds a trade of a group whose ids have 64 bytes, given up in this many give-ups of sixteen lots to as many accounts.
 fn say_give_ups(
     transcript: &mut Transcript,
     group: u32,
@@ -173,7 +173,7 @@ fn say_give_ups(
     Ok(())
 }
 
-/// A day of 33,000 limits and of 48,016 open offers in twelve groups, by ids of 64 bytes.
+/// Returns a day of 33,000 limits and of 48,016 open offers in twelve groups, by ids of 64 bytes.
 fn many_lines(alloc: Global) -> Result<Transcript, AllocError> {
     let mut transcript = Transcript {
         script: String::new(alloc),

@@ -15,8 +15,8 @@ const SHORT: &str =
 const SHORT_TEXT: &str =
     "1 OK/2 OK/3 OK/4 OK/5 OK/6 OK OPEN/7 OK MATCHED/8 OK OFFERS 1 1/9 SWEPT G1 7/SHEET G1 6/OFFER 1 7 P1 E1 A1 C1/ROOM EXEC E1 100/ROOM AGR P1 100/ROOM ACCT A1 100/ROOM CARRY C1 100/TAKE 1 7/CUT OFFER 1/END/";
 
-/// Whether the short script, a line or two at a time, is answered, or ends after a prefix of the text. (The output grows too, so that its
-/// writer may fail.)
+/// Returns whether the short script, a line or two at a time, is answered, or ends after a prefix of the text. (The output grows too, so
+/// that its writer may fail.)
 fn is_played_or_stops(alloc: Global) -> Result<bool, AllocError> {
     let told = told(alloc, "", SHORT, 32)?;
     let (end, text) = told.split_once(": ").unwrap_or((told.as_str(), ""));
@@ -37,8 +37,8 @@ fn a_failed_allocation_ends_a_script_after_a_prefix_of_the_text(rt: HostRuntime)
 /// The comments of its sweep in its journal: what it takes, and its cut.
 const SHORT_REMARKS: &str = "# TAKE 1 7\n# CUT OFFER 1\n";
 
-/// Whether the journal of the short script's day has its lines and the comments of its sweep, or ends after a prefix of them. (What is written grows too, so that it may
-/// end as a writer does that fails.)
+/// Returns whether the journal of the short script's day has its lines and the comments of its sweep, or ends after a prefix of them. (What
+/// is written grows too, so that it may end as a writer does that fails.)
 fn is_written_or_stops(alloc: Global) -> Result<bool, ScriptError> {
     let mut lines = SHORT.replace(alloc, "/", "\n")?;
     lines.push_str(SHORT_REMARKS)?;

@@ -1,4 +1,4 @@
-//! Scripts that open a day: the lines of them that do nothing. What is told of a script is each of the first 20, and how many there are.
+//! Scripts that open a day: the lines of them that do nothing. The outcome of a script has the first 20 of them, and how many there are.
 
 use crate::plays::{Pieces, reference_with};
 use crate::rows::check_told;
@@ -8,7 +8,7 @@ use gu_terms::Seed;
 use std::alloc::{AllocError, Global};
 use trials::{columns, meant};
 
-/// The lines of a script on the sample that do nothing, which comes in pieces of at most so many bytes.
+/// Returns the lines of a script on the sample that do nothing, which comes in pieces of at most this many bytes.
 fn refused_of(alloc: Global, script: &str, most: usize) -> Result<RefusedLines, ScriptError> {
     let reference = reference_with(alloc, "")?;
     let script = script.replace(alloc, "/", "\n")?;
@@ -19,7 +19,7 @@ fn refused_of(alloc: Global, script: &str, most: usize) -> Result<RefusedLines, 
     Ok(refused)
 }
 
-/// What is told of a script.
+/// Returns the outcome of a script.
 fn told(alloc: Global, script: &str, most: usize) -> Result<String, AllocError> {
     let refused = match refused_of(alloc, script, most) {
         Ok(refused) => refused,
@@ -33,7 +33,7 @@ fn told(alloc: Global, script: &str, most: usize) -> Result<String, AllocError> 
     Ok(told)
 }
 
-/// Scripts, each with what is told of it. Lines that say nothing are counted, a sweep of an unknown group is one line, and questions that
+/// Scripts, each with its outcome. Lines that say nothing are counted, a sweep of an unknown group is one line, and questions that
 /// are answered by UNKNOWN do nothing wrong.
 const ROWS: &str = "\
 # nothing is said -> 0

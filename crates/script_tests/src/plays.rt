@@ -1,4 +1,4 @@
-//! Scripts that are played on the sample. What a run tells is how it ended, `: `, and what it wrote. In a text `/` ends a line.
+//! Scripts that are played on the sample. What a run reports is how it ended, `: `, and what it wrote. In a text `/` ends a line.
 
 use gu_ref::Reference;
 use gu_script::{ScriptError, play};
@@ -29,7 +29,7 @@ AGREEMENT,P3,E2,A1
 AGREEMENT,P4,E2,A3
 ";
 
-/// Gives its bytes in pieces of at most so many.
+/// Gives its bytes in pieces of at most this many.
 #[derive(Drop)]
 pub struct Pieces<'a> {
     pub bytes: &'a [u8],
@@ -45,7 +45,7 @@ impl Read for Pieces<'_> {
     }
 }
 
-/// The sample, with further rows.
+/// Returns the sample, with further rows.
 pub fn reference_with(alloc: Global, rows: &str) -> Result<Reference, ScriptError> {
     let mut file = String::from_str(alloc, SAMPLE)?;
     file.push_str(rows)?;
@@ -55,7 +55,7 @@ pub fn reference_with(alloc: Global, rows: &str) -> Result<Reference, ScriptErro
     }
 }
 
-/// The world that a script on the sample, with these rows more, leads to.
+/// Returns the world that a script on the sample, with these rows more, leads to.
 pub fn played<W: Write>(
     alloc: Global,
     rows: &str,
@@ -72,7 +72,7 @@ pub fn played<W: Write>(
     )
 }
 
-/// How a run ends, in words.
+/// Returns how a run ends, in words.
 fn end_text(alloc: Global, end: Result<World, ScriptError>) -> Result<String, AllocError> {
     match end {
         Ok(world) => {
@@ -83,7 +83,7 @@ fn end_text(alloc: Global, end: Result<World, ScriptError>) -> Result<String, Al
     }
 }
 
-/// What a script tells that comes in pieces of at most so many bytes, on the sample with these rows more.
+/// Returns what a script reports that comes in pieces of at most this many bytes, on the sample with these rows more.
 pub fn told(alloc: Global, rows: &str, script: &str, most: usize) -> Result<String, AllocError> {
     let script = script.replace(alloc, "/", "\n")?;
     let bytes = script.as_bytes();

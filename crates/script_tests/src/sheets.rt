@@ -14,7 +14,7 @@ const SHEETS: &str = "\
 @swept_7_of_10/ -> OK 7/
 ";
 
-/// The line of the check of a sheet.
+/// Returns the line of the check of a sheet.
 fn verdict_on(alloc: Global, sheet: &str) -> Result<String, TextError> {
     let sheet = Sheet::read(alloc, sheet.as_bytes())?;
     let verdict = check(&sheet.view, &sheet.takes, &sheet.cut);
@@ -23,7 +23,7 @@ fn verdict_on(alloc: Global, sheet: &str) -> Result<String, TextError> {
     Ok(text.replace(alloc, "\n", "/")?)
 }
 
-/// What the check says of the sheet of a script's last sweep.
+/// Returns what the check says of the sheet of a script's last sweep.
 fn sheet_told(alloc: Global, transcript: &str) -> Result<String, TextError> {
     let written = told(alloc, "", &whole(alloc, transcript)?)?;
     let (_, sheet) = written.rsplit_once("SHEET ").unwrap_or(("", ""));

@@ -117,7 +117,7 @@ fn workers_sweep_what_they_saw(rt: HostRuntime) {
 /// What two offers may have taken: the lots of the first, `+`, and those of the second.
 const WAYS_TO_13: &str = "3+10 4+9 5+8 6+7 7+6 8+5 9+4 10+3";
 
-/// The same under one guarantor of two carrying firms with 8 lots each.
+/// The same under one guarantor for two carrying firms with 8 lots each.
 const WAYS_TO_10: &str = "2+8 3+7 4+6 5+5 6+4 7+3 8+2";
 
 /// A guarantor with room for 10 lots, of two carrying firms with room for 8 each, and 10 lots for each, swept. The takes are left open.
@@ -138,7 +138,7 @@ GIVEUP E1 L1 R1 A1 10/< 13 OK OFFERS 1 1/
 GIVEUP E2 L2 R2 A3 10/< 14 OK OFFERS 2 2/
 SWEEP G1/< 15 SWEPT G1 10/< SHEET G1 12/< OFFER 1 10 P1 E1 A1 C1 E2/< OFFER 2 10 P4 E2 A3 C2 E2/< ROOM EXEC E1 100/< ROOM AGR P1 100/< ROOM ACCT A1 100/< ROOM CARRY C1 8/< ROOM GUAR E2 10/< ROOM EXEC E2 100/< ROOM AGR P4 100/< ROOM ACCT A3 100/< ROOM CARRY C2 8/< TAKE 1 @takes/< CUT GUAR E2/< END/";
 
-/// Whether what was told is what was expected with one of these takes.
+/// Returns whether the outcome is the expected one, with one of these takes.
 fn is_one_of(alloc: Global, told: &str, expected: &str, ways: &str) -> Result<bool, AllocError> {
     for way in ways.split(' ') {
         let takes = way.replace(alloc, "+", "/TAKE 2 ")?;

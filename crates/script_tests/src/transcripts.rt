@@ -1,4 +1,4 @@
-//! Scripts and their texts: transcripts. In one `/` ends a line, and lines that begin with `< ` are what is answered; ends of lines of the
+//! Scripts and their texts: transcripts. In one `/` ends a line, and lines that begin with `< ` are answers; ends of lines of the
 //! transcript itself mean nothing, and `@opened/` is the part of this name.
 
 use crate::plays;
@@ -7,9 +7,10 @@ use std::alloc::{AllocError, Global};
 use std::process::Abort;
 use trials::columns;
 
-/// Parts of transcripts: a day with limits of 100 on each key of the first agreement (entries 1 to 5), trades of 10 and of 7 lots, the second
-/// given up, sheets of sweeps that take those, a claim, a claim of 6 and a proposal of 4, two offers of 5 lots under an agreement with room for 7, three
-/// offers that share an executing firm or an account by twos, and two under a carrying firm with room for 13, whose takes are left open.
+/// Parts of transcripts: a day with limits of 100 on each key of the first agreement (entries 1 to 5), trades of 10 and of 7 lots, the
+/// second given up, sheets of sweeps that take those, a claim, a claim of 6 and a proposal of 4, two offers of 5 lots under an agreement
+/// with room for 7, three offers that share an executing firm or an account by twos, and two under a carrying firm with room for 13, whose
+/// takes are left open.
 const PARTS: &str = "\
 @opened/
 DAY 20260105/< 1 OK/
@@ -91,7 +92,7 @@ REPORT E2 R2 M1 S XF6 20 101.5 H2/< 9 OK MATCHED/
 GIVEUP E1 L1 R1 A1 10 A2 10/< 10 OK OFFERS 1 2/
 SWEEP G1/< 11 SWEPT G1 13/< SHEET G1 8/< OFFER 1 10 P1 E1 A1 C1/< OFFER 2 10 P2 E1 A2 C1/< ROOM EXEC E1 100/< ROOM AGR P1 100/< ROOM ACCT A1 10/< ROOM CARRY C1 13/< ROOM AGR P2 100/< ROOM ACCT A2 10/< TAKE 1 @takes/< CUT CARRY C1/< END/";
 
-/// A transcript with its parts.
+/// Returns a transcript with its parts.
 pub fn whole(alloc: Global, transcript: &str) -> Result<String, AllocError> {
     let mut text = String::from_str(alloc, transcript)?;
     for part in PARTS.split("\n\n") {
@@ -101,7 +102,7 @@ pub fn whole(alloc: Global, transcript: &str) -> Result<String, AllocError> {
     text.replace(alloc, "\n", "")
 }
 
-/// The script of a whole transcript.
+/// Returns the script of a whole transcript.
 pub fn script_of(alloc: Global, transcript: &str) -> Result<String, AllocError> {
     let mut script = String::new(alloc);
     for line in transcript.split_inclusive('/') {
@@ -112,7 +113,7 @@ pub fn script_of(alloc: Global, transcript: &str) -> Result<String, AllocError> 
     Ok(script)
 }
 
-/// What answers the script of a whole transcript.
+/// Returns what answers the script of a whole transcript.
 pub fn answers_of(alloc: Global, transcript: &str) -> Result<String, AllocError> {
     let mut answers = String::new(alloc);
     for line in transcript.split_inclusive('/') {
@@ -123,13 +124,13 @@ pub fn answers_of(alloc: Global, transcript: &str) -> Result<String, AllocError>
     Ok(answers)
 }
 
-/// What the script of a whole transcript tells, on the sample with these rows more.
+/// Returns what the script of a whole transcript reports, on the sample with these rows more.
 pub fn told(alloc: Global, rows: &str, transcript: &str) -> Result<String, AllocError> {
     let script = script_of(alloc, transcript)?;
     plays::told(alloc, rows, &script, 4_096)
 }
 
-/// What it is to tell.
+/// Returns what it is to report.
 pub fn expected(alloc: Global, end: &str, transcript: &str) -> Result<String, AllocError> {
     let answers = answers_of(alloc, transcript)?;
     let end = if end.is_empty() { "done" } else { end };

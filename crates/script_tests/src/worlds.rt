@@ -9,7 +9,7 @@ use gu_world::{Outcome, Outcomes};
 use std::alloc::{AllocError, Global};
 use std::io;
 
-/// The sum of the numbers of the receipts.
+/// Returns the sum of the numbers of the receipts.
 fn numbers_of(outcomes: &Outcomes<'_>) -> Result<u64, AllocError> {
     let mut sum: u64 = 0;
     for place in 0..outcomes.len() {
@@ -20,7 +20,7 @@ fn numbers_of(outcomes: &Outcomes<'_>) -> Result<u64, AllocError> {
     Ok(sum)
 }
 
-/// How many entries a book has, the sum of the numbers of the script's receipts, and how many lots A1 has of XF6, long and short.
+/// Returns how many entries a book has, the sum of the numbers of the script's receipts, and how many lots A1 has of XF6, long and short.
 fn world_told(alloc: Global, transcript: &str) -> Result<String, ScriptError> {
     let script = script_of(alloc, &whole(alloc, transcript)?)?.replace(alloc, "/", "\n")?;
     let script = Pieces {

@@ -11,7 +11,7 @@ fn has_memory(alloc: Global) -> bool {
     Vec::<u8>::with_capacity(alloc, 1).is_ok()
 }
 
-/// Reads the file, at the second try if memory is refused to the first.
+/// Reads the file, retrying once if memory is refused.
 fn read_again(alloc: Global, firms: &[FirmId]) -> Result<Secrets, SecretsFault> {
     match Secrets::read(alloc, FILE.as_bytes(), firms) {
         Err(SecretsFault::Memory) => Secrets::read(alloc, FILE.as_bytes(), firms),
@@ -19,7 +19,7 @@ fn read_again(alloc: Global, firms: &[FirmId]) -> Result<Secrets, SecretsFault> 
     }
 }
 
-/// Issues a secret, at the second try if memory is refused to the first.
+/// Issues a secret, retrying once if memory is refused.
 fn issued_again(alloc: Global, firm: &FirmId) -> Result<Issued, AllocError> {
     match issue(alloc, *firm, [7; 32]) {
         Ok(issued) => Ok(issued),
@@ -27,7 +27,7 @@ fn issued_again(alloc: Global, firm: &FirmId) -> Result<Issued, AllocError> {
     }
 }
 
-/// Returns the firms of the house, at the second try if memory is refused to the first.
+/// Returns the firms of the house, retrying once if memory is refused.
 fn firms_again(alloc: Global) -> Result<Vec<FirmId>, AllocError> {
     match firms(alloc) {
         Ok(firms) => Ok(firms),

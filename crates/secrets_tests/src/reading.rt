@@ -4,7 +4,7 @@ use crate::sample::{FILE, read};
 use gu_secrets::SecretsFault;
 use std::alloc::{AllocError, Global};
 
-/// What stands in the place of which part of the file, and what is then said of it.
+/// A part of the file, its replacement, and the verdict on the file then.
 const ROWS: &[(&str, &str, &str)] = &[
     ("", "", "OK"),
     // The firm.
@@ -46,7 +46,7 @@ const ROWS: &[(&str, &str, &str)] = &[
     ("ec37bb", "ec37bb\r\n\r\n", "OK"),
 ];
 
-/// Returns what is said of a file.
+/// Returns the verdict on a file.
 fn told(alloc: Global, file: &[u8]) -> Result<String, AllocError> {
     match read(alloc, file) {
         Ok(_) => String::from_str(alloc, "OK"),

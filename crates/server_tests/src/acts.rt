@@ -18,9 +18,9 @@ pub enum Act {
     Comes,
     /// The firm of a connection sends what these lines say, and is answered as they say.
     Says(usize, &'static str, &'static str),
-    /// The firm of a connection sends what these lines say, and its connection is closed without a byte.
+    /// The firm of a connection sends what these lines say, and its connection is closed silently.
     IsTurnedAway(usize, &'static str, &'static str),
-    /// A connection is closed without a byte, though nothing is sent.
+    /// A connection is closed silently, though nothing was sent.
     IsRefused(usize),
     /// The firm of a connection logs out with a message of this number, and its connection is closed.
     LogsOut(usize, &'static str, u64),

@@ -1,4 +1,4 @@
-//! Days of a server that end after so many connections, from the first to the audit.
+//! Days of a server that end after this many connections, from the first to the audit.
 
 use crate::clients::Client;
 use crate::doings::Doing;

@@ -19,7 +19,7 @@ use std::{io, thread};
 /// How many lots a firm gives up while an operator sweeps.
 const SWEPT_BESIDE: u64 = 46;
 
-/// Goes through a connection. Nothing comes after what its lines say, where they say nothing.
+/// Goes through a connection. If its lines are empty, nothing is sent.
 fn go_through(rt: &impl Abort, client: Client, visit: &Visit) -> io::Result<()> {
     let (came, want, more) = client.visit(visit)?;
     assert_eq!(rt; came, want);
@@ -27,7 +27,7 @@ fn go_through(rt: &impl Abort, client: Client, visit: &Visit) -> io::Result<()> 
     Ok(())
 }
 
-/// A connection from its begin to its end.
+/// Runs a connection from its beginning to its end.
 fn connect<R: Net<Listener = TcpListener, Stream = TcpStream> + Abort>(
     rt: &R,
     alloc: Global,
@@ -37,7 +37,7 @@ fn connect<R: Net<Listener = TcpListener, Stream = TcpStream> + Abort>(
     go_through(rt, Client::open(rt, alloc, port)?, visit)
 }
 
-/// The connections, one after the other. One that fails doesn't keep the server waiting for the others.
+/// Runs connections one after another. One that fails doesn't keep the server waiting for the others.
 fn visit_all<R: Net<Listener = TcpListener, Stream = TcpStream> + Abort>(
     rt: &R,
     alloc: Global,
@@ -54,7 +54,7 @@ fn visit_all<R: Net<Listener = TcpListener, Stream = TcpStream> + Abort>(
     result
 }
 
-/// The carrying firm logs on and sends nothing more; then the executing firm gives up its lots, and the offer comes.
+/// Waits for the offer: the carrying firm logs on and sends nothing more; then the executing firm gives up its lots.
 fn wait_for_the_offer<R: Net<Listener = TcpListener, Stream = TcpStream> + Abort>(
     rt: &R,
     alloc: Global,
@@ -73,7 +73,7 @@ fn wait_for_the_offer<R: Net<Listener = TcpListener, Stream = TcpStream> + Abort
     Ok(())
 }
 
-/// A firm logs on, and sends 100 TestRequests of 1,000 letters in one burst. Their answers, which are more than a connection holds, come in
+/// Logs a firm on, and sends 100 TestRequests of 1,000 letters in one burst. Their answers, which are more than a connection holds, come in
 /// order.
 fn send_much<R: Net<Listener = TcpListener, Stream = TcpStream> + Abort>(
     rt: &R,
@@ -98,7 +98,7 @@ fn send_much<R: Net<Listener = TcpListener, Stream = TcpStream> + Abort>(
     Ok(())
 }
 
-/// A firm logs on, and asks for what it was sent again and again, without reading, until its connection is ended.
+/// Logs a firm on, and asks again and again for what it was sent, without reading, until its connection is ended.
 fn ask_and_read_nothing<R: Net<Listener = TcpListener, Stream = TcpStream> + Abort>(
     rt: &R,
     alloc: Global,
@@ -119,7 +119,7 @@ fn ask_and_read_nothing<R: Net<Listener = TcpListener, Stream = TcpStream> + Abo
     Ok(())
 }
 
-/// One firm is there first. Once it was said that nobody else can be accepted, another connects, and then the first logs out.
+/// Connects a firm, then another once the log says that nobody else can be accepted; then the first logs out.
 fn come_later<R: Net<Listener = TcpListener, Stream = TcpStream> + Abort + Wait + Clock>(
     rt: &R,
     alloc: Global,
@@ -141,7 +141,7 @@ fn come_later<R: Net<Listener = TcpListener, Stream = TcpStream> + Abort + Wait 
     go_through(rt, second, &GIVES_UP)
 }
 
-/// A firm gives up one lot of its report, and is told that the lot was swept. Its offer has this number, as has its give-up.
+/// Gives up one lot of a firm's report, and reads that the lot was swept. Its offer has this number, as has its give-up.
 fn give_up_one(rt: &impl Abort, alloc: Global, client: &mut Client, number: u64) -> io::Result<()> {
     let sent = number.saturating_add(1);
     let told = number.saturating_mul(2).saturating_add(1);
@@ -159,7 +159,7 @@ fn give_up_one(rt: &impl Abort, alloc: Global, client: &mut Client, number: u64)
     Ok(())
 }
 
-/// A firm gives up one lot after the other, while an operator sweeps its group as fast as he can: sweepers find the group changed, and
+/// Gives up a firm's lots one by one, while an operator sweeps its group as fast as he can: sweepers find the group changed, and
 /// leave sweeps out. What the firm gives up after that is swept all the same.
 fn give_up_beside_sweeps<R: Net<Listener = TcpListener, Stream = TcpStream> + Abort>(
     rt: &R,
@@ -187,7 +187,7 @@ fn give_up_beside_sweeps<R: Net<Listener = TcpListener, Stream = TcpStream> + Ab
 pub enum Doing {
     /// They connect one after the other.
     Visits(&'static [Visit]),
-    /// The same, where the sessions of one firm make this percentage at most.
+    /// The same, if the sessions of one firm make this percentage at most.
     VisitsWithin(u16, &'static [Visit]),
     /// One waits for what the other offers.
     Waits,
@@ -197,7 +197,7 @@ pub enum Doing {
     LogsOnTooLate,
     /// One asks much and reads nothing; a write waits for it for 0.2 seconds.
     DoesNotRead,
-    /// One comes once it was said that nobody is accepted before one that was there first has gone.
+    /// One comes after the log says that nobody is accepted until a firm that was there first has gone.
     ComesLater,
     /// Firms and an operator act in turn.
     Acts(&'static [Act]),
@@ -206,7 +206,7 @@ pub enum Doing {
 }
 
 impl Doing {
-    /// By how many seconds the time since the machine's start grows at each look.
+    /// Returns by how many seconds the time since the machine's start grows at each look.
     pub fn leap(self) -> u64 {
         match self {
             Doing::LogsOnTooLate | Doing::DoesNotRead => 10,
@@ -214,7 +214,7 @@ impl Doing {
         }
     }
 
-    /// The percentage that the sessions of one firm make at most.
+    /// Returns the percentage that the sessions of one firm make at most.
     pub fn share(self) -> u16 {
         match self {
             Doing::VisitsWithin(share, _) => share,
@@ -222,7 +222,7 @@ impl Doing {
         }
     }
 
-    /// How many milliseconds a write waits.
+    /// Returns how many milliseconds a write waits.
     pub fn write_wait_ms(self) -> u64 {
         match self {
             Doing::DoesNotRead => 200,
@@ -241,7 +241,7 @@ pub struct There {
     pub operator: UnixStream,
 }
 
-/// Does what firms do on a day. One that was there first gives up its lots, where no more is said of it.
+/// Does what firms do on a day. A firm that was there first gives up its lots, if the row says nothing else about it.
 pub fn do_all<R: Net<Listener = TcpListener, Stream = TcpStream> + Abort + Wait + Clock>(
     rt: &R,
     alloc: Global,

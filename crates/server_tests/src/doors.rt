@@ -7,7 +7,7 @@ use std::io::{Error, ErrorKind};
 use std::os::unix::net::UnixStream;
 use std::time::Duration;
 
-/// A door at which an accept that finds nobody fails, where it is said so, and at which one operator may stand.
+/// A door at which one operator may wait; an accept that finds nobody fails, if the row says so.
 #[derive(Drop)]
 pub struct TestDoor {
     pub doorway: Doorway,

@@ -5,7 +5,7 @@ ghost use Rattle.std.specs.Prelude.{[]};
 use gu_journal::{Device, DeviceError};
 use std::alloc::{AllocError, Global};
 
-/// A device in memory that answers so many calls, and then fails. It is never honest, so no clause speaks of it.
+/// A device in memory that answers this many calls, and then fails. It is never honest, so no clause speaks of it.
 #[derive(Drop)]
 pub struct FrailDevice {
     pub bytes: Vec<u8>,

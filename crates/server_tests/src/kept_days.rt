@@ -84,7 +84,7 @@ fn opened_journal(
     }
 }
 
-/// A book after the script of a row, and its journal on a device that answers so many calls.
+/// Returns a book after the script of a row, and its journal on a device that answers this many calls.
 fn begun_on(rt: &impl Abort, alloc: Global, row: &Row, calls: u32) -> Begun<Log<FrailDevice>> {
     let (book, receipts) = book_after(alloc, row.begin).ok().expect(rt, "a book");
     let device = FrailDevice {
@@ -149,7 +149,7 @@ fn check_lost<R: Wait + Clock + Abort>(
     );
 }
 
-/// Where connections come in.
+/// Returns the ways in for connections.
 fn outside(rt: &HostRuntime) -> Result<Outside, Fail> {
     Ok(Outside {
         listener: TcpListener::bind(rt, ("127.0.0.1", 0))?,

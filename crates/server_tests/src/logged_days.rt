@@ -1,4 +1,4 @@
-//! Days whose log is read: each thing that happens is said once.
+//! Days whose log is read: each event is logged once.
 
 use crate::acts::Act;
 use crate::doings::Doing;
@@ -86,7 +86,7 @@ const SWEPT_LOG: &[&str] = &[
     "20260105-09:00:00.000 sweep.made group=G1 entry=9 lots=10 tries=1",
 ];
 
-/// A day on which a firm makes all of its share, which is said once, and is refused what goes past it. Another firm isn't.
+/// A day on which a firm uses up its share: that is logged once, and the firm is refused what goes past it, while another isn't.
 const SHARED: Row = Row {
     begin: A_LARGE_TRADE,
     doing: Doing::VisitsWithin(1, &[GIVES_UP_TOO_OFTEN, GIVES_UP_OF_ANOTHER]),
@@ -126,7 +126,7 @@ fn sorted_lines(alloc: Global, text: &str) -> Result<String, AllocError> {
     text_of(alloc, lines.as_slice())
 }
 
-/// Returns where connections come in.
+/// Returns the ways in for connections.
 fn outside(listener: TcpListener) -> Outside {
     Outside {
         listener,

@@ -10,7 +10,7 @@ use std::sync::{Mutex, Wait};
 use std::thread::Threads;
 use std::time::Duration;
 
-/// A machine on which it is always nine on 2026-01-05. The time since its start grows by so many seconds at each look.
+/// A machine on which it is always nine on 2026-01-05. The time since its start grows by this many seconds at each look.
 #[derive(Drop)]
 pub struct Machine<'a, R> {
     rt: &'a R,
@@ -20,7 +20,7 @@ pub struct Machine<'a, R> {
 }
 
 impl<'a, R> Machine<'a, R> {
-    /// A machine that starts. What is printed on its standard error goes there.
+    /// Returns a machine that starts. What is printed on its standard error goes there.
     pub fn new(rt: &'a R, leap: u64, said: &'a Mutex<Vec<u8>>) -> Self {
         Machine {
             rt,

@@ -1,4 +1,4 @@
-//! The end of a day where allocations fail. The test passes whichever fail.
+//! The end of a day if allocations fail. The test passes whichever fail.
 
 use crate::opening::{A_TRADE, book_after};
 use gu_book::Book;
@@ -7,7 +7,7 @@ use gu_terms::Receipt;
 use std::alloc::Global;
 use std::process::Abort;
 
-/// A day that has ended with this book and these receipts. None where an allocation fails.
+/// Returns a day that has ended with this book and these receipts. None if an allocation fails.
 fn closed_of(alloc: Global, book: Book, receipts: Vec<Receipt>) -> Option<Closed> {
     let Ok(receipts) = DayReceipts::new(alloc, receipts, 0) else {
         drop(book);
@@ -20,7 +20,7 @@ fn closed_of(alloc: Global, book: Book, receipts: Vec<Receipt>) -> Option<Closed
     })
 }
 
-/// Asserts that the lines of a day's end are these, where there was memory for them.
+/// Asserts that the lines of a day's end are these, if there was memory for them.
 fn check_lines(rt: &impl Abort, end: DayEnd, lines: &str) {
     if let Ok((text, is_well)) = end {
         assert!(rt; is_well);

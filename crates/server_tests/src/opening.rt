@@ -80,7 +80,7 @@ REPORT E1 R3 M3 B YF6 10 101.5 H1
 REPORT E2 R4 M3 S YF6 10 101.5 H2
 ";
 
-/// The book of the sample after a script, and the receipts of its entries.
+/// Returns the book of the sample after a script, and the receipts of its entries.
 pub fn book_after(alloc: Global, script: &str) -> Result<(Book, Vec<Receipt>), ScriptError> {
     let Ok(reference) = Reference::read(alloc, &mut CountedReads::new(ROWS.as_bytes())) else {
         return Err(ScriptError::Read);

@@ -12,7 +12,7 @@ use std::test::Fail;
 /// The Logout that each firm gets when the day is closed.
 const CLOSING: &str = "out 5 2 58=Closing|\n";
 
-/// The same to a firm that was told of an offer.
+/// The same for a firm that has received a notice of an offer.
 const CLOSING_AFTER_AN_OFFER: &str = "out 5 3 58=Closing|\n";
 
 /// A firm's answer to it.
@@ -45,7 +45,7 @@ const ROWS: &[Row] = &[
         every: 0,
         end: "ENTRIES 8\nSWEPT 0\nAUDIT OK\n",
     },
-    // A connection for which there is no place is closed without a byte, and those that have one go on.
+    // A connection for which there is no place is closed silently, and those that have one go on.
     Row {
         begin: A_TRADE,
         span: Span::UntilClosed(2, 1),
@@ -91,7 +91,7 @@ const ROWS: &[Row] = &[
         every: 0,
         end: "ENTRIES 7\nSWEPT 0\nAUDIT OK\n",
     },
-    // One firm is told of what another has entered in another worker, and what is sent after a Logout isn't entered.
+    // A firm receives notices of what another firm entered through another worker; what is sent after a Logout isn't entered.
     Row {
         begin: A_TRADE,
         span: Span::UntilClosed(4, 2),
@@ -136,7 +136,7 @@ const ROWS: &[Row] = &[
         every: 0,
         end: "ENTRIES 8\nSWEPT 0\nAUDIT OK\n",
     },
-    // An operator's sweep is told to the firms that it informs.
+    // The firms that an operator's sweep informs receive its notices.
     Row {
         begin: A_TRADE,
         span: Span::UntilClosed(2, 2),

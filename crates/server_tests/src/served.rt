@@ -68,7 +68,7 @@ pub struct Row {
     pub end: &'static str,
 }
 
-/// Where connections come in on a day, and who is there when it begins.
+/// The ways in on a day, and who is there when it begins.
 #[derive(Drop)]
 pub struct Outside {
     pub listener: TcpListener,
@@ -86,14 +86,14 @@ pub fn port_of(listener: &TcpListener) -> u16 {
     }
 }
 
-/// The two ends of a day: where connections come in, and who is there.
+/// The two ends of a day: the ways in for connections, and who is there.
 #[derive(Drop)]
 struct Ends {
     front: Front<TestDoor>,
     there: There,
 }
 
-/// Returns the two ends of a day, where one operator is at the console.
+/// Returns the two ends of a day, if one operator is at the console.
 fn ends_of<R: Net<Listener = TcpListener, Stream = TcpStream> + Abort>(
     rt: &R,
     alloc: Global,
@@ -130,14 +130,14 @@ fn ends_of<R: Net<Listener = TcpListener, Stream = TcpStream> + Abort>(
     }
 }
 
-/// Where a day says what happens: its standard error, and its log.
+/// The outputs to which a day says what happens: its standard error, and its log.
 #[derive(Clone, Copy)]
 pub struct Told<'s, 'l> {
     pub said: &'s Mutex<Vec<u8>>,
     pub log: &'l EventLog,
 }
 
-/// The end of a day, while this is done beside it.
+/// Returns the end of a day, while this is done beside it.
 fn day<
     E: EntryLedger + Send + Sync,
     S: LotLedger + Send + Sync,
@@ -180,7 +180,7 @@ where
     served
 }
 
-/// What the day of a row begins with, of a book that has this journal, or none.
+/// Returns the beginning of a row's day, for a book with this journal, or none.
 fn opening_of<K: Sink + Drop>(
     rt: &impl Abort,
     alloc: Global,
@@ -210,7 +210,7 @@ pub struct Begun<K: Sink> {
     ghost journaled: { IfSome journal (λ j. IsChainOf j.chain book.history) } by { Prim.hlevel props },
 }
 
-/// What the day of a row comes to that begins so.
+/// Returns the outcome of a row's day that begins in this way.
 pub fn served_from<
     R: Net<Listener = TcpListener, Stream = TcpStream> + Threads + Wait + Clock + Abort + Sync,
     K: Sink + Send + Drop,
@@ -230,7 +230,7 @@ where
     served.ok().expect(rt, "a day")
 }
 
-/// What the day of a row comes to, which has no journal.
+/// Returns the outcome of a row's day without a journal.
 pub fn end_of<
     R: Net<Listener = TcpListener, Stream = TcpStream> + Threads + Wait + Clock + Abort + Sync,
 >(rt: &R, alloc: Global, outside: Outside, row: &Row, said: &Mutex<Vec<u8>>) -> (Closed, Closers) {
@@ -239,7 +239,7 @@ pub fn end_of<
     end_of_told(rt, alloc, outside, row, told)
 }
 
-/// The same of a day that says there what happens.
+/// Returns the same for a day that writes its events to these outputs.
 pub fn end_of_told<
     R: Net<Listener = TcpListener, Stream = TcpStream> + Threads + Wait + Clock + Abort + Sync,
 >(rt: &R, alloc: Global, outside: Outside, row: &Row, told: Told<'_, '_>) -> (Closed, Closers) {

@@ -1,4 +1,4 @@
-//! What firms say to a server on a day, and what they are told.
+//! What firms send to a server on a day, and what they receive.
 
 use crate::clients::{Ending, Visit};
 
@@ -12,7 +12,7 @@ out A 1 98=0|108=30|1137=9|
 out AE 2 571=7-B|572=R1|573=0|880=M1|55=XF6|32=10|31=101.5|75=20260105|552=1|54=1|1=H1|
 ";
 
-/// The same of a trade of fifty lots.
+/// The same for a trade of fifty lots.
 pub const LOGON_OF_A_LARGE_TRADE: &str = "\
 in A 1 98=0|108=30|1137=9|
 out A 1 98=0|108=30|1137=9|
@@ -32,8 +32,8 @@ in J 2 70=L1|71=0|53=10|124=1|17=R1|78=1|79=A1|80=10|
 out P 3 70=L1|87=0|
 ";
 
-/// A firm gives up forty lots of its report of fifty, each by a line of its own, and then one more, for which it has no share: 40 offers are
-/// all of 1 in 100.
+/// A firm gives up forty lots of its report of fifty, each by a line of its own, and then one more, for which it has no share: 40 offers
+/// are all of 1 in 100.
 pub const GIVES_UP_TOO_OFTEN: Visit = Visit {
     firm: "E1",
     parts: &[

@@ -1,4 +1,4 @@
-//! Where firms and operators come in: sockets at paths, and what becomes of them where one can't be had.
+//! The ways in for firms and operators: sockets at paths, and what becomes of them if one can't be had.
 
 use crate::rooms::Room;
 use gu_office::{Addresses, FirmDoors, ListenError};
@@ -16,7 +16,7 @@ fn firms(rt: &impl Abort) -> [FirmId; 3] {
     [firm(b"E1"), firm(b"E-2"), firm(b"C1")]
 }
 
-/// Returns whether none of the sockets stays behind in a room.
+/// Returns whether none of the sockets stays after in a room.
 fn is_bare(rt: &HostRuntime, room: &Room, names: &[&str]) -> Result<bool, Fail> {
     for name in names {
         if room.has(rt, name)? {

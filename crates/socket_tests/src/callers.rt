@@ -7,7 +7,7 @@ use std::net::TcpStream;
 use std::os::unix::net::UnixStream;
 use std::test::Fail;
 
-/// The doors of a hundred firms.
+/// Returns the doors of a hundred firms.
 fn hundred(rt: &HostRuntime) -> Result<Vec<String>, Fail> {
     let mut names = Vec::new(rt.alloc());
     for number in 0..100 {

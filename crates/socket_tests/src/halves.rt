@@ -23,7 +23,7 @@ fn readable_place(alloc: Global, poller: &mut SocketPoller) -> io::Result<Option
     Ok(None)
 }
 
-/// Reads what has come, which is this.
+/// Reads what has come, and asserts that it is this.
 fn check_read(rt: &impl Abort, reader: &mut SocketReader, want: &[u8]) -> Result<(), Fail> {
     let mut buf = [0_u8; 64];
     let count = reader.read(&mut buf)?;

@@ -1,4 +1,4 @@
-//! Tests of doors over sockets of this machine: by which way a firm comes in, whose turn it is, and what stands at a path.
+//! Tests of doors over sockets of this machine: by which way a firm comes in, whose turn it is, and what is at a path.
 #![tactic(auto)]
 
 #[cfg(test)]

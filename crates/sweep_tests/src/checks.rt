@@ -17,7 +17,7 @@ crossed:TAKE 2 13|CUT OFFER 8|CUT ACCT A3| -> FAULT 5 Unknown ACCT A3|
 crossed:TAKE 2 10|TAKE 3 10|CUT GUAR E2| -> FAULT 5 Unknown GUAR E2|
 ";
 
-/// Of one agreement the oldest comes first, and that before what the cut lacks.
+/// The oldest offer of an agreement comes first, before what the cut lacks.
 const OF_ONE_AGREEMENT: &str = "\
 shared:TAKE 1 2|TAKE 2 5|CUT AGR P1| -> FAULT 6 NotOldestFirst 2|
 shared:TAKE 1 2|TAKE 2 5| -> FAULT 6 NotOldestFirst 2|

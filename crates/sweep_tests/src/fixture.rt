@@ -205,14 +205,14 @@ ROOM AGR P6 1000000000
 ROOM AGR P7 1000000000
 ROOM AGR P8 1000000000";
 
-/// The name of a block's view, and the view.
+/// Returns the name of a block's view, and the view.
 fn named(block: &str) -> (&str, &str) {
     let (head, view) = block.split_once('\n').unwrap_or((block, ""));
     let (name, _) = head.split_once(" (").unwrap_or((head, ""));
     (name, view)
 }
 
-/// The view of this name, without the end of its last line.
+/// Returns the view of this name, without the end of its last line.
 fn view_named(name: &str) -> &'static str {
     for block in VIEWS.split("\n\n") {
         let (found, view) = named(block);
@@ -223,7 +223,7 @@ fn view_named(name: &str) -> &'static str {
     ""
 }
 
-/// The text that a row speaks of. After the name of a view and `:` come the lines between its rooms and its end; else the
+/// Returns the text that a row speaks of. After the name of a view and `:` come the lines between its rooms and its end; else the
 /// row has the whole text.
 pub fn sheet_text_of(alloc: Global, asked: &str) -> Result<String, AllocError> {
     match asked.split_once(':') {

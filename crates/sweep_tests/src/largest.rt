@@ -4,7 +4,7 @@ use crate::sheets::Question;
 use crate::sweep::Telling;
 use std::alloc::{AllocError, Global};
 
-/// A line for each number from a first to a last, with the number in the place of each `#`.
+/// Returns a line for each number from a first to a last, with the number in the place of each `#`.
 fn numbered(alloc: Global, line: &str, first: u64, last: u64) -> Result<String, AllocError> {
     let mut text = String::new(alloc);
     for number in first..=last {
@@ -14,7 +14,7 @@ fn numbered(alloc: Global, line: &str, first: u64, last: u64) -> Result<String, 
     Ok(text)
 }
 
-/// The view of so many offers, each of its own agreement, into its own account, under its own firms, the guarantor among them.
+/// Returns the view of this many offers, each of its own agreement, into its own account, under its own firms, the guarantor among them.
 fn apart(alloc: Global, most: u64) -> Result<String, AllocError> {
     let offers = numbered(alloc, "OFFER # 1 P# E# A# C# F#|", 1, most)?;
     let rooms = "ROOM EXEC E# 1|ROOM AGR P# 1|ROOM ACCT A# 1|ROOM CARRY C# 1|ROOM GUAR F# 1|";
@@ -22,7 +22,7 @@ fn apart(alloc: Global, most: u64) -> Result<String, AllocError> {
     format!(in alloc; "SHEET G1 0|{offers}{rooms}")
 }
 
-/// The same with takes of all offers, and a cut of the keys of their accounts and of so many offers.
+/// Returns the same with takes of all offers, and a cut of the keys of their accounts and of this many offers.
 fn taken(alloc: Global, most: u64, cut: u64) -> Result<String, AllocError> {
     let view = apart(alloc, most)?;
     let takes = numbered(alloc, "TAKE # 1|", 1, most)?;
@@ -52,7 +52,7 @@ fn sheet_of_4097_offers_is_bad_at_its_end(rt: HostRuntime) {
     check_row(&rt, rt.alloc(), subject, &more, "bad at 24584");
 }
 
-/// The view of so many offers of 1,000,000 lots under one agreement, with as much room as there may be.
+/// Returns the view of this many offers of 1,000,000 lots under one agreement, with as much room as there may be.
 fn together(alloc: Global, most: u64) -> Result<String, AllocError> {
     let offers = numbered(alloc, "OFFER # 1000000 P1 E1 A1 C1|", 1, most)?;
     let rooms =
@@ -60,7 +60,7 @@ fn together(alloc: Global, most: u64) -> Result<String, AllocError> {
     format!(in alloc; "SHEET G1 0|{offers}{rooms}END|")
 }
 
-/// What is told of its sweep: the first thousand offers are taken in full, and the others not at all.
+/// Returns the outcome of its sweep: the first thousand offers are taken in full, and the others not at all.
 fn fills_a_thousand(alloc: Global, most: u64) -> Result<String, AllocError> {
     let full = numbered(alloc, "TAKE # 1000000|", 1, 1_000)?;
     let empty = numbered(alloc, "TAKE # 0|", 1_001, most)?;

@@ -1,5 +1,5 @@
 //! Calls that are refused memory: run with each allocation failing in turn, and with all of them failing from one on
-//! (tools/each-growth). What is refused memory is asked again, and what a call answers then, where there is memory, is as it would have
+//! (tools/each-growth). What is refused memory is asked again, and what a call answers then, if there is memory, is as it would have
 //! been.
 use crate::rows::{Subject, check_again};
 use crate::sheets::Question;

@@ -1,5 +1,5 @@
-//! Tables of tests: texts whose lines are rows. A row is what is asked and, after ` -> `, what is to be told; one with no
-//! ` -> ` is to be told nothing, which is an empty text. `|` ends a line, and `(x*9)` is nine times x.
+//! Tables of tests: texts whose lines are rows. A row is what is asked and, after ` -> `, the answer; a row with no
+//! ` -> ` has an empty answer. `|` ends a line, and `(x*9)` is nine times x.
 use crate::{script_lines, sheets, texts, view};
 use std::alloc::{AllocError, Global};
 use std::process::Abort;
@@ -7,7 +7,7 @@ use std::process::Abort;
 /// What the rows of a table ask.
 #[derive(Clone, Copy)]
 pub enum Subject {
-    /// What is told of this sheet, or its first bad line.
+    /// The verdict on this sheet, or its first bad line.
     Sheets(sheets::Question),
     /// Whether these offers and rooms make a view, and whether that is nested.
     Views,
@@ -21,7 +21,7 @@ pub enum Subject {
     Answers,
 }
 
-/// What the public calls tell of what is asked.
+/// Returns what the public calls answer to a question.
 pub fn told(alloc: Global, subject: Subject, asked: &str) -> Result<String, AllocError> {
     match subject {
         Subject::Sheets(question) => sheets::told(alloc, question, asked),
@@ -33,7 +33,7 @@ pub fn told(alloc: Global, subject: Subject, asked: &str) -> Result<String, Allo
     }
 }
 
-/// The same, at the second try where the first is refused memory.
+/// Returns the same, retrying once if memory is refused.
 fn told_again(alloc: Global, subject: Subject, asked: &str) -> Result<String, AllocError> {
     match told(alloc, subject, asked) {
         Ok(text) => Ok(text),
@@ -41,23 +41,23 @@ fn told_again(alloc: Global, subject: Subject, asked: &str) -> Result<String, Al
     }
 }
 
-/// What comes before the ` -> ` of a row, and what comes after it.
+/// Returns what comes before the ` -> ` of a row, and what comes after it.
 fn columns(row: &str) -> (&str, &str) {
     row.split_once(" -> ").unwrap_or((row, ""))
 }
 
-/// Asserts that what was told of what is asked is this.
+/// Asserts that this was the answer to what a row asks.
 fn check_told(rt: &impl Abort, asked: &str, told: Result<String, AllocError>, expected: &str) {
     let told = told.expect(rt, "memory");
     assert_eq!(rt; told.as_str(), expected, "{asked}");
 }
 
-/// Asserts that this is told of what is asked.
+/// Asserts that this is the answer to what a row asks.
 pub fn check_row(rt: &impl Abort, alloc: Global, subject: Subject, asked: &str, expected: &str) {
     check_told(rt, asked, told(alloc, subject, asked), expected);
 }
 
-/// Asserts that what each row of a table asks is told as the row says.
+/// Asserts that each row of a table has the answer that the row says.
 pub fn check(rt: &impl Abort, alloc: Global, subject: Subject, table: &str) {
     for row in table.lines() {
         let (asked, expected) = columns(row);
@@ -65,12 +65,12 @@ pub fn check(rt: &impl Abort, alloc: Global, subject: Subject, table: &str) {
     }
 }
 
-/// Whether there is memory.
+/// Returns whether there is memory.
 fn has_memory(alloc: Global) -> bool {
     Vec::<u8>::with_capacity(alloc, 1).is_ok()
 }
 
-/// The same, where a row that is refused memory is tried once more. Nothing is told once there is no memory any more.
+/// Asserts the same, trying a row once more if it is refused memory. Nothing is asserted once there is no memory any more.
 pub fn check_again(rt: &impl Abort, alloc: Global, subject: Subject, table: &str) {
     for row in table.lines() {
         let (asked, expected) = columns(row);
@@ -81,17 +81,17 @@ pub fn check_again(rt: &impl Abort, alloc: Global, subject: Subject, table: &str
     }
 }
 
-/// The first word of a text, and the rest after the space.
+/// Returns the first word of a text, and the rest after the space.
 pub fn first_word(text: &str) -> (&str, &str) {
     text.split_once(' ').unwrap_or((text, ""))
 }
 
-/// The number that a word writes.
+/// Returns the number that a word writes.
 pub fn number(word: &str) -> u64 {
     word.parse().unwrap_or(0)
 }
 
-/// A text of a row as it is meant: with ends of lines, and with what is to be repeated so many times.
+/// Returns a row's text with its signs replaced: with ends of lines, and with what is to be repeated this many times.
 pub fn meant(alloc: Global, text: &str) -> Result<String, AllocError> {
     let (front, rest) = text.split_once('(').unwrap_or((text, ""));
     let (unit, rest) = rest.split_once('*').unwrap_or(("", ""));
@@ -101,7 +101,7 @@ pub fn meant(alloc: Global, text: &str) -> Result<String, AllocError> {
     text.replace(alloc, "|", "\n")
 }
 
-/// What was written, as a row has it.
+/// Returns what was written, as a row has it.
 pub fn shown(alloc: Global, written: Result<Vec<u8>, AllocError>) -> Result<String, AllocError> {
     let bytes = written?;
     let text = str::from_utf8(&bytes).unwrap_or("?");

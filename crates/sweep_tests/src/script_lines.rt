@@ -5,22 +5,22 @@ use gu_text::{Line, TextError};
 use gu_world::Step;
 use std::alloc::{AllocError, Global};
 
-/// The text of a name.
+/// Returns the text of a name.
 fn name(bytes: &[u8]) -> &str {
     str::from_utf8(bytes).unwrap_or("?")
 }
 
-/// A kind and two names.
+/// Returns a kind and two names.
 fn named(alloc: Global, kind: &str, first: &[u8], second: &[u8]) -> Result<String, AllocError> {
     format!(in alloc; "{kind} {} {}", name(first), name(second))
 }
 
-/// A kind, a firm, and the number of an offer.
+/// Returns a kind, a firm, and the number of an offer.
 fn numbered(alloc: Global, kind: &str, firm: &FirmId, number: u64) -> Result<String, AllocError> {
     format!(in alloc; "{kind} {} {number}", name(firm.get()))
 }
 
-/// A limit on a key.
+/// Returns a limit on a key.
 fn limit_text(
     alloc: Global,
     group: &[u8],
@@ -35,7 +35,7 @@ fn limit_text(
     )
 }
 
-/// A firm and two ids.
+/// Returns a firm and two ids.
 fn ids(alloc: Global, firm: &FirmId, id: &Id, other: &Id) -> Result<String, AllocError> {
     format!(in alloc;
         "{} {} {}",
@@ -45,7 +45,7 @@ fn ids(alloc: Global, firm: &FirmId, id: &Id, other: &Id) -> Result<String, Allo
     )
 }
 
-/// A report, with millionths as its price.
+/// Returns a report, with millionths as its price.
 fn report_text(alloc: Global, report: &ReportSide) -> Result<String, AllocError> {
     let ids = ids(alloc, &report.firm, &report.id, &report.match_id)?;
     let names = named(alloc, "", report.symbol.get(), report.account.get())?;
@@ -57,7 +57,7 @@ fn report_text(alloc: Global, report: &ReportSide) -> Result<String, AllocError>
     )
 }
 
-/// The accounts and lots of a give-up.
+/// Returns the accounts and lots of a give-up.
 fn pairs_text(alloc: Global, lines: &[GiveUpLine]) -> Result<String, AllocError> {
     let mut text = String::new(alloc);
     for line in lines {
@@ -67,7 +67,7 @@ fn pairs_text(alloc: Global, lines: &[GiveUpLine]) -> Result<String, AllocError>
     Ok(text)
 }
 
-/// What a command asks for.
+/// Returns what a command asks for.
 fn command_text(alloc: Global, command: &Command) -> Result<String, AllocError> {
     match command {
         Command::OpenDay(opening) => format!(in alloc; "day {:?}", opening.day.get()),
@@ -87,7 +87,7 @@ fn command_text(alloc: Global, command: &Command) -> Result<String, AllocError> 
     }
 }
 
-/// What a line asks for.
+/// Returns what a line asks for.
 fn said_text(alloc: Global, line: &Line) -> Result<String, AllocError> {
     match line {
         Line::Step(Step::Enter(command)) => command_text(alloc, command),
@@ -103,7 +103,7 @@ fn said_text(alloc: Global, line: &Line) -> Result<String, AllocError> {
     }
 }
 
-/// What is told of line 7.
+/// Returns the outcome of line 7.
 fn line_told(alloc: Global, line: &[u8]) -> Result<String, AllocError> {
     match Line::read(alloc, line, 7) {
         Ok(Some(said)) => said_text(alloc, &said),
@@ -113,7 +113,7 @@ fn line_told(alloc: Global, line: &[u8]) -> Result<String, AllocError> {
     }
 }
 
-/// What is told of a row's line.
+/// Returns the outcome of a row's line.
 pub fn told(alloc: Global, asked: &str) -> Result<String, AllocError> {
     let line = meant(alloc, asked)?;
     line_told(alloc, line.as_bytes())

@@ -26,7 +26,7 @@ GUAR F1
 GUAR F2
 ";
 
-/// The next number of a series, and a part of it below a bound.
+/// Returns the next number of a series, and a part of it below a bound.
 fn draw(seed: &mut u64, below: u64) -> u64
     requires { 0 < below }
     ensures { result < below }
@@ -37,7 +37,7 @@ fn draw(seed: &mut u64, below: u64) -> u64
     (*seed >> 33) % below
 }
 
-/// The guarantor of a carrying firm in a turn: none has one, the first alone, both the same, or each its own.
+/// Returns the guarantor of a carrying firm in a turn: none has one, the first alone, both the same, or each its own.
 fn guarantor(turn: u64, carrier: u64) -> &'static str {
     match (turn % 4, carrier) {
         (0, _) | (1, 2) => "",
@@ -46,7 +46,7 @@ fn guarantor(turn: u64, carrier: u64) -> &'static str {
     }
 }
 
-/// The firm, the account, the carrying firm and its guarantor of an agreement: of six, three are of each firm, each with its account.
+/// Returns an agreement's firm, account, carrying firm and guarantor. Three of the six belong to each firm, each with its account.
 fn parties(alloc: Global, turn: u64, agreement: u64) -> Result<String, AllocError> {
     let firm = if agreement <= 3 { 1 } else { 2 };
     let account = agreement % 3 + 1;
@@ -55,7 +55,7 @@ fn parties(alloc: Global, turn: u64, agreement: u64) -> Result<String, AllocErro
     format!(in alloc; "E{firm} A{account} C{carrier}{guarantor}")
 }
 
-/// An offer of one to four lots.
+/// Returns an offer of one to four lots.
 fn offer_line(alloc: Global, seed: &mut u64, turn: u64, number: u64) -> Result<String, AllocError> {
     let agreement = draw(seed, 6) + 1;
     let lots = draw(seed, 4) + 1;
@@ -63,7 +63,7 @@ fn offer_line(alloc: Global, seed: &mut u64, turn: u64, number: u64) -> Result<S
     format!(in alloc; "OFFER {number} {lots} P{agreement} {parties}|")
 }
 
-/// One to five offers, after six older ones.
+/// Returns one to five offers, after six older ones.
 fn offer_lines(alloc: Global, seed: &mut u64, turn: u64) -> Result<String, AllocError> {
     let mut text = String::new(alloc);
     for number in 7..=draw(seed, 5) + 7 {
@@ -72,7 +72,7 @@ fn offer_lines(alloc: Global, seed: &mut u64, turn: u64) -> Result<String, Alloc
     Ok(text)
 }
 
-/// Six older offers, which mention firms and accounts in an order of their own. Each is of an agreement of its own.
+/// Returns six older offers, which mention firms and accounts in an order of their own. Each is of an agreement of its own.
 fn older_lines(alloc: Global, seed: &mut u64, turn: u64) -> Result<String, AllocError> {
     let mut text = String::new(alloc);
     let first = draw(seed, 6);
@@ -85,7 +85,7 @@ fn older_lines(alloc: Global, seed: &mut u64, turn: u64) -> Result<String, Alloc
     Ok(text)
 }
 
-/// The room of a key with so many lots, where one of the offers comes under it.
+/// Returns the room of a key with this many lots, if one of the offers comes under it.
 fn room_line(alloc: Global, offers: &str, key: &str, lots: u64) -> Result<String, AllocError> {
     let (_, name) = first_word(key);
     if offers.contains(name) {
@@ -95,7 +95,7 @@ fn room_line(alloc: Global, offers: &str, key: &str, lots: u64) -> Result<String
     }
 }
 
-/// A room of 0 to 7 lots for each of the keys of offers that are of firms or of six agreements.
+/// Returns a room of 0 to 7 lots for each of the keys of offers that are of firms or of six agreements.
 fn room_lines(alloc: Global, seed: &mut u64, offers: &str) -> Result<String, AllocError> {
     let mut rooms = String::new(alloc);
     for key in KEYS.lines() {
@@ -105,7 +105,7 @@ fn room_lines(alloc: Global, seed: &mut u64, offers: &str) -> Result<String, All
     Ok(rooms)
 }
 
-/// A sheet of these offers and rooms.
+/// Returns a sheet of these offers and rooms.
 fn sheet_of(alloc: Global, offers: &str, rooms: &str) -> Result<String, AllocError> {
     format!(in alloc; "SHEET G1 11|{offers}{rooms}END|")
 }
@@ -121,11 +121,11 @@ fn sheet_drawn(alloc: Global, seed: &mut u64, turn: u64) -> Result<String, Alloc
 const NO_ROOMS: &str =
     "ROOM AGR Q1 0|ROOM AGR Q2 0|ROOM AGR Q3 0|ROOM AGR Q4 0|ROOM AGR Q5 0|ROOM AGR Q6 0|";
 
-/// What is taken of the six older offers.
+/// The takes of the six older offers.
 const NO_TAKES: &str = "TAKE 1 0|TAKE 2 0|TAKE 3 0|TAKE 4 0|TAKE 5 0|TAKE 6 0|";
 
-/// A sheet, and the same after six older offers under which nothing can be taken. Those mention all keys of firms and accounts, and a room
-/// comes where its key is mentioned first, so the second has its rooms in another order.
+/// Returns a sheet, and the same after six older offers under which nothing can be taken. Those mention all keys of firms and accounts, and
+/// a room comes at the first mention of its key, so the second sheet has its rooms in another order.
 fn sheets_drawn(alloc: Global, seed: &mut u64, turn: u64) -> Result<(String, String), AllocError> {
     let offers = offer_lines(alloc, seed, turn)?;
     let older = older_lines(alloc, seed, turn)?;
@@ -137,7 +137,7 @@ fn sheets_drawn(alloc: Global, seed: &mut u64, turn: u64) -> Result<(String, Str
     Ok((sheet, sheet_of(alloc, &all, &rooms)?))
 }
 
-/// The lots that a code takes of the offer at a place: its digit to the base of five.
+/// Returns the lots that a code takes of the offer at a place: its digit to the base of five.
 fn digit(code: u64, place: usize) -> u64 {
     let powers = [1, 5, 25, 125, 625];
     match powers.get(place) {
@@ -146,7 +146,7 @@ fn digit(code: u64, place: usize) -> u64 {
     }
 }
 
-/// The lots that a code takes of the offers that come under a room.
+/// Returns the lots that a code takes of the offers that come under a room.
 fn lots_under(code: u64, offers: &[ViewOffer], room: &Room) -> u64 {
     let mut sum = 0u64;
     for (place, offer) in offers.iter().enumerate() {
@@ -157,7 +157,7 @@ fn lots_under(code: u64, offers: &[ViewOffer], room: &Room) -> u64 {
     sum
 }
 
-/// The lots that a code takes of offers, where it takes no more than each of them has.
+/// Returns the lots that a code takes of offers, if it takes no more than each of them has.
 fn lots(code: u64, offers: &[ViewOffer]) -> Option<u64> {
     let mut sum = 0u64;
     for (place, offer) in offers.iter().enumerate() {
@@ -170,14 +170,14 @@ fn lots(code: u64, offers: &[ViewOffer]) -> Option<u64> {
     Some(sum)
 }
 
-/// Whether a code takes no more under each key than its room.
+/// Returns whether a code takes no more under each key than its room.
 fn fits(code: u64, view: &View) -> bool {
     view.rooms()
         .iter()
         .all(|room| lots_under(code, view.offers(), room) <= room.lots)
 }
 
-/// The most lots that any admissible code takes of a view with up to five offers.
+/// Returns the most lots that any admissible code takes of a view with up to five offers.
 pub fn most(view: &View) -> u64 {
     let mut most = 0u64;
     for code in 0..3_125 {
@@ -190,7 +190,7 @@ pub fn most(view: &View) -> u64 {
     most
 }
 
-/// Whether a code takes more than another of the first offer of which they take different lots.
+/// Returns whether a code takes more than another of the first offer of which they take different lots.
 fn gives_older_more(code: u64, other: u64) -> bool {
     for place in 0..5 {
         let (lots, others) = (digit(code, place), digit(other, place));
@@ -201,7 +201,7 @@ fn gives_older_more(code: u64, other: u64) -> bool {
     false
 }
 
-/// Of the admissible codes with the most lots, the one that gives older offers more.
+/// Returns, among the admissible codes with the most lots, the one that gives older offers more.
 fn oldest(view: &View) -> u64 {
     let most = most(view);
     let mut oldest = 0u64;
@@ -214,7 +214,7 @@ fn oldest(view: &View) -> u64 {
     oldest
 }
 
-/// The takes of a view with up to five offers that are greatest and oldest first over the group.
+/// Returns the takes of a view with up to five offers that are greatest and oldest first over the group.
 pub fn oldest_takes(alloc: Global, view: &View) -> Result<String, AllocError> {
     let code = oldest(view);
     let mut text = String::new(alloc);

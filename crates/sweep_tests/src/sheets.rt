@@ -7,7 +7,7 @@ use crate::texts::entered_text;
 use gu_text::{Sheet, TextError, sheet_text, verdict_text};
 use std::alloc::{AllocError, Global};
 
-/// What is asked of a sheet.
+/// A question about a sheet.
 #[derive(Clone, Copy)]
 pub enum Question {
     /// Nothing more than whether it is one.
@@ -22,22 +22,22 @@ pub enum Question {
     ReadBack,
     /// Whether view, takes and cut are those of the two offers of one agreement.
     IsShared,
-    /// What is proposed for its view.
+    /// The proposal for its view.
     Sweep(Telling),
     /// The most lots that any admissible takes of its view have.
     Most,
     /// The takes of its view that are greatest and oldest first over the group.
     Oldest,
-    /// How its sweep is told, without its sheet and with it.
+    /// How its sweep is reported, without its sheet and with it.
     Entered,
 }
 
-/// A sheet as it is written.
+/// Returns a sheet as it is written.
 fn written(alloc: Global, sheet: &Sheet) -> Result<Vec<u8>, AllocError> {
     sheet_text(alloc, &sheet.view, &sheet.takes, &sheet.cut)
 }
 
-/// The line that a check of a sheet answers.
+/// Returns the line that a check of a sheet answers.
 fn verdict(alloc: Global, sheet: &Sheet) -> Result<Vec<u8>, AllocError> {
     verdict_text(
         alloc,
@@ -45,7 +45,7 @@ fn verdict(alloc: Global, sheet: &Sheet) -> Result<Vec<u8>, AllocError> {
     )
 }
 
-/// Whether view, takes and cut of two sheets are the same.
+/// Returns whether view, takes and cut of two sheets are the same.
 fn same_text(alloc: Global, sheet: &Sheet, other: &Sheet) -> Result<String, AllocError> {
     let view = sheet.view.is_same(&other.view);
     let takes = sheet.takes.is_same(&other.takes);
@@ -53,7 +53,7 @@ fn same_text(alloc: Global, sheet: &Sheet, other: &Sheet) -> Result<String, Allo
     format!(in alloc; "{view} {takes} {cut}")
 }
 
-/// The same, of a sheet and the one in a text.
+/// Returns the same for a sheet and the one in a text.
 fn same_in(alloc: Global, sheet: &Sheet, text: &[u8]) -> Result<String, AllocError> {
     match Sheet::read(alloc, text) {
         Ok(other) => {
@@ -66,19 +66,19 @@ fn same_in(alloc: Global, sheet: &Sheet, text: &[u8]) -> Result<String, AllocErr
     }
 }
 
-/// The same, of a sheet and what is read of it as it is written.
+/// Returns the same for a sheet and what is read back of its text.
 fn read_back(alloc: Global, sheet: &Sheet) -> Result<String, AllocError> {
     let text = written(alloc, sheet)?;
     same_in(alloc, sheet, &text)
 }
 
-/// The same, of a sheet and the one of two offers of one agreement.
+/// Returns the same for a sheet and the one of two offers of one agreement.
 fn shared_text(alloc: Global, sheet: &Sheet) -> Result<String, AllocError> {
     let text = sheet_text_of(alloc, "shared:")?;
     same_in(alloc, sheet, text.as_bytes())
 }
 
-/// What a sheet answers to a question.
+/// Returns what a sheet answers to a question.
 fn answer(alloc: Global, question: Question, sheet: &Sheet) -> Result<String, AllocError> {
     match question {
         Question::IsRead => String::from_str(alloc, "a sheet"),
@@ -94,7 +94,7 @@ fn answer(alloc: Global, question: Question, sheet: &Sheet) -> Result<String, Al
     }
 }
 
-/// What the sheet in a text answers to a question, or its first bad line.
+/// Returns what the sheet in a text answers to a question, or its first bad line.
 fn told_in(alloc: Global, question: Question, text: &[u8]) -> Result<String, AllocError> {
     match Sheet::read(alloc, text) {
         Ok(sheet) => {
@@ -107,7 +107,7 @@ fn told_in(alloc: Global, question: Question, text: &[u8]) -> Result<String, All
     }
 }
 
-/// The same of the text that a row speaks of.
+/// Returns the same for the text that a row speaks of.
 pub fn told(alloc: Global, question: Question, asked: &str) -> Result<String, AllocError> {
     let text = sheet_text_of(alloc, asked)?;
     told_in(alloc, question, text.as_bytes())

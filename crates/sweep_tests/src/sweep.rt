@@ -6,7 +6,7 @@ use gu_text::{sheet_text, verdict_text};
 use gu_view::View;
 use std::alloc::{AllocError, Global};
 
-/// What is told of a proposal besides its lots.
+/// The parts of a proposal besides its lots.
 #[derive(Clone, Copy)]
 pub enum Telling {
     Lots,
@@ -16,7 +16,7 @@ pub enum Telling {
     Given,
 }
 
-/// The lots of a proposal, the line that a check of it answers, and its sheet from a word on.
+/// Returns the lots of a proposal, the line that a check of it answers, and its sheet from a word on.
 fn from_word(alloc: Global, proposal: &Proposal, word: &str) -> Result<String, AllocError> {
     let verdict = gu_view::check(proposal.view(), proposal.takes(), proposal.cut());
     let verdict = shown(alloc, verdict_text(alloc, &verdict))?;
@@ -26,7 +26,7 @@ fn from_word(alloc: Global, proposal: &Proposal, word: &str) -> Result<String, A
     format!(in alloc; "{} {verdict}{word}{rest}", proposal.lots())
 }
 
-/// The takes of a proposal.
+/// Returns the takes of a proposal.
 fn takes_text(alloc: Global, proposal: &Proposal) -> Result<String, AllocError> {
     let sheet = sheet_text(alloc, proposal.view(), proposal.takes(), proposal.cut());
     let sheet = shown(alloc, sheet)?;
@@ -35,7 +35,7 @@ fn takes_text(alloc: Global, proposal: &Proposal) -> Result<String, AllocError> 
     format!(in alloc; "TAKE{takes}")
 }
 
-/// What is told of a proposal.
+/// Returns a proposal as text.
 fn proposal_text(
     alloc: Global,
     telling: Telling,
@@ -48,13 +48,13 @@ fn proposal_text(
     }
 }
 
-/// What is told of the copy of a proposal.
+/// Returns the copy of a proposal as text.
 fn copy_text(alloc: Global, telling: Telling, proposal: &Proposal) -> Result<String, AllocError> {
     let copy = proposal.copy()?;
     proposal_text(alloc, telling, &copy)
 }
 
-/// The proposal for a view that was given back, where that is this view.
+/// Returns the proposal for a view that was given back, if that is this view.
 fn proposed_again(alloc: Global, view: &View, given: View) -> Result<Option<Proposal>, AllocError> {
     if !given.is_same(view) || !given.nested() {
         return Ok(None);
@@ -65,7 +65,7 @@ fn proposed_again(alloc: Global, view: &View, given: View) -> Result<Option<Prop
     }
 }
 
-/// The proposal for a nested view, at the second try where the first is refused memory.
+/// Returns the proposal for a nested view, retrying once if memory is refused.
 fn proposed(alloc: Global, view: &View) -> Result<Option<Proposal>, AllocError> {
     let copy = view.copy()?;
     if !copy.nested() {
@@ -77,7 +77,7 @@ fn proposed(alloc: Global, view: &View) -> Result<Option<Proposal>, AllocError> 
     }
 }
 
-/// What is told of the proposal for a view.
+/// Returns the proposal for a view as text.
 pub fn sweep_text(alloc: Global, telling: Telling, view: &View) -> Result<String, AllocError> {
     match proposed(alloc, view)? {
         Some(proposal) => copy_text(alloc, telling, &proposal),

@@ -13,7 +13,7 @@ use gu_text::{
 use gu_world::Outcome;
 use std::alloc::{AllocError, Global};
 
-/// What was done, by its words.
+/// Returns what was done, by its words.
 fn done_of(words: &str) -> Option<Done> {
     let (word, rest) = first_word(words);
     let (first, second) = first_word(rest);
@@ -40,7 +40,7 @@ fn done_of(words: &str) -> Option<Done> {
     }
 }
 
-/// A refusal by its words.
+/// Returns a refusal by its words.
 fn refusal_of(words: &str) -> Option<Refusal> {
     let (word, key) = first_word(words);
     match word {
@@ -67,7 +67,7 @@ fn refusal_of(words: &str) -> Option<Refusal> {
     }
 }
 
-/// A reply by its words.
+/// Returns a reply by its words.
 fn reply_of(words: &str) -> Option<Reply> {
     if let Some(done) = done_of(words) {
         return Some(Reply::Accepted(done));
@@ -76,7 +76,7 @@ fn reply_of(words: &str) -> Option<Reply> {
     Some(Reply::Denied(refusal))
 }
 
-/// The text of a reply, by the number of its entry and its words.
+/// Returns the text of a reply, by the number of its entry and its words.
 pub fn reply_told(alloc: Global, asked: &str) -> Result<String, AllocError> {
     let (entry, words) = first_word(asked);
     match reply_of(words) {
@@ -85,7 +85,7 @@ pub fn reply_told(alloc: Global, asked: &str) -> Result<String, AllocError> {
     }
 }
 
-/// The outcome of entering the command to open a day.
+/// Returns the outcome of entering the command to open a day.
 fn opened() -> Option<Outcome> {
     let day = Day::new(2026, 1, 5)?;
     Some(Outcome::Asked(Receipt {
@@ -97,7 +97,7 @@ fn opened() -> Option<Outcome> {
     }))
 }
 
-/// An outcome by its words.
+/// Returns an outcome by its words.
 fn outcome_of(words: &str) -> Option<Outcome> {
     let (word, rest) = first_word(words);
     let (first, second) = first_word(rest);
@@ -116,7 +116,7 @@ fn outcome_of(words: &str) -> Option<Outcome> {
     }
 }
 
-/// The text of an outcome by its words, of a look at G1 where one is meant.
+/// Returns the text of an outcome by its words, which may mean a look at G1.
 pub fn outcome_told(alloc: Global, asked: &str) -> Result<String, AllocError> {
     let looked = if asked.starts_with("seen") {
         Group::new(b"G1")
@@ -129,7 +129,7 @@ pub fn outcome_told(alloc: Global, asked: &str) -> Result<String, AllocError> {
     }
 }
 
-/// The sweep of a sheet's takes and cut, which has so many lots.
+/// Returns the sweep of a sheet's takes and cut, which has this many lots.
 fn sweep_entry(sheet: &Sheet, lots: u64) -> Result<SweepEntry, AllocError> {
     let takes = sheet.takes.copy()?;
     let cut = sheet.cut.copy()?;
@@ -142,7 +142,7 @@ fn sweep_entry(sheet: &Sheet, lots: u64) -> Result<SweepEntry, AllocError> {
     })
 }
 
-/// The lots of takes.
+/// Returns the lots of takes.
 fn lots_of(takes: &[Take]) -> u64 {
     let mut lots = 0u64;
     for take in takes {
@@ -151,7 +151,7 @@ fn lots_of(takes: &[Take]) -> u64 {
     lots
 }
 
-/// The outcome of that sweep, as the entry two after the version of its view.
+/// Returns the outcome of that sweep, as the entry two after the version of its view.
 fn swept(sheet: &Sheet) -> Result<Outcome, AllocError> {
     let lots = lots_of(sheet.takes.as_slice());
     let entry = Entry::Swept(sweep_entry(sheet, lots)?);
@@ -159,7 +159,7 @@ fn swept(sheet: &Sheet) -> Result<Outcome, AllocError> {
     Ok(Outcome::Swept(Receipt { number, entry }))
 }
 
-/// The text of that sweep, where its view isn't known, and where it is.
+/// Returns the text of that sweep, first without its view and then with it.
 pub fn entered_text(alloc: Global, sheet: &Sheet) -> Result<String, AllocError> {
     let outcome = swept(sheet)?;
     let without = shown(alloc, outcome_text(alloc, None, None, &outcome));
@@ -171,7 +171,7 @@ pub fn entered_text(alloc: Global, sheet: &Sheet) -> Result<String, AllocError> 
     format!(in alloc; "{} and {}", without?, with?)
 }
 
-/// The text of a position: its account, its instrument, its long lots and its short ones.
+/// Returns the text of a position: its account, its instrument, its long lots and its short ones.
 fn position_told(alloc: Global, words: &str) -> Result<String, AllocError> {
     let (account, rest) = first_word(words);
     let (symbol, rest) = first_word(rest);
@@ -182,14 +182,14 @@ fn position_told(alloc: Global, words: &str) -> Result<String, AllocError> {
     shown(alloc, text)
 }
 
-/// The text of an open interest: its instrument and its lots.
+/// Returns the text of an open interest: its instrument and its lots.
 fn interest_told(alloc: Global, words: &str) -> Result<String, AllocError> {
     let (symbol, lots) = first_word(words);
     let symbol = Symbol::new(symbol.as_bytes()).ok_or(AllocError)?;
     shown(alloc, interest_text(alloc, &symbol, number(lots)))
 }
 
-/// The text of a limit in G1: its lots, its use, its room and its key.
+/// Returns the text of a limit in G1: its lots, its use, its room and its key.
 fn limit_told(alloc: Global, words: &str) -> Result<String, AllocError> {
     let (limit, rest) = first_word(words);
     let (used, rest) = first_word(rest);
@@ -204,14 +204,14 @@ fn limit_told(alloc: Global, words: &str) -> Result<String, AllocError> {
     shown(alloc, limit_text(alloc, &group, &row))
 }
 
-/// The answer for a name that the reference lacks, after what was there.
+/// Returns the answer for a name that the reference lacks, after what was there.
 fn unknown_after(alloc: Global, front: &str) -> Result<String, AllocError> {
     let mut output = Vec::from_slice(alloc, front.as_bytes())?;
     append_unknown(&mut output)?;
     shown(alloc, Ok(output))
 }
 
-/// The text of an answer by its words.
+/// Returns the text of an answer by its words.
 pub fn answer_told(alloc: Global, asked: &str) -> Result<String, AllocError> {
     let (word, rest) = first_word(asked);
     match word {
@@ -273,7 +273,7 @@ nothing -> NOTHING|
 opened -> 1 OK|
 ";
 
-/// Sheets, and how their sweeps are told where the view isn't known and where it is: of nothing, and of an agreement with less room
+/// Sheets, and how their sweeps are written without the view and with it: of nothing, and of an agreement with less room
 /// than its offers have.
 const SWEEPS: &str = "\
 SHEET G1 8|END| -> 10 SWEPT G1 0| and 10 SWEPT G1 0|SHEET G1 8|END|

@@ -4,13 +4,13 @@ use gu_terms::{AgreementId, Group, LimitKey, Name, OfferNo, Path};
 use gu_view::{Room, View, ViewError, ViewOffer};
 use std::alloc::{AllocError, Global};
 
-/// The key of a kind with a name.
+/// Returns the key of a kind with a name.
 pub fn key_of(words: &str) -> Option<LimitKey> {
     let (kind, name) = first_word(words);
     LimitKey::of(kind.as_bytes(), Name::new(name.as_bytes())?)
 }
 
-/// The path of these keys, with a `,` between two of them.
+/// Returns the path of these keys, with a `,` between two of them.
 fn path_of(alloc: Global, words: &str) -> Result<Path, AllocError> {
     let mut keys = Vec::new(alloc);
     for key in words.split(',') {
@@ -19,7 +19,7 @@ fn path_of(alloc: Global, words: &str) -> Result<Path, AllocError> {
     Path::of(&keys).ok_or(AllocError)
 }
 
-/// The offer of these numbers and this agreement, with a path.
+/// Returns the offer of these numbers and this agreement, with a path.
 fn offer_of(number_of: u64, lots: u64, agreement: &str, path: Path) -> Option<ViewOffer> {
     Some(ViewOffer {
         number: OfferNo::new(number_of)?,
@@ -29,7 +29,7 @@ fn offer_of(number_of: u64, lots: u64, agreement: &str, path: Path) -> Option<Vi
     })
 }
 
-/// The offer of a line: its number, its lots, its agreement, and the keys of its path.
+/// Returns the offer of a line: its number, its lots, its agreement, and the keys of its path.
 fn offer_in(alloc: Global, line: &str) -> Result<ViewOffer, AllocError> {
     let (first, rest) = first_word(line);
     let (lots, rest) = first_word(rest);
@@ -38,7 +38,7 @@ fn offer_in(alloc: Global, line: &str) -> Result<ViewOffer, AllocError> {
     offer_of(number(first), number(lots), agreement, path).ok_or(AllocError)
 }
 
-/// The offers of lines.
+/// Returns the offers of lines.
 fn offers_in(alloc: Global, lines: &str) -> Result<Vec<ViewOffer>, AllocError> {
     let mut offers = Vec::new(alloc);
     for line in lines.split('|') {
@@ -47,7 +47,7 @@ fn offers_in(alloc: Global, lines: &str) -> Result<Vec<ViewOffer>, AllocError> {
     Ok(offers)
 }
 
-/// The rooms of lines: their lots and their keys. A line without a key has none.
+/// Returns the rooms of lines: their lots and their keys. A line without a key has none.
 fn rooms_in(alloc: Global, lines: &str) -> Result<Vec<Room>, AllocError> {
     let mut rooms = Vec::new(alloc);
     for line in lines.split('|') {
@@ -61,7 +61,7 @@ fn rooms_in(alloc: Global, lines: &str) -> Result<Vec<Room>, AllocError> {
     Ok(rooms)
 }
 
-/// The view of offers and, after a `/`, of rooms.
+/// Returns the view of offers and, after a `/`, of rooms.
 fn made(alloc: Global, asked: &str) -> Result<View, ViewError> {
     let (offers, rooms) = asked.split_once('/').unwrap_or((asked, ""));
     let offers = offers_in(alloc, offers)?;
@@ -70,18 +70,18 @@ fn made(alloc: Global, asked: &str) -> Result<View, ViewError> {
     View::new(alloc, group, 11, offers, rooms)
 }
 
-/// Whether a view is nested, and whether its copy is the same.
+/// Returns whether a view is nested, and whether its copy is the same.
 fn view_text(alloc: Global, view: &View) -> Result<String, AllocError> {
     let copy = view.copy()?;
     format!(in alloc; "{} {}", view.nested(), copy.is_same(view))
 }
 
-/// A refusal and the offer that it names.
+/// Returns a refusal and the offer that it names.
 fn refusal_text(alloc: Global, name: &str, offer: OfferNo) -> Result<String, AllocError> {
     format!(in alloc; "{name} {}", offer.get())
 }
 
-/// Why offers and rooms make no view.
+/// Returns why offers and rooms make no view.
 fn error_text(alloc: Global, error: ViewError) -> Result<String, AllocError> {
     match error {
         ViewError::BadOffer(offer) => refusal_text(alloc, "BadOffer", offer),
@@ -91,7 +91,7 @@ fn error_text(alloc: Global, error: ViewError) -> Result<String, AllocError> {
     }
 }
 
-/// The same of the view of offers and rooms, or why they make none.
+/// Returns the same for the view of offers and rooms, or why they make none.
 pub fn told(alloc: Global, asked: &str) -> Result<String, AllocError> {
     match made(alloc, asked) {
         Ok(view) => view_text(alloc, &view),

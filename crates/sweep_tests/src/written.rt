@@ -3,7 +3,7 @@ use crate::rows::{Subject, check};
 use crate::sheets::Question;
 
 /// Sheets, and how they are written: one of an offer that is taken in full, one of three agreements of which one takes nothing, one
-/// of an offer that nothing is taken of, one of two offers of one agreement, one of an offer under a guarantor, one of no offers,
+/// with an offer of which nothing is taken, one with two offers of one agreement, one with an offer under a guarantor, one without offers,
 /// one whose takes and cut name what the view lacks, and two of carrying firms with a guarantor and without.
 const WRITTEN: &str = "\
 alone:TAKE 1 7|CUT OFFER 1| -> \

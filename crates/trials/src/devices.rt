@@ -5,19 +5,19 @@ ghost use Rattle.std.specs.Prelude.{◌≡◌, Some};
 use std::alloc::{AllocError, Global};
 use std::io::{self, Read, Write};
 
-/// What a text is on the wire.
+/// Returns what a text is on the wire.
 pub fn wire(alloc: Global, text: &str) -> Result<String, AllocError> {
     text.replace(alloc, "|", "\x01")?.replace(alloc, "/", "\n")
 }
 
-/// What bytes on the wire are as a text.
+/// Returns what bytes on the wire are as a text.
 pub fn shown(alloc: Global, bytes: &[u8]) -> Result<String, AllocError> {
     let text = str::from_utf8(bytes).unwrap_or("?");
     text.replace(alloc, "\x01", "|")?.replace(alloc, "\n", "/")
 }
 
 /// Gives its bytes in pieces of these lengths, each of at least a byte, since none is the end, and the rest in pieces of one length; it
-/// fails once it has no read left. Where a length is None it has nothing for now, once, which is no read.
+/// fails once it has no read left. If a length is None it has nothing for now, once, which is no read.
 #[derive(Drop)]
 pub struct Source<'a> {
     pub bytes: &'a [u8],
@@ -27,7 +27,7 @@ pub struct Source<'a> {
 }
 
 impl Source<'_> {
-    /// How many bytes the next read gives at most, if it gives any.
+    /// Returns how many bytes the next read gives at most, if it gives any.
     fn next_length(&mut self) -> Option<usize>
         ensures { self.new.bytes ≡ self.old.bytes }
     {
@@ -68,7 +68,7 @@ pub struct Sink {
 }
 
 impl Sink {
-    /// A writer that has taken nothing.
+    /// Returns a writer that has taken nothing.
     pub fn new(alloc: Global, most: usize, writes: usize) -> Self {
         Sink {
             held: Vec::new(alloc),

@@ -13,7 +13,7 @@ pub struct Moments<'a> {
 }
 
 impl<'a> Moments<'a> {
-    /// A clock that gives these moments.
+    /// Returns a clock that gives these moments.
     pub fn new(left: &'a [Moment]) -> Self {
         Moments {
             left,

@@ -1,9 +1,9 @@
-//! Tables of tests: texts whose lines are rows. A row is what a run is given and, after ` -> `, what it is to tell. In a text
+//! Tables of tests: texts whose lines are rows. A row is what a run is given and, after ` -> `, what it must report. In a text
 //! `(x*9)` is nine times x, and `(x% *2..9)` is `x2 x3 ..` up to `x9 `.
 
 use std::alloc::{AllocError, Global};
 
-/// What comes before the ` -> ` of a row, and what comes after it.
+/// Returns what comes before the ` -> ` of a row, and what comes after it.
 pub fn columns(row: &str) -> (&str, &str) {
     row.split_once(" -> ").unwrap_or((row, ""))
 }
@@ -17,7 +17,7 @@ pub fn joined(alloc: Global, parts: &[&str]) -> Result<String, AllocError> {
     Ok(text)
 }
 
-/// A text with a number in the place of each `%`.
+/// Returns a text with a number in the place of each `%`.
 fn with_number(alloc: Global, text: &str, number: u64) -> Result<String, AllocError> {
     let digits = format!(in alloc; "{number}")?;
     text.replace(alloc, "%", &digits)
@@ -38,12 +38,12 @@ fn push_each(
     Ok(())
 }
 
-/// The number that a word writes.
+/// Returns the number that a word writes.
 fn number(word: &str) -> u64 {
     word.parse().unwrap_or(0)
 }
 
-/// A text as it is meant.
+/// Returns a text with its signs replaced.
 pub fn meant(alloc: Global, text: &str) -> Result<String, AllocError> {
     let mut meant = String::new(alloc);
     for part in text.split('(') {
@@ -56,7 +56,7 @@ pub fn meant(alloc: Global, text: &str) -> Result<String, AllocError> {
     Ok(meant)
 }
 
-/// What is to be told where a row says `end: count`: so many bytes of an output, or all of it.
+/// Returns the expected output if a row says `end: count`: this many bytes of it, or all.
 pub fn front_told(alloc: Global, expected: &str, output: &str) -> Result<String, AllocError> {
     let (end, count) = expected.split_once(": ").unwrap_or((expected, ""));
     let count = count.parse().unwrap_or(output.len());

@@ -20,7 +20,7 @@ const HOUSE: &str = "GIVEUP";
 /// What is read, piece by piece, at which moments, and what is to be written.
 pub struct Talk {
     pub input: String,
-    /// How long each piece is; None where there is nothing for now.
+    /// How long each piece is; None if there is nothing for now.
     pub lengths: Vec<Option<usize>>,
     pub moments: Vec<Moment>,
     pub output: String,
@@ -47,7 +47,7 @@ const PLACES: [u64; 12] = [
     36_000_000, 3_600_000, 0, 600_000, 60_000, 0, 10_000, 1_000, 0, 100, 10, 1,
 ];
 
-/// The moment of a time of 2026-01-05.
+/// Returns the moment of a time of 2026-01-05.
 fn moment_of(time: &str) -> Option<Moment> {
     let mut millis = 1_767_571_200_000_u64;
     for (byte, place) in time.bytes().zip(PLACES) {
@@ -57,7 +57,7 @@ fn moment_of(time: &str) -> Option<Moment> {
     Moment::new(millis)
 }
 
-/// The sum of the bytes of a text on the wire.
+/// Returns the sum of the bytes of a text on the wire.
 fn check_sum(text: &str) -> u8 {
     let mut sum = 0_u8;
     for byte in text.bytes() {
@@ -66,14 +66,14 @@ fn check_sum(text: &str) -> u8 {
     sum
 }
 
-/// The message of a body.
+/// Returns the message of a body.
 fn framed(alloc: Global, body: &str) -> Result<String, AllocError> {
     let front = format!(in alloc; "8=FIXT.1.1|9={}|{body}", body.len())?;
     let sum = check_sum(&front);
     format!(in alloc; "{front}10={sum:03}|")
 }
 
-/// The message of a line, from one side to the other, that is sent at this time.
+/// Returns the message of a line, from one side to the other, that is sent at this time.
 fn message(
     alloc: Global,
     from: &str,
@@ -101,7 +101,7 @@ fn message(
     framed(alloc, &body)
 }
 
-/// The text of a line on the wire.
+/// Returns the text of a line on the wire.
 fn text_of(
     alloc: Global,
     firm: &str,
@@ -117,7 +117,7 @@ fn text_of(
 }
 
 impl Talk {
-    /// A further piece, of this length at this time.
+    /// Begins a further piece, of this length at this time.
     fn begin(&mut self, length: Option<usize>, time: &str) -> Result<(), AllocError> {
         self.lengths.push(length)?;
         if let Some(now) = moment_of(time) {
@@ -144,7 +144,7 @@ impl Talk {
         self.input.push_str(text)
     }
 
-    /// The connection of a firm that these lines say.
+    /// Returns the connection of a firm that these lines say.
     pub fn of(alloc: Global, firm: &str, lines: &str) -> Result<Talk, AllocError> {
         let lines = meant(alloc, lines)?;
         let mut talk = Talk {
@@ -166,7 +166,7 @@ impl Talk {
         Ok(talk)
     }
 
-    /// The same, in pieces of whatever length, all at nine.
+    /// Cuts the same into pieces of any length, all at nine.
     pub fn cut(&mut self) -> Result<(), AllocError> {
         self.lengths.clear();
         self.moments.clear();

@@ -12,7 +12,7 @@ pub struct Terms {
     pub most: usize,
     /// How many writes there are before the writer fails.
     pub writes: usize,
-    /// How many times the clock tells before it fails.
+    /// How many times the clock answers before it fails.
     pub clock: usize,
 }
 
@@ -43,7 +43,7 @@ impl Terms {
         }
     }
 
-    /// The terms of a text as `piece 64, reads 3`; what it doesn't name is ample.
+    /// Returns the terms of a text as `piece 64, reads 3`; what it doesn't name is ample.
     pub fn of(text: &str) -> Terms {
         let mut terms = AMPLE;
         for part in text.split(", ") {

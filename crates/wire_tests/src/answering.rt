@@ -54,8 +54,8 @@ const ANSWERS: &str = "\
 35=D|2 Full -> no question
 ";
 
-/// Questions for positions, each with its number and the positions in so many instruments on an open day or on none, and the
-/// messages that tell them, one after another.
+/// Questions for positions, each with its number and the positions in this many instruments on an open day or on none, and the
+/// messages that report them, one after another.
 const POSITIONS: &str = "\
 35=AN|710=R1|724=0|1=A1|2 stranger -> 35=AO|721=R1-0|710=R1|728=3|729=2|727=0|1=A1|
 35=AN|710=R1|724=0|1=A1|2 rows 1 -> 35=AO|721=R1-0|710=R1|728=0|729=0|727=1|1=A1|35=AP|721=R1-1|710=R1|728=0|715=20260105|1=A1|55=XF6|702=1|703=TQ|704=10|705=0|
@@ -87,7 +87,7 @@ const NOTICES: &str = "\
 -999999999999999 buy matched -> 35=AE|571=7-B|572=R1|573=0|880=M1|55=XF6|32=10|31=-999999999.999999|75=20260105|552=1|54=1|1=A1|
 ";
 
-/// What messages are written as, one after another.
+/// Returns what messages are written as, one after another.
 fn texts(alloc: Global, w: &Values, bodies: Vec<Body>) -> Result<String, AllocError> {
     let mut text = String::new(alloc);
     for body in bodies {
@@ -96,7 +96,7 @@ fn texts(alloc: Global, w: &Values, bodies: Vec<Body>) -> Result<String, AllocEr
     Ok(text)
 }
 
-/// The messages that tell positions by their words.
+/// Returns the messages that report positions by their words.
 fn positions(
     alloc: Global,
     w: &Values,
@@ -108,7 +108,7 @@ fn positions(
     texts(alloc, w, bodies)
 }
 
-/// The answer to a question by the number of its message and what became of what it asks.
+/// Returns the answer to a question by the number of its message and what became of what it asks.
 fn answer(
     alloc: Global,
     w: &Values,
@@ -125,13 +125,13 @@ fn answer(
     }
 }
 
-/// What a message asks.
+/// Returns what a message asks.
 fn question_of(alloc: Global, message: &str) -> Result<Option<Question>, AllocError> {
     let asking = asking_of(inbound_of(alloc, message)?);
     Ok(asking.map(|asking| asking.question()))
 }
 
-/// The answer to a row's message.
+/// Returns the answer to a row's message.
 pub fn told(alloc: Global, w: &Values, asked: &str) -> Result<String, AllocError> {
     let (message, words) = asked.rsplit_once('|').unwrap_or((asked, ""));
     match question_of(alloc, message)? {
@@ -140,7 +140,7 @@ pub fn told(alloc: Global, w: &Values, asked: &str) -> Result<String, AllocError
     }
 }
 
-/// What a notice is sent as.
+/// Returns what a notice is sent as.
 pub fn notice_told(alloc: Global, w: &Values, words: &str) -> Result<String, AllocError> {
     let (price, rest) = first_word(words);
     let (side, event) = first_word(rest);
@@ -162,7 +162,7 @@ fn each_message_has_its_answer_and_each_notice_its_message(rt: HostRuntime) {
     }
 }
 
-/// How many messages tell the positions of a row, in the last of so many turns.
+/// Returns how many messages report the positions of a row, in the last of this many turns.
 pub fn positions_told(alloc: Global, w: &Values, asked: &str) -> Result<String, AllocError> {
     let (turns, words) = first_word(asked);
     let question = RequestForPositions {

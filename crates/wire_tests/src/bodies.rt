@@ -3,7 +3,7 @@ use crate::messages::meant;
 use crate::rows::first_word;
 use std::alloc::{AllocError, Global};
 
-/// The sum of the bytes of a text on the wire, modulo 256.
+/// Returns the sum of the bytes of a text on the wire, modulo 256.
 fn sum_of(text: &str) -> u32 {
     let mut sum: u32 = 0;
     for byte in text.as_bytes() {
@@ -13,7 +13,7 @@ fn sum_of(text: &str) -> u32 {
     sum
 }
 
-/// The whole message with this body.
+/// Returns the whole message with this body.
 pub fn message_of(alloc: Global, body: &str) -> Result<String, AllocError> {
     let body = meant(alloc, body)?;
     let front = format!(in alloc; "8=FIXT.1.1|9={}|", body.len())?;
@@ -21,7 +21,7 @@ pub fn message_of(alloc: Global, body: &str) -> Result<String, AllocError> {
     format!(in alloc; "{front}{body}10={sum:03}|")
 }
 
-/// The message of a type, a number and fields, between these parties at a time.
+/// Returns the message of a type, a number and fields, between these parties at a time.
 pub fn message_at(
     alloc: Global,
     parties: &str,

@@ -3,7 +3,7 @@ use crate::rows::{Subject, check, number};
 use gu_terms::{AccountId, Cut, LimitKey, OfferNo};
 use std::alloc::{AllocError, Global};
 
-/// Adds an offer to a cut, at the second try where the first is refused, and answers whether it was new.
+/// Adds an offer to a cut, retrying once if memory is refused, and returns whether it was new.
 fn add_offer(cut: &mut Cut, number: u64) -> Option<bool> {
     let offer = OfferNo::new(number)?;
     match cut.add_offer(offer) {
@@ -12,7 +12,7 @@ fn add_offer(cut: &mut Cut, number: u64) -> Option<bool> {
     }
 }
 
-/// The same of an account with this name.
+/// Returns the same for an account with this name.
 fn add_key(cut: &mut Cut, name: &str) -> Option<bool> {
     let key = LimitKey::Acct(AccountId::new(name.as_bytes())?);
     match cut.add_key(key) {
@@ -21,7 +21,7 @@ fn add_key(cut: &mut Cut, name: &str) -> Option<bool> {
     }
 }
 
-/// How many members were new of the offers and the accounts with so many numbers.
+/// Returns how many members were new of the offers and the accounts with this many numbers.
 pub fn add_all(alloc: Global, cut: &mut Cut, count: u64) -> Result<u64, AllocError> {
     let mut added: u64 = 0;
     for place in 0..count {
@@ -34,7 +34,7 @@ pub fn add_all(alloc: Global, cut: &mut Cut, count: u64) -> Result<u64, AllocErr
     Ok(added)
 }
 
-/// How many members were new, how many were new once more, and how many a copy has.
+/// Returns how many members were new, how many were new once more, and how many a copy has.
 fn counts(alloc: Global, cut: &mut Cut, count: u64) -> Result<String, AllocError> {
     let first = add_all(alloc, cut, count)?;
     let again = add_all(alloc, cut, count)?;
@@ -46,7 +46,7 @@ fn counts(alloc: Global, cut: &mut Cut, count: u64) -> Result<String, AllocError
     )
 }
 
-/// The same of a new cut.
+/// Returns the same for a new cut.
 pub fn told(alloc: Global, count: &str) -> Result<String, AllocError> {
     let mut cut = Cut::new(alloc);
     let told = counts(alloc, &mut cut, number(count));

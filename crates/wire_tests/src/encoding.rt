@@ -29,7 +29,7 @@ const LONGEST: &str = "\
 35=0|{1=x|*16375}11=x|58=x| -> TooLong
 ";
 
-/// The message of a text's fields, or why there is none.
+/// Returns the message of a text's fields, or why there is none.
 pub fn told(alloc: Global, text: &str) -> Result<String, AllocError> {
     let fields = fields_of(alloc, text)?;
     match encode(alloc, &fields) {

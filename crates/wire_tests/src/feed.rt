@@ -4,7 +4,7 @@ use crate::rows::{Subject, check, number, parts_at};
 use gu_fix::{Feed, Frame};
 use std::alloc::{AllocError, Global};
 
-/// The messages that a feed gives with a piece, at the second try where the first is refused.
+/// Returns the messages that a feed gives with a piece, retrying once if memory is refused.
 fn pushed(feed: &mut Feed, piece: &[u8]) -> Result<Vec<Frame>, AllocError> {
     match feed.push(piece) {
         Ok(frames) => Ok(frames),
@@ -12,7 +12,7 @@ fn pushed(feed: &mut Feed, piece: &[u8]) -> Result<Vec<Frame>, AllocError> {
     }
 }
 
-/// The bytes of messages, one after another.
+/// Returns the bytes of messages, one after another.
 fn joined(alloc: Global, frames: &[Frame]) -> Result<Vec<u8>, AllocError> {
     let mut bytes = Vec::new(alloc);
     for frame in frames {
@@ -21,7 +21,7 @@ fn joined(alloc: Global, frames: &[Frame]) -> Result<Vec<u8>, AllocError> {
     Ok(bytes)
 }
 
-/// The bytes of the messages that a feed gives of a stream in pieces of so many bytes, one after another.
+/// Returns the bytes of the messages that a feed gives of a stream in pieces of this many bytes, one after another.
 pub fn given_by_pieces(
     alloc: Global,
     feed: &mut Feed,
@@ -35,19 +35,19 @@ pub fn given_by_pieces(
     Ok(given)
 }
 
-/// The bytes of the messages that a feed gives of a stream, one after another.
+/// Returns the bytes of the messages that a feed gives of a stream, one after another.
 fn given_of(alloc: Global, feed: &mut Feed, stream: &[u8]) -> Result<Vec<u8>, AllocError> {
     let frames = pushed(feed, stream)?;
     joined(alloc, &frames)
 }
 
-/// Two texts one after another, on the wire.
+/// Returns two texts one after another, on the wire.
 pub fn stream_of(alloc: Global, first: &str, second: &str) -> Result<String, AllocError> {
     let text = format!(in alloc; "{first}{second}")?;
     wire(alloc, text.as_str())
 }
 
-/// The messages that a new feed gives of a front and SECOND after it, which is called by this name.
+/// Returns the messages that a new feed gives of a front and SECOND after it, which is called by this name.
 pub fn told(alloc: Global, front: &str) -> Result<String, AllocError> {
     let stream = stream_of(alloc, front, SECOND)?;
     let given = given_of(alloc, &mut Feed::new(alloc), stream.as_bytes())?;
@@ -99,7 +99,7 @@ fn a_message_inside_one_with_a_wrong_check_sum_is_found(rt: HostRuntime) {
     check(&rt, rt.alloc(), Subject::Fronts, INSIDE);
 }
 
-/// How many bytes messages have.
+/// Returns how many bytes messages have.
 fn bytes_in(frames: &[Frame]) -> usize {
     let mut bytes: usize = 0;
     for frame in frames {
@@ -108,7 +108,7 @@ fn bytes_in(frames: &[Frame]) -> usize {
     bytes
 }
 
-/// How many messages a feed gives of a stream in pieces of so many bytes, and how many bytes they have.
+/// Returns how many messages a feed gives of a stream in pieces of this many bytes, and how many bytes they have.
 fn given_in(feed: &mut Feed, stream: &[u8], size: usize) -> Result<(usize, usize), AllocError> {
     let mut count: usize = 0;
     let mut bytes: usize = 0;
@@ -120,7 +120,7 @@ fn given_in(feed: &mut Feed, stream: &[u8], size: usize) -> Result<(usize, usize
     Ok((count, bytes))
 }
 
-/// Tells the same of sizes one after another.
+/// Appends the same for several sizes.
 fn tell_given(
     text: &mut String,
     feed: &mut Feed,
@@ -134,14 +134,14 @@ fn tell_given(
     Ok(())
 }
 
-/// The same of a new feed, as a text.
+/// Returns the same for a new feed, as a text.
 fn given_by(alloc: Global, stream: &[u8], sizes: &str) -> Result<String, AllocError> {
     let mut text = String::new(alloc);
     tell_given(&mut text, &mut Feed::new(alloc), stream, sizes)?;
     Ok(text)
 }
 
-/// The same of the stream and the sizes of a row.
+/// Returns the same for the stream and the sizes of a row.
 pub fn pieces_told(alloc: Global, asked: &str) -> Result<String, AllocError> {
     let (stream, sizes) = parts_at(asked, " by ");
     let stream = wire(alloc, stream)?;
@@ -149,7 +149,7 @@ pub fn pieces_told(alloc: Global, asked: &str) -> Result<String, AllocError> {
 }
 
 /// Streams and the sizes of their pieces: how many messages are given each time, and how many bytes they have. Pieces of 9
-/// bytes are kept twice before a message is whole. Behind thousands of openings, one inside another, a message is found
+/// bytes are kept twice before a message is whole. After thousands of openings, one inside another, a message is found
 /// when the length that they say has come.
 pub const PIECES: &str = "\
 {8=FIXT.1.1|9=5|35=0|10=241|*20} by 9 -> (20, 540)
@@ -164,7 +164,7 @@ fn messages_of_65_536_bytes_and_thousands_in_a_row_are_taken(rt: HostRuntime) {
     check(&rt, rt.alloc(), Subject::Pieces, PIECES);
 }
 
-/// What is done to a stream at a place.
+/// A change to a stream at a place.
 #[derive(Clone, Copy)]
 pub enum Change {
     /// It comes in two pieces, of which the second begins there.
@@ -173,24 +173,24 @@ pub enum Change {
     Raise,
 }
 
-/// How many messages a feed gives with a piece.
+/// Returns how many messages a feed gives with a piece.
 fn count_with(feed: &mut Feed, piece: &[u8]) -> Result<usize, AllocError> {
     Ok(pushed(feed, piece)?.len())
 }
 
-/// How many messages a feed gives with a piece, and with the next.
+/// Returns how many messages a feed gives with a piece, and with the next.
 fn counts_of(feed: &mut Feed, front: &[u8], rest: &[u8]) -> Result<(usize, usize), AllocError> {
     let before = count_with(feed, front)?;
     Ok((before, count_with(feed, rest)?))
 }
 
-/// How many messages a new feed gives of a stream up to a cut, and after it.
+/// Returns how many messages a new feed gives of a stream up to a cut, and after it.
 fn counts_at(alloc: Global, stream: &[u8], cut: usize) -> Result<(usize, usize), AllocError> {
     let (front, rest) = stream.split_at(cut.min(stream.len()));
     counts_of(&mut Feed::new(alloc), front, rest)
 }
 
-/// The messages that a new feed gives of a stream whose byte at a place is one higher, called by their names.
+/// Returns the messages that a new feed gives of a stream whose byte at a place is one higher, called by their names.
 fn left_with(alloc: Global, stream: &[u8], place: usize) -> Result<String, AllocError> {
     let mut bytes = Vec::from_slice(alloc, stream)?;
     if let Some(byte) = bytes.get_mut(place) {
@@ -202,7 +202,7 @@ fn left_with(alloc: Global, stream: &[u8], place: usize) -> Result<String, Alloc
     replaced(alloc, text.as_str(), SECOND, "SECOND ")
 }
 
-/// What a new feed gives of a stream that is changed at a place.
+/// Returns what a new feed gives of a stream that is changed at a place.
 fn told_at(
     alloc: Global,
     stream: &[u8],
@@ -218,7 +218,7 @@ fn told_at(
     }
 }
 
-/// The same by the place of the change, where it isn't as at the place before.
+/// Returns, for each place of the change, what a new feed gives, unless it is the same as for the place before.
 fn places_in(alloc: Global, stream: &[u8], change: Change) -> Result<String, AllocError> {
     let mut text = String::new(alloc);
     let mut last = String::new(alloc);
@@ -232,7 +232,7 @@ fn places_in(alloc: Global, stream: &[u8], change: Change) -> Result<String, All
     Ok(text)
 }
 
-/// The same of FIRST and SECOND.
+/// Returns the same for FIRST and SECOND.
 pub fn places_told(alloc: Global, change: Change) -> Result<String, AllocError> {
     let stream = stream_of(alloc, FIRST, SECOND)?;
     places_in(alloc, stream.as_bytes(), change)

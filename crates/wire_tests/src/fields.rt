@@ -11,7 +11,7 @@ pub enum Holder {
     Copy,
     /// The message's own bytes.
     Message,
-    /// The same, in the place of earlier fields: those of a copy.
+    /// The message's own bytes, replacing earlier fields that were a copy.
     Earlier,
 }
 
@@ -28,7 +28,7 @@ fn text_with(
     Ok(text)
 }
 
-/// What a message is split into.
+/// Returns what a message is split into.
 fn split(
     alloc: Global,
     holder: Holder,
@@ -45,7 +45,7 @@ fn split(
     }
 }
 
-/// The same as a text.
+/// Returns the same as a text.
 pub fn told(alloc: Global, holder: Holder, message: &str) -> Result<String, AllocError> {
     let frame = frame_in(alloc, message)?;
     let (fields, fault) = split(alloc, holder, frame)?;

@@ -5,7 +5,7 @@ use gu_msgs::{Header, header};
 use std::alloc::{AllocError, Global};
 
 /// Texts of fields, and the parts of their header: the type, the sender, the target, the number, and whether it is sent
-/// again, each with `-` where there is none.
+/// again, each with `-` if there is none.
 pub const ROWS: &str = "\
 8=FIXT.1.1|35=0|49=E1|56=GIVEUP|34=2|43=N| -> 0 E1 GIVEUP 2 N
 34=2|58=x|56=GIVEUP|49=E1|35=0| -> 0 E1 GIVEUP 2 -
@@ -14,7 +14,7 @@ pub const ROWS: &str = "\
  -> - - - - -
 ";
 
-/// A part of a header.
+/// Returns a part of a header.
 fn part_of(part: &Option<Vec<u8>>) -> &str {
     match part {
         Some(bytes) => text_in(bytes),
@@ -22,7 +22,7 @@ fn part_of(part: &Option<Vec<u8>>) -> &str {
     }
 }
 
-/// The parts of a header.
+/// Returns the parts of a header.
 fn parts(alloc: Global, found: &Header) -> Result<String, AllocError> {
     format!(in alloc;
         "{} {} {} {} {}",
@@ -34,7 +34,7 @@ fn parts(alloc: Global, found: &Header) -> Result<String, AllocError> {
     )
 }
 
-/// The parts of the header of a text's fields.
+/// Returns the parts of the header of a text's fields.
 pub fn told(alloc: Global, text: &str) -> Result<String, AllocError> {
     let fields = fields_of(alloc, text)?;
     let found = header(alloc, &fields)?;

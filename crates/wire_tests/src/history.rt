@@ -6,7 +6,7 @@ use gu_msgs::Request;
 use gu_terms::{Command, Entry, History, Reply};
 use std::alloc::{AllocError, Global};
 
-/// The command that the firm asks for by a message.
+/// Returns the command that the firm asks for by a message.
 fn command_of(alloc: Global, w: &Values, message: &str) -> Result<Option<Command>, AllocError> {
     let Some(asking) = asking_of(inbound_of(alloc, message)?) else {
         return Ok(None);
@@ -17,7 +17,7 @@ fn command_of(alloc: Global, w: &Values, message: &str) -> Result<Option<Command
     }
 }
 
-/// Whether the entry of a number is this command with this reply.
+/// Returns whether the entry of a number is this command with this reply.
 fn is_entry(
     history: &History,
     number: u64,
@@ -38,7 +38,7 @@ fn is_entry(
     Ok(is_same)
 }
 
-/// Adds an entry so many times, at the second try where the first is refused, and answers whether each is shown as it came.
+/// Adds an entry this many times, retrying once if memory is refused, and returns whether each is shown as it came.
 fn add_all(
     history: &mut History,
     command: &Command,
@@ -55,7 +55,7 @@ fn add_all(
     Ok(is_shown)
 }
 
-/// Whether words of a command and its reply are right: it is added so many times, or is the entry of this number.
+/// Returns whether words of a command and its reply are right: it is added this many times, or is the entry of this number.
 fn is_right(
     history: &mut History,
     words: &str,
@@ -69,7 +69,7 @@ fn is_right(
     }
 }
 
-/// The same of a part of a row: the words, and after `: ` the message of the command and, after its last `|`, the reply.
+/// Returns the same for a part of a row: the words, and after `: ` the message of the command and, after its last `|`, the reply.
 fn is_part_right(
     alloc: Global,
     w: &Values,
@@ -87,7 +87,7 @@ fn is_part_right(
     }
 }
 
-/// Tells how many entries a history has after a part of a row, where the part is right.
+/// Reports how many entries a history has after a part of a row, if the part is right.
 fn tell_part(
     text: &mut String,
     alloc: Global,
@@ -103,7 +103,7 @@ fn tell_part(
     write!(text, "{} ", history.len())
 }
 
-/// How many entries a history has after each part of a row, where the part is right.
+/// Returns how many entries a history has after each part of a row, if the part is right.
 pub fn told(alloc: Global, w: &Values, asked: &str) -> Result<String, AllocError> {
     let mut history = History::new(alloc);
     let mut text = String::new(alloc);

@@ -5,7 +5,7 @@ use crate::rows::{Subject, check, number, parts_at};
 use gu_fix::{Feed, Frame, Intake};
 use std::alloc::{AllocError, Global};
 
-/// Gives a piece to an intake, at the second try where the first is refused.
+/// Gives a piece to an intake, retrying once if memory is refused.
 fn push(intake: &mut Intake, piece: &[u8]) -> Result<(), AllocError> {
     match intake.push(piece) {
         Ok(()) => Ok(()),
@@ -13,7 +13,7 @@ fn push(intake: &mut Intake, piece: &[u8]) -> Result<(), AllocError> {
     }
 }
 
-/// The next message of an intake, at the second try where the first is refused.
+/// Returns the next message of an intake, retrying once if memory is refused.
 fn next_of(intake: &mut Intake) -> Result<Option<Frame>, AllocError> {
     match intake.next_frame() {
         Ok(next) => Ok(next),
@@ -33,7 +33,7 @@ fn take_piece(intake: &mut Intake, piece: &[u8], taken: &mut Vec<u8>) -> Result<
     Ok(65_536)
 }
 
-/// Appends the messages of a stream in pieces of so many bytes, and counts them.
+/// Appends the messages of a stream in pieces of this many bytes, and counts them.
 fn take_pieces(
     intake: &mut Intake,
     stream: &[u8],
@@ -47,7 +47,7 @@ fn take_pieces(
     Ok(count)
 }
 
-/// The messages that a new intake gives of a front and SECOND after it, which is called by this name.
+/// Returns the messages that a new intake gives of a front and SECOND after it, which is called by this name.
 pub fn told(alloc: Global, front: &str) -> Result<String, AllocError> {
     let stream = stream_of(alloc, front, SECOND)?;
     let mut taken = Vec::new(alloc);
@@ -67,7 +67,7 @@ fn a_message_inside_one_with_a_wrong_check_sum_is_found(rt: HostRuntime) {
     check(&rt, rt.alloc(), Subject::TakenAfter, INSIDE);
 }
 
-/// Tells how many messages an intake gives of a stream in pieces of so many bytes, and how many bytes they have.
+/// Reports how many messages an intake gives of a stream in pieces of this many bytes, and how many bytes they have.
 fn tell_taken(
     alloc: Global,
     text: &mut String,
@@ -80,7 +80,7 @@ fn tell_taken(
     write!(text, "({count}, {})", taken.len())
 }
 
-/// The same of a new intake and of sizes one after another.
+/// Returns the same for a new intake and several sizes.
 fn taken_by(alloc: Global, stream: &[u8], sizes: &str) -> Result<String, AllocError> {
     let mut text = String::new(alloc);
     let mut intake = Intake::new(alloc);
@@ -90,7 +90,7 @@ fn taken_by(alloc: Global, stream: &[u8], sizes: &str) -> Result<String, AllocEr
     Ok(text)
 }
 
-/// The same of the stream and the sizes of a row.
+/// Returns the same for the stream and the sizes of a row.
 pub fn pieces_told(alloc: Global, asked: &str) -> Result<String, AllocError> {
     let (stream, sizes) = parts_at(asked, " by ");
     let stream = wire(alloc, stream)?;
@@ -102,7 +102,7 @@ fn messages_of_65_536_bytes_and_thousands_in_a_row_are_taken(rt: HostRuntime) {
     check(&rt, rt.alloc(), Subject::TakenIn, PIECES);
 }
 
-/// Whether a new intake gives the messages of a stream in pieces of so many bytes that a new feed gives.
+/// Returns whether a new intake gives the messages of a stream in pieces of this many bytes that a new feed gives.
 fn gives_alike(alloc: Global, stream: &[u8], size: usize) -> Result<bool, AllocError> {
     let given = given_by_pieces(alloc, &mut Feed::new(alloc), stream, size)?;
     let mut taken = Vec::new(alloc);
@@ -110,7 +110,7 @@ fn gives_alike(alloc: Global, stream: &[u8], size: usize) -> Result<bool, AllocE
     Ok(taken.as_slice() == given.as_slice())
 }
 
-/// The sizes of pieces up to that of the stream with which it doesn't.
+/// Returns the sizes of pieces up to that of the stream with which it doesn't.
 fn unlike_sizes(alloc: Global, stream: &[u8]) -> Result<String, AllocError> {
     let mut text = String::new(alloc);
     for size in 1..=stream.len() {
@@ -121,7 +121,7 @@ fn unlike_sizes(alloc: Global, stream: &[u8]) -> Result<String, AllocError> {
     Ok(text)
 }
 
-/// The same of the stream of a row.
+/// Returns the same for the stream of a row.
 pub fn unlike_told(alloc: Global, stream: &str) -> Result<String, AllocError> {
     let stream = wire(alloc, stream)?;
     unlike_sizes(alloc, stream.as_bytes())

@@ -1,6 +1,6 @@
 //! Calls that are refused memory, one a test, with few allocations before them. Each of these tests passes whichever of its
-//! allocations fails, and where all of them fail from one on (tools/each-growth): a call that is refused memory says so, leaves what it
-//! has as it was, and does at the second try what the row says, where there is memory then.
+//! allocations fails, and if all of them fail from one on (tools/each-growth): a call that is refused memory says so, leaves what it
+//! has as it was, and does at the second try what the row says, if there is memory then.
 use crate::rows::{Subject, check};
 use crate::talk::follow;
 
@@ -22,7 +22,7 @@ fn refused_to_an_intake_leaves_the_next_message_to_be_taken_again(rt: HostRuntim
     check(&rt, rt.alloc(), Subject::TakenIn, PIECES);
 }
 
-/// Fields, and fields with a fault: memory is wanted where there is none.
+/// Fields, and fields with a fault: memory runs out.
 const FIELDS: &str = "\
 35=0|49=E1|56=GIVEUP|34=2|52=20260105-09:00:00| -> 8=FIXT.1.1|9=47|35=0|49=E1|56=GIVEUP|34=2|52=20260105-09:00:00|10=151|
 35=0|49=| -> EmptyValue

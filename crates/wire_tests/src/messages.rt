@@ -11,7 +11,7 @@ pub const FIRST: &str =
 pub const SECOND: &str =
     "8=FIXT.1.1|9=112|35=AE|49=E2|56=GIVEUP|34=1|52=20260105-09:00:00|571=R2|880=M1|55=XF6|32=10|31=101.5|75=20260105|552=1|54=2|1=H2|10=239|";
 
-/// Appends a part of a text: what is to be repeated so many times, and what comes after it.
+/// Appends a part of a text: what is to be repeated this many times, and what comes after it.
 fn push_part(meant: &mut String, part: &str) -> Result<(), AllocError> {
     let (unit, rest) = part.split_once('*').unwrap_or(("", part));
     let (times, end) = rest.split_once('}').unwrap_or(("", rest));
@@ -21,7 +21,7 @@ fn push_part(meant: &mut String, part: &str) -> Result<(), AllocError> {
     meant.push_str(end)
 }
 
-/// A text as it is meant: with what is to be repeated so many times.
+/// Returns a text in which each repeated part is written out.
 pub fn meant(alloc: Global, text: &str) -> Result<String, AllocError> {
     let mut meant = String::new(alloc);
     for part in text.split('{') {
@@ -30,41 +30,41 @@ pub fn meant(alloc: Global, text: &str) -> Result<String, AllocError> {
     Ok(meant)
 }
 
-/// Bytes that are a text.
+/// Returns bytes that are a text.
 pub fn text_in(bytes: &[u8]) -> &str {
     str::from_utf8(bytes).unwrap_or("?")
 }
 
-/// A text with another part wherever it has this one.
+/// Returns a text with another part wherever it has this one.
 pub fn replaced(alloc: Global, text: &str, part: &str, by: &str) -> Result<String, AllocError> {
     text.replace(alloc, part, by)
 }
 
-/// What a text is on the wire.
+/// Returns what a text is on the wire.
 pub fn wire(alloc: Global, text: &str) -> Result<String, AllocError> {
     let text = meant(alloc, text)?;
     replaced(alloc, text.as_str(), "|", "\x01")
 }
 
-/// What bytes on the wire are as a text: `|` ends a field, and a `|` on the wire is `!`.
+/// Returns what bytes on the wire are as a text: `|` ends a field, and a `|` on the wire is `!`.
 pub fn shown(alloc: Global, bytes: &[u8]) -> Result<String, AllocError> {
     let text = replaced(alloc, text_in(bytes), "|", "!")?;
     replaced(alloc, text.as_str(), "\x01", "|")
 }
 
-/// The last message that a feed gives with a piece.
+/// Returns the last message that a feed gives with a piece.
 fn last_with(feed: &mut Feed, piece: &[u8]) -> Result<Frame, AllocError> {
     let mut frames = feed.push(piece).map_err(|_| AllocError)?;
     frames.pop().ok_or(AllocError)
 }
 
-/// The one message that a new feed gives of a text.
+/// Returns the one message that a new feed gives of a text.
 pub fn frame_in(alloc: Global, text: &str) -> Result<Frame, AllocError> {
     let bytes = wire(alloc, text)?;
     last_with(&mut Feed::new(alloc), bytes.as_bytes())
 }
 
-/// Appends the field of a part of a text, at the second try where the first is refused.
+/// Appends the field of a part of a text, retrying once if memory is refused.
 fn append(fields: &mut Fields, part: &str) -> Result<(), AllocError> {
     let Some((tag, value)) = part.split_once('=') else {
         return Ok(());
@@ -76,7 +76,7 @@ fn append(fields: &mut Fields, part: &str) -> Result<(), AllocError> {
     }
 }
 
-/// The fields of a text.
+/// Returns the fields of a text.
 pub fn fields_of(alloc: Global, text: &str) -> Result<Fields, AllocError> {
     let text = meant(alloc, text)?;
     let mut fields = Fields::new(alloc);
@@ -86,7 +86,7 @@ pub fn fields_of(alloc: Global, text: &str) -> Result<Fields, AllocError> {
     Ok(fields)
 }
 
-/// Fields as a text.
+/// Returns fields as a text.
 pub fn text_of(alloc: Global, fields: &Fields) -> Result<String, AllocError> {
     let mut text = String::new(alloc);
     for field in fields {

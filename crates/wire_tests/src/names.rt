@@ -30,7 +30,7 @@ E 1 -> false false
 77777777777777777777777777777777777777777777777777777777777777777 -> false false
 ";
 
-/// Whether a name and an id can have this text.
+/// Returns whether a name and an id can have this text.
 pub fn told(alloc: Global, text: &str) -> Result<String, AllocError> {
     let is_name = FirmId::new(text.as_bytes()).is_some();
     let is_id = Id::new(text.as_bytes()).is_some();

@@ -82,7 +82,7 @@ const RANGES: &str = "\
 253402300800000 -> false false false
 ";
 
-/// The number of lots that a text means, or why it means none.
+/// Returns the number of lots that a text means, or why it means none.
 pub fn lots_told(alloc: Global, text: &str) -> Result<String, AllocError> {
     match read_lots(text.as_bytes()) {
         Ok(lots) => format!(in alloc; "{}", lots.get()),
@@ -90,7 +90,7 @@ pub fn lots_told(alloc: Global, text: &str) -> Result<String, AllocError> {
     }
 }
 
-/// The millionths that a text means, or why it means none.
+/// Returns the millionths that a text means, or why it means none.
 pub fn price_told(alloc: Global, text: &str) -> Result<String, AllocError> {
     match read_price(text.as_bytes()) {
         Ok(price) => format!(in alloc; "{}", price.get()),
@@ -98,7 +98,7 @@ pub fn price_told(alloc: Global, text: &str) -> Result<String, AllocError> {
     }
 }
 
-/// The day that a text means and its first moment, or why it means none.
+/// Returns the day that a text means and its first moment, or why it means none.
 pub fn day_told(alloc: Global, text: &str) -> Result<String, AllocError> {
     match Day::read(text.as_bytes()) {
         Ok(day) => format!(in alloc; "{:?} {}", day.get(), midnight_of(day).get()),
@@ -106,7 +106,7 @@ pub fn day_told(alloc: Global, text: &str) -> Result<String, AllocError> {
     }
 }
 
-/// Whether lots, an offer and a moment can have the number that a text writes.
+/// Returns whether lots, an offer and a moment can have the number that a text writes.
 pub fn ranges_told(alloc: Global, text: &str) -> Result<String, AllocError> {
     let number = number(text);
     let is_lots = Lots::new(number).is_some();

@@ -154,7 +154,7 @@ const LONGEST: &str = "\
 8=FIXT.1.1|9=65510|35=0|{1=x|*16375}11=x|10=182| -> 49: 1
 ";
 
-/// Tells what a message of the session says, and nothing of another.
+/// Appends what a session message says; nothing for any other message.
 fn tell_session(text: &mut String, inbound: &Inbound) -> Result<(), AllocError> {
     match inbound {
         Inbound::Heartbeat => text.push_str("beats"),
@@ -175,7 +175,7 @@ fn tell_session(text: &mut String, inbound: &Inbound) -> Result<(), AllocError> 
     }
 }
 
-/// What a message asks for, if it asks for anything.
+/// Returns what a message asks for, if it asks for anything.
 pub fn asking_of(inbound: Inbound) -> Option<Asking> {
     match inbound {
         Inbound::TradeCaptureReport(m) => Some(Asking::Report(m)),
@@ -186,7 +186,7 @@ pub fn asking_of(inbound: Inbound) -> Option<Asking> {
     }
 }
 
-/// Tells what a message of these fields says: of the session, or what its firm asks for.
+/// Appends what a message with these fields says: a session message, or what its firm asks for.
 fn tell_said(text: &mut String, fields: &Fields, inbound: Inbound) -> Result<(), AllocError> {
     tell_session(text, &inbound)?;
     if !text.is_empty() {
@@ -201,7 +201,7 @@ fn tell_said(text: &mut String, fields: &Fields, inbound: Inbound) -> Result<(),
     }
 }
 
-/// Tells what fields say, or the tag and the reason of their first fault.
+/// Appends what fields say, or the tag and the reason of their first fault.
 fn tell(text: &mut String, alloc: Global, fields: &Fields) -> Result<(), AllocError> {
     match read(alloc, fields) {
         Ok(inbound) => tell_said(text, fields, inbound),
@@ -210,26 +210,26 @@ fn tell(text: &mut String, alloc: Global, fields: &Fields) -> Result<(), AllocEr
     }
 }
 
-/// What fields say, or the tag and the reason of their first fault.
+/// Returns what fields say, or the tag and the reason of their first fault.
 pub fn answer(alloc: Global, fields: &Fields) -> Result<String, AllocError> {
     let mut text = String::new(alloc);
     tell(&mut text, alloc, fields)?;
     Ok(text)
 }
 
-/// The fields of texts one after another.
+/// Returns the fields of texts one after another.
 fn joined(alloc: Global, front: &str, middle: &str, end: &str) -> Result<Fields, AllocError> {
     let text = format!(in alloc; "{front}{middle}{end}")?;
     fields_of(alloc, text.as_str())
 }
 
-/// The message of which this comes after a sound header.
+/// Returns the message of which this comes after a sound header.
 pub fn inbound_of(alloc: Global, text: &str) -> Result<Inbound, AllocError> {
     let fields = joined(alloc, SOUND, text, "")?;
     read(alloc, &fields).map_err(|_| AllocError)
 }
 
-/// The fields of a message and a text after it, or of a message with a part of it in another form.
+/// Returns the fields of a message and a text after it, or of a message with a part of it in another form.
 pub fn fields_in(alloc: Global, message: &str, asked: &str) -> Result<Fields, AllocError> {
     let Some((part, other)) = asked.split_once(" by ") else {
         return joined(alloc, message, asked, "");
@@ -238,7 +238,7 @@ pub fn fields_in(alloc: Global, message: &str, asked: &str) -> Result<Fields, Al
     joined(alloc, before, other, after)
 }
 
-/// What these fields are read as.
+/// Returns what these fields are read as.
 pub fn told(alloc: Global, message: &str, asked: &str) -> Result<String, AllocError> {
     answer(alloc, &fields_in(alloc, message, asked)?)
 }

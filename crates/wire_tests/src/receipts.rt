@@ -5,14 +5,14 @@ use crate::{cut, takes};
 use gu_terms::{Cut, Entry, Receipt, SweepEntry, Takes};
 use std::alloc::{AllocError, Global};
 
-/// Takes of so many offers.
+/// Takes of this many offers.
 fn takes_of(alloc: Global, count: u64) -> Takes {
     let mut made = Takes::new(alloc);
     let _ = takes::add_all(&mut made, count, false);
     made
 }
 
-/// The receipt of a sweep of so many offers, with as many keys and as many offers in its cut.
+/// Returns the receipt of a sweep of this many offers, with as many keys and as many offers in its cut.
 fn receipt_of(alloc: Global, w: &Values, count: u64) -> Result<Receipt, AllocError> {
     let takes = takes_of(alloc, count);
     let mut cut = Cut::new(alloc);
@@ -31,7 +31,7 @@ fn receipt_of(alloc: Global, w: &Values, count: u64) -> Result<Receipt, AllocErr
     })
 }
 
-/// Whether a copy of a receipt is that receipt.
+/// Returns whether a copy of a receipt is that receipt.
 fn is_copied(receipt: &Receipt) -> Result<bool, AllocError> {
     let copy = receipt.copy()?;
     let is_same = copy.number == receipt.number && copy.entry.is_same(&receipt.entry);
@@ -39,7 +39,7 @@ fn is_copied(receipt: &Receipt) -> Result<bool, AllocError> {
     Ok(is_same)
 }
 
-/// How many copies of a receipt, of so many, are that receipt.
+/// Returns how many copies of a receipt, of this many, are that receipt.
 fn count_copies(receipt: &Receipt, times: u64) -> Result<u64, AllocError> {
     let mut count: u64 = 0;
     for _ in 0..times {
@@ -50,7 +50,7 @@ fn count_copies(receipt: &Receipt, times: u64) -> Result<u64, AllocError> {
     Ok(count)
 }
 
-/// How many takes a receipt has, and how many copies of so many are that receipt.
+/// Returns how many takes a receipt has, and how many copies of this many are that receipt.
 pub fn told(alloc: Global, w: &Values, words: &str) -> Result<String, AllocError> {
     let (count, times) = first_word(words);
     let receipt = receipt_of(alloc, w, number(count))?;

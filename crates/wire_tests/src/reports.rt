@@ -65,7 +65,7 @@ const TRADE: &str = "\
 8=FIXT.1.1|9=112|35=AE|49=E2|56=GIVEUP|34=1|52=20260105-09:00:00|571=R2|880=M1|55=XF6|32=10|31=101.5|75=20260105|552=1|54=2|1=H2|10=239| -> E2: E2 reports R2 of M1: H2 sells 10 XF6 at 101500000 on (2026, 1, 5)
 ";
 
-/// Who sent a message with a text after it or a part of it in another form, and what it is read as.
+/// Returns who sent a message with a text after it or a part of it in another form, and what it is read as.
 pub fn told(alloc: Global, message: &str, asked: &str) -> Result<String, AllocError> {
     let fields = fields_in(alloc, message, asked)?;
     let Some(firm) = sender(&fields) else {
@@ -92,7 +92,7 @@ E2 5 R3 Memory -> x8=FIXT.1.1|9=89|35=AR|49=GIVEUP|56=E2|34=5|52=20260105-00:00:
 E2 1000000000 R3 UnknownInstrument -> x8=FIXT.1.1|9=108|35=AR|49=GIVEUP|56=E2|34=1000000000|52=20260105-00:00:00.000|571=R3|880=M1|939=1|751=2|58=UnknownInstrument|10=062|
 ";
 
-/// The answer of 2026-01-05 to a firm's report with match id M1, by the number of its message, the report and the outcome.
+/// Returns the answer of 2026-01-05 to a firm's report with match id M1, by the number of its message, the report and the outcome.
 fn ack_to(w: &Values, firm: FirmId, words: &str) -> Option<Outbound> {
     let (seq_num, rest) = first_word(words);
     let (id, outcome) = first_word(rest);
@@ -109,7 +109,7 @@ fn ack_to(w: &Values, firm: FirmId, words: &str) -> Option<Outbound> {
     })
 }
 
-/// A message on the wire, after an `x`.
+/// Returns a message on the wire, after an `x`.
 fn on_the_wire(alloc: Global, message: &Outbound) -> Result<String, AllocError> {
     let stamp = Stamp::new(message.sending_time);
     let mut draft = Draft::new(alloc);
@@ -119,7 +119,7 @@ fn on_the_wire(alloc: Global, message: &Outbound) -> Result<String, AllocError> 
     shown(alloc, &output)
 }
 
-/// The answer to a report, on the wire after an `x`.
+/// Returns the answer to a report, on the wire after an `x`.
 pub fn acknowledged(alloc: Global, w: &Values, words: &str) -> Result<String, AllocError> {
     let (firm, rest) = first_word(words);
     let firm = FirmId::new(firm.as_bytes()).unwrap_or(w.firm);

@@ -4,7 +4,7 @@ use gu_msgs::Request;
 use gu_terms::{Command, Day, FirmId, Id, Lines, OfferNo, Query, ReportSide, Side};
 use std::alloc::{AllocError, Global};
 
-/// Tells what a firm says of a trade, by what it does and the ids.
+/// Appends what a firm says about a trade: its action and the ids.
 fn tell_trade(
     text: &mut String,
     firm: &FirmId,
@@ -17,7 +17,7 @@ fn tell_trade(
     write!(text, "{} {verb} {id} of {other}", text_in(firm.get()))
 }
 
-/// Tells what an account does with lots of an instrument at a price.
+/// Appends what an account does with lots of an instrument at a price.
 fn tell_side(text: &mut String, report: &ReportSide) -> Result<(), AllocError> {
     let account = text_in(report.account.get());
     let symbol = text_in(report.symbol.get());
@@ -29,7 +29,7 @@ fn tell_side(text: &mut String, report: &ReportSide) -> Result<(), AllocError> {
     write!(text, ": {account} {verb} {lots} {symbol} at {price}")
 }
 
-/// Tells the day of a report.
+/// Appends the day of a report.
 fn tell_day(text: &mut String, day: &Option<Day>) -> Result<(), AllocError> {
     match day {
         Some(day) => write!(text, " on {:?}", day.get()),
@@ -37,7 +37,7 @@ fn tell_day(text: &mut String, day: &Option<Day>) -> Result<(), AllocError> {
     }
 }
 
-/// Tells lines, and how many lots they are in all.
+/// Appends lines, and how many lots they have in all.
 fn tell_lines(text: &mut String, lines: &Lines) -> Result<(), AllocError> {
     write!(text, ", {} lots:", lines.lots())?;
     for line in lines.as_slice() {
@@ -46,7 +46,7 @@ fn tell_lines(text: &mut String, lines: &Lines) -> Result<(), AllocError> {
     Ok(())
 }
 
-/// Tells what a firm does with an offer.
+/// Appends what a firm does with an offer.
 fn tell_offer(
     text: &mut String,
     firm: &FirmId,
@@ -56,7 +56,7 @@ fn tell_offer(
     write!(text, "{} {verb} {}", text_in(firm.get()), offer.get())
 }
 
-/// Tells a command.
+/// Appends a command as words.
 fn tell_command(text: &mut String, command: &Command) -> Result<(), AllocError> {
     match command {
         Command::ReportSide(it) => {
@@ -78,7 +78,7 @@ fn tell_command(text: &mut String, command: &Command) -> Result<(), AllocError> 
     }
 }
 
-/// Tells what is asked for.
+/// Appends what is asked for.
 pub fn tell_request(text: &mut String, request: &Request) -> Result<(), AllocError> {
     match request {
         Request::Enter(command) => tell_command(text, command),
@@ -92,7 +92,7 @@ pub fn tell_request(text: &mut String, request: &Request) -> Result<(), AllocErr
     }
 }
 
-/// What is asked for, as a text.
+/// Returns what is asked for, as a text.
 pub fn request_text(alloc: Global, request: &Request) -> Result<String, AllocError> {
     let mut text = String::new(alloc);
     tell_request(&mut text, request)?;

@@ -1,5 +1,5 @@
-//! Tables of tests: texts whose lines are rows. A row is what is asked and, after ` -> `, what is to be told; one with no
-//! ` -> ` is to be told nothing, which is an empty text. In both, `{x*9}` is nine times x.
+//! Tables of tests: texts whose lines are rows. A row is what is asked and, after ` -> `, the answer; a row with no
+//! ` -> ` has an empty answer. In both, `{x*9}` is nine times x.
 use crate::messages::meant;
 use crate::words::{Values, sample};
 use crate::{
@@ -20,7 +20,7 @@ pub enum Subject {
     Day,
     /// Lots, an offer and a moment with this number.
     Ranges,
-    /// So many takes, and so many members of a cut.
+    /// This many takes, and this many members of a cut.
     Takes,
     Cut,
     /// How many takes a receipt has, and how many copies are that receipt.
@@ -31,7 +31,7 @@ pub enum Subject {
     Fronts,
     /// How many messages a feed gives of a stream in pieces.
     Pieces,
-    /// How many messages a feed gives wherever a stream is cut, or which ones where a byte of it is another.
+    /// How many messages a feed gives for each cut of a stream, or which ones if one of its bytes is changed.
     Places(feed::Change),
     /// The messages that an intake gives after this front, and how many it gives of a stream in pieces.
     TakenAfter,
@@ -60,7 +60,7 @@ pub enum Subject {
     Acknowledged,
 }
 
-/// What the public calls tell of what is asked.
+/// Returns what the public calls answer to a question.
 fn told(alloc: Global, w: &Values, subject: Subject, asked: &str) -> Result<String, AllocError> {
     match subject {
         Subject::Names => names::told(alloc, asked),
@@ -91,7 +91,7 @@ fn told(alloc: Global, w: &Values, subject: Subject, asked: &str) -> Result<Stri
     }
 }
 
-/// What is wrong with a row: an empty text where it is right.
+/// Returns what is wrong with a row: an empty text if it is right.
 fn fault(alloc: Global, w: &Values, subject: Subject, row: &str) -> Result<String, AllocError> {
     let (asked, expected) = parts_at(row, " -> ");
     let expected = meant(alloc, expected)?;
@@ -103,7 +103,7 @@ fn fault(alloc: Global, w: &Values, subject: Subject, row: &str) -> Result<Strin
     }
 }
 
-/// The same, at the second try where the first is refused memory.
+/// Returns the same, retrying once if memory is refused.
 fn fault_again(
     alloc: Global,
     w: &Values,
@@ -116,12 +116,12 @@ fn fault_again(
     }
 }
 
-/// Whether there is memory.
+/// Returns whether there is memory.
 pub fn has_memory(alloc: Global) -> bool {
     Vec::<u8>::with_capacity(alloc, 1).is_ok()
 }
 
-/// Asserts that what each row of a table asks is told as the row says. Nothing is told once there is no memory any more.
+/// Asserts that each row of a table has the answer that the row says. Nothing is asserted once there is no memory any more.
 pub fn check(rt: &impl Abort, alloc: Global, subject: Subject, table: &str) {
     let w = sample().expect(rt, "a sample");
     for row in table.lines() {
@@ -132,17 +132,17 @@ pub fn check(rt: &impl Abort, alloc: Global, subject: Subject, table: &str) {
     }
 }
 
-/// What comes before a mark in a text, and what comes after it: the whole text, and nothing, where the mark isn't in it.
+/// Returns what comes before a mark in a text, and what comes after it: the whole text, and nothing, if the mark isn't in it.
 pub fn parts_at<'a>(text: &'a str, mark: &str) -> (&'a str, &'a str) {
     text.split_once(mark).unwrap_or((text, ""))
 }
 
-/// The first word of a text, and the rest after the space.
+/// Returns the first word of a text, and the rest after the space.
 pub fn first_word(text: &str) -> (&str, &str) {
     parts_at(text, " ")
 }
 
-/// The number that a word writes.
+/// Returns the number that a word writes.
 pub fn number(word: &str) -> u64 {
     word.parse().unwrap_or(0)
 }

@@ -3,7 +3,7 @@ use crate::rows::{Subject, check, number};
 use gu_terms::{OfferNo, Takes};
 use std::alloc::{AllocError, Global};
 
-/// Adds a take of an offer, at the second try where the first is refused, and answers whether it was new.
+/// Adds a take of an offer, retrying once if memory is refused, and returns whether it was new.
 fn add(takes: &mut Takes, number: u64) -> Option<bool> {
     let offer = OfferNo::new(number)?;
     match takes.add(offer, 1) {
@@ -12,7 +12,7 @@ fn add(takes: &mut Takes, number: u64) -> Option<bool> {
     }
 }
 
-/// How many takes were new of so many offers, the last one first where they fall.
+/// Returns how many takes were new of this many offers, the last one first if the numbers descend.
 pub fn add_all(takes: &mut Takes, count: u64, falls: bool) -> u64 {
     let mut added: u64 = 0;
     for place in 0..count {
@@ -24,7 +24,7 @@ pub fn add_all(takes: &mut Takes, count: u64, falls: bool) -> u64 {
     added
 }
 
-/// How many takes were new, how many were new of the same offers once more, and how many a copy has.
+/// Returns how many takes were new, how many were new of the same offers once more, and how many a copy has.
 pub fn told(alloc: Global, count: &str) -> Result<String, AllocError> {
     let mut takes = Takes::new(alloc);
     let first = add_all(&mut takes, number(count), true);

@@ -62,7 +62,7 @@ impl Drop for Talk {
     }
 }
 
-/// The moment of a time of 2026-01-05.
+/// Returns the moment of a time of 2026-01-05.
 fn moment_of(time: &str) -> Option<Moment> {
     let (clock, millis) = time.split_once('.')?;
     let (hours, rest) = clock.split_once(':')?;
@@ -75,13 +75,13 @@ fn moment_of(time: &str) -> Option<Moment> {
     Moment::new(millis.saturating_add(1_767_571_200_000))
 }
 
-/// A whole message as an input.
+/// Returns a whole message as an input.
 fn framed(alloc: Global, message: String) -> Result<Option<Input>, AllocError> {
     let frame = frame_in(alloc, message.as_str())?;
     Ok(Some(Input::Frame(frame)))
 }
 
-/// The messages that follow what was there, if nothing else does.
+/// Returns the messages that follow what was there, if nothing else does.
 fn messages_in(alloc: Global, text: &[u8]) -> Result<Option<Vec<Output>>, AllocError> {
     let Some(rest) = text.strip_prefix(BEFORE) else {
         return Ok(None);
@@ -113,7 +113,7 @@ fn take(
     }
 }
 
-/// What a session gives that appends its messages, one output after another.
+/// Returns the outputs of a session, one after another, with its messages appended.
 fn step_onto(
     alloc: Global,
     session: &mut Session,
@@ -139,7 +139,7 @@ fn step_onto(
 }
 
 impl Talk {
-    /// A conversation at nine in which E1 and E2 may log on.
+    /// Returns a conversation at nine in which E1 and E2 may log on.
     fn new(alloc: Global, call: Call) -> Result<Option<Talk>, AllocError> {
         let (Some(values), Some(other)) = (sample(), FirmId::new(b"E2")) else {
             return Ok(None);
@@ -165,7 +165,7 @@ impl Talk {
         }
     }
 
-    /// The answer to what was handed out last.
+    /// Returns the answer to what was handed out last.
     fn answer(&self, alloc: Global, text: &str) -> Result<Option<Input>, AllocError> {
         let Some(reference) = self.asked else {
             return Ok(None);
@@ -174,7 +174,7 @@ impl Talk {
         Ok(Some(Input::Answer(reference, outcome)))
     }
 
-    /// The input of a line, where it has one.
+    /// Returns the input of a line, if it has one.
     fn input(&self, alloc: Global, word: &str, text: &str) -> Result<Option<Input>, AllocError> {
         match word {
             "in" => framed(
@@ -191,7 +191,7 @@ impl Talk {
         }
     }
 
-    /// What the session gives for an input, unless it spoils what was there.
+    /// Returns what the session gives for an input, unless it spoils what was there.
     fn step(&mut self, alloc: Global, input: Input) -> Result<Option<Vec<Output>>, AllocError> {
         match self.call {
             Call::Step => Ok(Some(self.session.step(input, self.now)?)),
@@ -210,7 +210,7 @@ impl Talk {
         Ok(is_due)
     }
 
-    /// What the session gives next, as a text.
+    /// Returns what the session gives next, as a text.
     fn told(&self, alloc: Global) -> Result<String, AllocError> {
         if let Some(request) = &self.handed {
             return request_text(alloc, request);
@@ -222,7 +222,7 @@ impl Talk {
         }
     }
 
-    /// The same by what a line says.
+    /// Returns the same by what a line says.
     fn expected(&self, alloc: Global, word: &str, text: &str) -> Result<String, AllocError> {
         let text = match word {
             "out" => return message_at(alloc, "49=GIVEUP|56=E1", self.time, text),
@@ -251,7 +251,7 @@ impl Talk {
         }
     }
 
-    /// Whether this firm is logged on.
+    /// Returns whether this firm is logged on.
     fn is_firm(&self, name: &str) -> bool {
         match self.session.firm() {
             Some(firm) => firm.get() == name.as_bytes(),
@@ -259,7 +259,7 @@ impl Talk {
         }
     }
 
-    /// Whether the session gives next what a line says.
+    /// Returns whether the session gives next what a line says.
     fn gives(&mut self, alloc: Global, word: &str, text: &str) -> Result<bool, AllocError> {
         let expected = self.expected(alloc, word, text)?;
         self.take_handed();
@@ -268,7 +268,7 @@ impl Talk {
         Ok(told.as_str() == expected.as_str())
     }
 
-    /// Whether a line is right; after `done` nothing is left that the session gave.
+    /// Returns whether a line is right; after `done` nothing is left that the session gave.
     fn take(&mut self, alloc: Global, line: &str) -> Result<bool, AllocError> {
         let (word, text) = first_word(line);
         if let Some(input) = self.input(alloc, word, text)? {
@@ -283,7 +283,7 @@ impl Talk {
     }
 }
 
-/// A conversation at nine, at the second try where the first is refused memory. Nothing comes of it once there is none any more.
+/// Returns a conversation at nine, retrying once if memory is refused. Returns nothing once there is no memory left.
 fn begin(rt: &impl Abort, alloc: Global, call: Call) -> Option<Talk> {
     let talk = match Talk::new(alloc, call) {
         Ok(talk) => Ok(talk),
@@ -298,7 +298,7 @@ fn begin(rt: &impl Abort, alloc: Global, call: Call) -> Option<Talk> {
     }
 }
 
-/// Asserts that a line is right. One that is refused memory is tried once more. It answers whether the conversation goes on, as it
+/// Asserts that a line is right. One that is refused memory is tried once more. Returns whether the conversation goes on, as it
 /// does as long as there is memory.
 fn check_line(rt: &impl Abort, alloc: Global, talk: &mut Talk, name: &str, line: &str) -> bool {
     let told = match talk.take(alloc, line) {

@@ -25,7 +25,7 @@ pub struct Values {
     pub group: Group,
 }
 
-/// Firm E1, nine o'clock of 2026-01-05, id R1, match M1, account A1, ten lots of XF6 at 101.5, offer 1, and group G1.
+/// Returns firm E1, nine o'clock on 2026-01-05, id R1, match M1, account A1, ten lots of XF6 at 101.5, offer 1, and group G1.
 pub fn sample() -> Option<Values> {
     Some(Values {
         firm: FirmId::new(b"E1")?,
@@ -42,7 +42,7 @@ pub fn sample() -> Option<Values> {
     })
 }
 
-/// A side by its word.
+/// Returns a side by its word.
 pub fn side_of(word: &str) -> Side {
     match word {
         "sell" => Side::Sell,
@@ -50,7 +50,7 @@ pub fn side_of(word: &str) -> Side {
     }
 }
 
-/// An event of an offer by its words. A refusal has its number.
+/// Returns an event of an offer by its words. A refusal has its number.
 pub fn event_of(words: &str) -> Option<OfferEvent> {
     match words {
         "offered" => Some(OfferEvent::Offered),
@@ -63,7 +63,7 @@ pub fn event_of(words: &str) -> Option<OfferEvent> {
     }
 }
 
-/// The notice of entry 7, which made a trade of a report.
+/// Returns the notice of entry 7, which made a trade of a report.
 fn matched(w: &Values, side: Side) -> Notice {
     Notice::Matched {
         entry: 7,
@@ -81,7 +81,7 @@ fn matched(w: &Values, side: Side) -> Notice {
     }
 }
 
-/// The notice of an event of the offer.
+/// Returns the notice of an event of the offer.
 fn offered(w: &Values, side: Side, event: OfferEvent) -> Notice {
     Notice::Offer(OfferNotice {
         offer: w.offer,
@@ -95,7 +95,7 @@ fn offered(w: &Values, side: Side, event: OfferEvent) -> Notice {
     })
 }
 
-/// A notice by its words: of a trade that was matched, or of an event of an offer.
+/// Returns a notice by its words: of a trade that was matched, or of an event of an offer.
 pub fn notice_of(w: &Values, side: Side, words: &str) -> Option<Notice> {
     if words == "matched" {
         return Some(matched(w, side));
@@ -103,7 +103,7 @@ pub fn notice_of(w: &Values, side: Side, words: &str) -> Option<Notice> {
     Some(offered(w, side, event_of(words)?))
 }
 
-/// What was done, by its word; after it comes how many offers or lots there are, ten lots where no number does.
+/// Returns what was done, by its word; after it comes how many offers or lots there are, ten lots if no number does.
 fn done_of(w: &Values, words: &str) -> Option<Done> {
     let (word, count) = first_word(words);
     let count = number(count);
@@ -124,7 +124,7 @@ fn done_of(w: &Values, words: &str) -> Option<Done> {
     }
 }
 
-/// The key of a limit by its word.
+/// Returns the key of a limit by its word.
 fn limit_key_of(w: &Values, word: &str) -> Option<LimitKey> {
     match word {
         "EXEC" => Some(LimitKey::Exec(w.firm)),
@@ -136,7 +136,7 @@ fn limit_key_of(w: &Values, word: &str) -> Option<LimitKey> {
     }
 }
 
-/// A refusal by its words: its name, and the word of the limit that is reached.
+/// Returns a refusal by its words: its name, and the word of the limit that is reached.
 fn refusal_of(w: &Values, words: &str) -> Option<Refusal> {
     let (name, key) = first_word(words);
     match name {
@@ -156,7 +156,7 @@ fn refusal_of(w: &Values, words: &str) -> Option<Refusal> {
     }
 }
 
-/// A reply by its words.
+/// Returns a reply by its words.
 pub fn reply_of(w: &Values, words: &str) -> Option<Reply> {
     match done_of(w, words) {
         Some(done) => Some(Reply::Accepted(done)),
@@ -164,7 +164,7 @@ pub fn reply_of(w: &Values, words: &str) -> Option<Reply> {
     }
 }
 
-/// Why something isn't in the book, by its words. Other words say that it is.
+/// Returns why something isn't in the book, by its words. Other words say that it is.
 pub fn rejection_of(w: &Values, words: &str) -> Option<Rejection> {
     match words {
         "Memory" => Some(Rejection::Memory),
@@ -173,7 +173,7 @@ pub fn rejection_of(w: &Values, words: &str) -> Option<Rejection> {
     }
 }
 
-/// Ten lots long in so many instruments, on an open day or a closed one, by their words. Other words are no answer.
+/// Returns ten lots long in this many instruments, on an open day or a closed one, by their words. Other words are no answer.
 pub fn rows_of(alloc: Global, w: &Values, words: &str) -> Result<Option<PositionRows>, AllocError> {
     let (word, count) = first_word(words);
     let day = match word {
@@ -192,7 +192,7 @@ pub fn rows_of(alloc: Global, w: &Values, words: &str) -> Result<Option<Position
     Ok(Some(PositionRows { day, rows }))
 }
 
-/// An outcome by its words: what was done, why it wasn't, or positions.
+/// Returns an outcome by its words: what was done, why it wasn't, or positions.
 pub fn outcome_of(alloc: Global, w: &Values, words: &str) -> Result<Outcome, AllocError> {
     if let Some(reply) = reply_of(w, words) {
         return Ok(Outcome::Replied(reply));

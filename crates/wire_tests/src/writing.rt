@@ -7,7 +7,7 @@ use gu_msgs::{Draft, LogoutReason, Outbound, Stamp, write, write_over};
 use gu_terms::Moment;
 use std::alloc::{AllocError, Global};
 
-/// Message 3 to the firm, which is sent at nine.
+/// Returns message 3 to the firm, which is sent at nine.
 fn at_nine(w: &Values, body: Body) -> Outbound {
     Outbound {
         firm: w.firm,
@@ -18,7 +18,7 @@ fn at_nine(w: &Values, body: Body) -> Outbound {
     }
 }
 
-/// The fields of a message that is written over another one, as a text.
+/// Returns the fields of a message that is written over another one, as a text.
 fn written(alloc: Global, w: &Values, message: &Outbound) -> Result<String, AllocError> {
     let mut draft = Draft::new(alloc);
     let earlier = at_nine(w, Body::Logout(Some(LogoutReason::SeqTooLow)));
@@ -29,7 +29,7 @@ fn written(alloc: Global, w: &Values, message: &Outbound) -> Result<String, Allo
     text_of(alloc, &draft.into_fields())
 }
 
-/// What a message that is sent at nine is written as, but for those parts of the header that each has, where it has them.
+/// Returns what a message that is sent at nine is written as, but for those parts of the header that each has, if it has them.
 pub fn text_at_nine(alloc: Global, w: &Values, body: Body) -> Result<String, AllocError> {
     let text = written(alloc, w, &at_nine(w, body))?;
     let each = "49=GIVEUP|56=E1|34=3|52=20260105-09:00:00.000|";
@@ -42,7 +42,7 @@ const ROWS: &str = "\
 106 1767603600000 -> 35=4|49=GIVEUP|56=E1|34=3|52=20260105-09:00:00.000|123=Y|36=106|
 ";
 
-/// The message of a row.
+/// Returns the message of a row.
 fn message_of(w: &Values, words: &str) -> Outbound {
     let (reset, times) = first_word(words);
     let (now, first) = first_word(times);
@@ -58,7 +58,7 @@ fn message_of(w: &Values, words: &str) -> Outbound {
     message
 }
 
-/// What the message of a row is written as.
+/// Returns what the message of a row is written as.
 pub fn told(alloc: Global, w: &Values, words: &str) -> Result<String, AllocError> {
     let fields = write(alloc, &message_of(w, words))?;
     text_of(alloc, &fields)

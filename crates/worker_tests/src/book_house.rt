@@ -15,7 +15,7 @@ use std::cell::{Cell, RefCell};
 #[derive(Drop)]
 pub struct SharedBook {
     house: RefCell<OverBook>,
-    /// What is entered as soon as a firm was given its notices, once.
+    /// A command that is entered once, as soon as a firm has its notices.
     besides: RefCell<Option<Command>>,
     /// The most give-ups that any connection has counted.
     pub most_give_ups: Cell<u64>,
@@ -37,7 +37,7 @@ impl SharedBook {
         }
     }
 
-    /// How many entries it has.
+    /// Returns how many entries it has.
     pub fn entries(&self) -> usize {
         match self.house.try_borrow() {
             Ok(house) => house.book().history().len(),
@@ -99,7 +99,7 @@ pub struct BookHouse<'a> {
     give_ups: u64,
 }
 
-/// What is answered where the book is in use, which doesn't happen.
+/// Returns the answer if the book is in use, which doesn't happen.
 fn left_out(ask: Ask) -> Answered {
     drop(ask);
     Answered {
@@ -109,7 +109,7 @@ fn left_out(ask: Ask) -> Answered {
 }
 
 impl<'a> BookHouse<'a> {
-    /// The house over a book, which informs these workers.
+    /// Returns the house over a book, which informs these workers.
     pub fn new(shared: &'a SharedBook, posts: &'a Posts<Ring>) -> Self {
         BookHouse {
             shared,

@@ -13,7 +13,7 @@ use trials::wire;
 const ROWS: &str =
     "FIRM,E1\nFIRM,E2\nFIRM,C1\nFIRM,C2\nGROUP,G1\nGROUP,G2\nINSTRUMENT,XF6,G1\nINSTRUMENT,YF6,G2\nACCOUNT,H1,E1\nACCOUNT,H2,E2\nACCOUNT,A1,C1\nACCOUNT,A2,C1\nACCOUNT,A3,C2\nAGREEMENT,P1,E1,A1\nAGREEMENT,P2,E1,A2\nAGREEMENT,P3,E2,A1\nAGREEMENT,P4,E2,A3\n";
 
-/// The reference of the sample.
+/// Returns the reference of the sample.
 pub fn sample(alloc: Global) -> Result<Reference, ScriptError> {
     match Reference::read(alloc, &mut CountedReads::new(ROWS.as_bytes())) {
         Ok(reference) => Ok(reference),
@@ -21,7 +21,7 @@ pub fn sample(alloc: Global) -> Result<Reference, ScriptError> {
     }
 }
 
-/// The book of the sample after a script, in which `/` ends a line.
+/// Returns the book of the sample after a script, in which `/` ends a line.
 pub fn book_after(alloc: Global, script: &str) -> Result<Book, ScriptError> {
     let script = wire(alloc, script)?;
     let reference = sample(alloc)?;

@@ -13,7 +13,7 @@ pub struct Bulk<'a> {
     last: &'a str,
 }
 
-/// The value of a field of a message.
+/// Returns the value of a field of a message.
 fn field<'a>(message: &'a str, tag: &str) -> &'a str {
     for field in message.split('|') {
         let (name, value) = field.split_once('=').unwrap_or((field, ""));
@@ -25,7 +25,7 @@ fn field<'a>(message: &'a str, tag: &str) -> &'a str {
 }
 
 impl<'a> Bulk<'a> {
-    /// What the messages of a text are.
+    /// Returns what the messages of a text are.
     pub fn of(text: &'a str) -> Self {
         let mut bulk = Bulk {
             numbered: 0,
@@ -52,7 +52,7 @@ impl<'a> Bulk<'a> {
         }
     }
 
-    /// These as a line.
+    /// Returns these as a line.
     pub fn told(&self, alloc: Global) -> Result<String, AllocError> {
         format!(in alloc; "{} {} {}", self.numbered, self.reports, self.last)
     }

@@ -57,10 +57,10 @@ pub struct Floor {
 /// A worker of a test.
 pub type Hand<'a> = Worker<'a, Switchboard<'a>, Watch<'a>, BookHouse<'a>, Host, Ring>;
 
-/// Where the connections of a worker of a test are sent.
+/// The sender of connections to a worker of a test.
 pub type Callers<'a> = CallSender<'a, Line<'a>, Ring>;
 
-/// The firms that may log on.
+/// Returns the firms that may log on.
 fn firms(alloc: Global) -> Result<Vec<FirmId>, AllocError> {
     let mut firms = Vec::new(alloc);
     for name in [b"E1", b"E2", b"C1", b"C2"] {
@@ -71,7 +71,7 @@ fn firms(alloc: Global) -> Result<Vec<FirmId>, AllocError> {
     Ok(firms)
 }
 
-/// The secrets of a file, if it isn't empty.
+/// Returns the secrets of a file, if it isn't empty.
 fn secrets(alloc: Global, file: &str, firms: &[FirmId]) -> Option<Secrets> {
     if file.is_empty() {
         return None;
@@ -98,7 +98,7 @@ fn wires(alloc: Global, count: usize) -> Result<Vec<Wire>, AllocError> {
 }
 
 impl Floor {
-    /// What workers share at nine, of a book after a script.
+    /// Returns what workers share at nine, of a book after a script.
     pub fn new(alloc: Global, setting: Setting<'_>) -> Result<Self, ScriptError> {
         let script = meant(alloc, setting.script)?;
         let house = OverBook::new(book_after(alloc, &script)?);
@@ -123,7 +123,7 @@ impl Floor {
         })
     }
 
-    /// A worker, and where its connections are sent.
+    /// Returns a worker, and the sender of its connections.
     pub fn worker(
         &self,
         alloc: Global,

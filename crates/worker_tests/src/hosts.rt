@@ -31,7 +31,7 @@ fn count(cell: &Cell<u64>) {
 }
 
 impl Host {
-    /// One that has seen no connection, and refuses nobody.
+    /// Returns one that has seen no connection, and refuses nobody.
     pub fn new() -> Self {
         Host {
             refused: Cell::new(None),
@@ -46,22 +46,22 @@ impl Host {
         }
     }
 
-    /// What was wrong with the last first message that was refused, and which firm it named.
+    /// Returns what was wrong with the last first message that was refused, and which firm it named.
     pub fn fault(&self) -> Option<(Option<FirmId>, LogonFault)> {
         self.fault.get()
     }
 
-    /// Why the last connection without a place had none.
+    /// Returns why the last connection without a place had none.
     pub fn turned_away(&self) -> Option<Refusal> {
         self.turned_away.get()
     }
 
-    /// Why the last connection ended.
+    /// Returns why the last connection ended.
     pub fn cause(&self) -> Option<EndCause> {
         self.cause.get()
     }
 
-    /// How many connections have begun, how many have ended, how many of these by a fault, and how many places firms have.
+    /// Returns how many connections have begun, how many have ended, how many of these by a fault, and how many places firms have.
     pub fn counts(&self) -> (u64, u64, u64, u64) {
         (
             self.begun.get(),

@@ -40,7 +40,7 @@ out 5 3",
     ),
 ];
 
-/// What workers share, with room for what firms are sent.
+/// Returns what workers share, with room for what firms are sent.
 fn floor(alloc: Global) -> Result<Floor, AllocError> {
     match Floor::new(alloc, SETTING) {
         Ok(floor) => {
@@ -68,7 +68,7 @@ fn say<R: Wait>(rt: &R, play: &mut Play<'_>) -> Result<(), AllocError> {
     Ok(())
 }
 
-/// Whether each firm was sent all, or where that isn't wanted a first part of it, and has no connection any more.
+/// Returns whether each firm was sent all, or if that isn't wanted a first part of it, and has no connection any more.
 fn is_told(play: &Play<'_>, is_all: bool) -> Result<bool, AllocError> {
     for (wire, (firm, lines)) in play.floor.wires.iter().zip(SAID) {
         let talk = play.talk(firm, lines)?;
@@ -81,7 +81,7 @@ fn is_told(play: &Play<'_>, is_all: bool) -> Result<bool, AllocError> {
     Ok(true)
 }
 
-/// Whether a worker serves both firms, or ends one of them or both; and says that it couldn't go on, if so.
+/// Returns whether a worker serves both firms, or ends one of them or both; and says that it couldn't go on, if so.
 fn is_served_or_ended<R: Wait>(rt: &R, alloc: Global) -> Result<bool, AllocError> {
     let floor = floor(alloc)?;
     let mut play = Play::new(alloc, "memory", &floor, SETTING)?;

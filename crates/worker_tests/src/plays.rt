@@ -26,7 +26,7 @@ pub struct Play<'a> {
 }
 
 impl<'a> Play<'a> {
-    /// The workers of a setting, at nine.
+    /// Returns the workers of a setting, at nine.
     pub fn new(
         alloc: Global,
         name: &'a str,
@@ -51,7 +51,7 @@ impl<'a> Play<'a> {
         })
     }
 
-    /// The connection of a number, from 1 on.
+    /// Returns the connection of a number, from 1 on.
     pub fn wire(&self, number: usize) -> Option<&'a Wire> {
         self.floor.wires.get(number.checked_sub(1)?)
     }
@@ -71,7 +71,7 @@ impl<'a> Play<'a> {
         callers.send(rt, call);
     }
 
-    /// Says that no more connections come.
+    /// Ends the connections that come.
     pub fn end_calls(&mut self) {
         self.callers.clear();
     }
@@ -87,20 +87,20 @@ impl<'a> Play<'a> {
         Ok(())
     }
 
-    /// What a line of a firm says, at this time.
+    /// Returns what a line of a firm says, at this time.
     pub fn talk(&self, firm: &str, line: &str) -> Result<Talk, AllocError> {
         let lines = format!(in self.alloc; "clock {}\n{line}", self.time)?;
         Talk::of(self.alloc, firm, &lines)
     }
 
-    /// A firm sends what a line says.
+    /// Sends what a firm's line says.
     pub fn send(&self, wire_to: &Wire, firm: &str, line: &str) -> Result<(), AllocError> {
         let talk = self.talk(firm, line)?;
         let bytes = wire(self.alloc, &talk.input)?;
         wire_to.send(bytes.as_bytes())
     }
 
-    /// What a firm was sent since this was asked last, but at most so many bytes.
+    /// Returns what a firm was sent since this was asked last, but at most this many bytes.
     pub fn look(&self, wire: &Wire, most: usize) -> Result<String, AllocError> {
         let bytes = wire.look(self.alloc, most)?;
         shown(self.alloc, &bytes)

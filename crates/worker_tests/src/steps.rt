@@ -22,7 +22,7 @@
 //! - `besides LINE`: it is entered as soon as a firm was given notices
 //! - `keep 4`, `stop`: four entries are kept; no more will be
 //! - `refuse E1`, `most 2`: E1 has no place from now on; firms have two places at most
-//! - `wrong Secret E1`: of the last first message that was refused this was wrong, and it named E1, or no firm that may come in there
+//! - `wrong Secret E1`: the last first message that was refused was wrong in this way, and named E1, or no firm that may come in there
 //! - `away Full`, `ended Cut`: why the last connection without a place had none, and why the last one ended
 //! - `host 3 2 1 1`: three connections have begun, two have ended, one of them by a fault, and firms have one place
 //! - `entries 4`, `connections 0 2`: the book has four entries; worker 0 has two connections
@@ -49,12 +49,12 @@ use std::process::Abort;
 use std::sync::Wait;
 use trials::meant;
 
-/// What comes before the first of these characters, and what comes after it.
+/// Returns what comes before the first of these characters, and what comes after it.
 fn parts(text: &str, at: char) -> (&str, &str) {
     text.split_once(at).unwrap_or((text, ""))
 }
 
-/// The number that a word writes.
+/// Returns the number that a word writes.
 fn number(word: &str) -> usize {
     word.parse().unwrap_or(0)
 }
@@ -85,7 +85,7 @@ fn check_out<R: Abort>(rt: &R, play: &Play<'_>, wire: &Wire, firm: &str, line: &
     );
 }
 
-/// Asserts that a firm was sent so many bytes.
+/// Asserts that a firm was sent this many bytes.
 fn check_took<R: Abort>(rt: &R, play: &Play<'_>, wire: &Wire, count: usize) {
     let found = play.look(wire, usize::MAX).expect(rt, "memory");
     assert_eq!(rt; found.len(), count, "{}: took", play.name);
@@ -111,7 +111,7 @@ fn check_wire<R: Abort>(rt: &R, play: &Play<'_>, wire: &Wire, word: &str, text: 
     }
 }
 
-/// The firm at whose door a connection comes, if it comes by one.
+/// Returns the firm at whose door a connection comes, if it comes by one.
 fn door(text: &str) -> Option<FirmId> {
     let firm = text.strip_prefix("at ")?;
     FirmId::new(firm.as_bytes())
@@ -147,7 +147,7 @@ fn enter_besides(alloc: Global, floor: &Floor, line: &str) -> Result<(), TextErr
     Ok(())
 }
 
-/// What the host heard last, of the kind that a word names.
+/// Returns the last event at the host of the kind that a word names.
 fn heard(play: &Play<'_>, word: &str) -> Result<String, AllocError> {
     let host = &play.floor.host;
     match (word, host.fault(), host.turned_away(), host.cause()) {
@@ -162,7 +162,7 @@ fn heard(play: &Play<'_>, word: &str) -> Result<String, AllocError> {
     }
 }
 
-/// Asserts what the host heard last, of the kind that a word names.
+/// Asserts the last event at the host of the kind that a word names.
 fn check_heard<R: Abort>(
     rt: &R,
     play: &Play<'_>,
@@ -248,7 +248,7 @@ fn post_step<R: Abort>(rt: &R, play: &Play<'_>, word: &str, text: &str) {
     }
 }
 
-/// From now on the poller fails, the clock or the house.
+/// Makes the poller, the clock or the house fail from now on.
 fn set_fault(play: &Play<'_>, text: &str) {
     match text {
         "poller" => play.floor.waits.has_failed.set(true),
@@ -257,7 +257,7 @@ fn set_fault(play: &Play<'_>, text: &str) {
     }
 }
 
-/// The failure that a word names, if it names one.
+/// Returns the failure that a word names, if it names one.
 fn failure(word: &str) -> Option<Failure> {
     match word {
         "poller" => Some(Failure::Poller),

@@ -31,7 +31,7 @@ pub struct Switchboard<'a> {
 }
 
 impl<'a> Switchboard<'a> {
-    /// The poller of these connections, which a bell wakes.
+    /// Returns the poller of these connections, which a bell wakes.
     pub fn new(
         wires: &'a [Wire],
         hands: &'a Hands,

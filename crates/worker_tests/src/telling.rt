@@ -1,4 +1,4 @@
-//! Notices at once: whom an entry informs is told by the next round of his worker.
+//! Immediate notices: a firm that an entry informs receives it in its worker's next round.
 
 use crate::floors::{NO_JOURNAL, Setting};
 use crate::steps::check_plays;

@@ -47,7 +47,7 @@ pub struct Watch<'a> {
 }
 
 impl<'a> Watch<'a> {
-    /// The clock that shows this time.
+    /// Returns the clock that shows this time.
     pub fn new(hands: &'a Hands) -> Self {
         Watch { hands }
     }
@@ -75,7 +75,7 @@ pub struct Ring {
 }
 
 impl Ring {
-    /// One that nobody rang.
+    /// Returns one that nobody rang.
     pub fn new() -> Self {
         Ring {
             count: Cell::new(0),
@@ -83,12 +83,12 @@ impl Ring {
         }
     }
 
-    /// Whether it was rung since its worker waited last, which waits now.
+    /// Returns whether it was rung since its worker waited last, which waits now.
     pub fn wakes(&self) -> bool {
         self.is_rung.replace(false)
     }
 
-    /// How often it was rung since it was asked last.
+    /// Returns how often it was rung since it was asked last.
     pub fn take(&self) -> u64 {
         self.count.replace(0)
     }

@@ -8,7 +8,7 @@ use std::cell::{Cell, RefCell};
 use std::io;
 use std::io::{ErrorKind, Read, Write};
 
-/// How much room a connection has to which nothing is said of it.
+/// The room of a connection for which none is set.
 const AMPLE_ROOM: usize = 1_000_000_000;
 
 /// The firm's end of a connection.
@@ -92,13 +92,13 @@ pub struct Wire {
     seen: Cell<usize>,
 }
 
-/// The error of a connection that is used while it is used, which doesn't happen.
+/// Returns the error of a connection that is used while it is used, which doesn't happen.
 fn busy() -> io::Error {
     io::Error::from(ErrorKind::Deadlock)
 }
 
 impl Wire {
-    /// A connection that hasn't come.
+    /// Returns a connection that hasn't come.
     pub fn new(alloc: Global) -> Self {
         let end = End {
             sent: Vec::new(alloc),
@@ -126,7 +126,7 @@ impl Wire {
         Ok(())
     }
 
-    /// The firm sends bytes.
+    /// Sends bytes from the firm.
     pub fn send(&self, bytes: &[u8]) -> Result<(), AllocError> {
         if let Ok(mut end) = self.end.try_borrow_mut() {
             end.sent.extend_from_slice(bytes)?;
@@ -138,7 +138,7 @@ impl Wire {
         Ok(())
     }
 
-    /// The firm sends no more.
+    /// Ends what the firm sends.
     pub fn finish(&self) {
         if let Ok(mut end) = self.end.try_borrow_mut() {
             end.is_over = true;
@@ -150,7 +150,7 @@ impl Wire {
         });
     }
 
-    /// The connection fails.
+    /// Makes the connection fail.
     pub fn fail(&self) {
         if let Ok(mut end) = self.end.try_borrow_mut() {
             end.has_failed = true;
@@ -158,7 +158,7 @@ impl Wire {
         self.finish();
     }
 
-    /// From now on the firm takes so many bytes.
+    /// Sets how many bytes the firm takes from now on.
     pub fn set_room(&self, room: usize) {
         if let Ok(mut end) = self.end.try_borrow_mut() {
             end.room = room;
@@ -169,7 +169,7 @@ impl Wire {
         });
     }
 
-    /// How many bytes of the firm's weren't read.
+    /// Returns how many bytes of the firm's weren't read.
     pub fn unread(&self) -> usize {
         match self.end.try_borrow() {
             Ok(end) => end.sent.len().saturating_sub(end.read),
@@ -177,7 +177,7 @@ impl Wire {
         }
     }
 
-    /// How many bytes the firm was sent.
+    /// Returns how many bytes the firm was sent.
     pub fn taken(&self) -> usize {
         match self.end.try_borrow() {
             Ok(end) => end.taken.len(),
@@ -185,7 +185,7 @@ impl Wire {
         }
     }
 
-    /// What the firm was sent since a test looked last, but at most so many bytes. From now on the test has looked at it.
+    /// Returns what the firm was sent since a test looked last, but at most this many bytes. From now on the test has looked at it.
     pub fn look(&self, alloc: Global, most: usize) -> Result<Vec<u8>, AllocError> {
         let Ok(end) = self.end.try_borrow() else {
             return Err(AllocError);
@@ -197,17 +197,17 @@ impl Wire {
         Ok(found)
     }
 
-    /// Whether the worker, or the way to it, has it.
+    /// Returns whether the worker, or the way to it, has it.
     pub fn is_open(&self) -> bool {
         self.halves.get() > 0
     }
 
-    /// Whether the worker has said that it writes no more.
+    /// Returns whether the worker has said that it writes no more.
     pub fn is_said(&self) -> bool {
         self.is_said.get()
     }
 
-    /// What is new of it, if it is watched and anything is.
+    /// Returns its news, if it is watched and there is any.
     pub fn take_ready(&self) -> Option<Ready> {
         let place = self.place.get()?;
         let news = self.news.replace(NO_NEWS);
@@ -223,12 +223,12 @@ impl Wire {
         })
     }
 
-    /// One half more is there.
+    /// Counts one more half.
     fn add_half(&self) {
         self.halves.set(self.halves.get().saturating_add(1));
     }
 
-    /// One half is dropped.
+    /// Counts one half less.
     fn drop_half(&self) {
         self.halves.set(self.halves.get().saturating_sub(1));
         if self.halves.get() == 0 {
@@ -250,13 +250,13 @@ impl Drop for Line<'_> {
 }
 
 impl<'a> Line<'a> {
-    /// A connection that was accepted.
+    /// Returns a connection that was accepted.
     pub fn new(wire: &'a Wire) -> Self {
         wire.add_half();
         Line { wire }
     }
 
-    /// Its halves, which are watched under the number of a place.
+    /// Returns its halves, which are watched under the number of a place.
     pub fn halves(self, place: usize) -> (Hearing<'a>, Saying<'a>) {
         let wire = self.wire;
         wire.add_half();

@@ -16,7 +16,7 @@ use Rattle.gu_book.specs.Shown.{rooms_in}
 use Rattle.gu_book.proofs.KeptRooms.{rooms_in-keys, rooms_in-limits}
 use Rattle.gu_book.proofs.views.view_of.Goals as goal
 
--- what two facts of a value that was made give
+-- the consequence of two properties of a value that was made
 if_made : {T E : Type 0} (P Q R : T → Type 0) (made : Result T E) → IfOk made P → IfOk made Q → ((value : T) → P value → Q value → R value) → IfOk made R
 if_made P Q R (Ok value) p q both = both value p q
 if_made P Q R (Err error) p q both = tt

@@ -4,7 +4,7 @@ use Rattle.gu_engine.specs.Sends.{GivesSome, IsReady}
 use Rattle.gu_engine.proofs.Answering.{SoFar}
 use Rattle.gu_engine.proofs.running.answer_left.Given as goal
 
--- the first of what was left is answered, and the others are left
+-- the first of the events left are answered, and the others are left
 abbrev pub invariant-events : goal.invariant-events
 invariant-events g l = record {
   so_far : SoFar g.A.Answerer.engine l.now l.fn.answerer l.answerer l.fn.backlog l.backlog (g.W.Write.contents l.fn.writer) (g.W.Write.contents l.writer);

@@ -42,7 +42,7 @@ overflow_sub-bytes-in-Ok c =
     let found = c.in-Some.ensures in
     omega (arith, found.high)
 
--- a field and its SOH take four bytes at least
+-- a field and its SOH have at least four bytes
 field_is_long : (bytes : List ℕ) (start end tag : ℕ) (value : List ℕ) → start ≤ end → end < length bytes → IsField (tag_value tag value) (take (end - start) (drop start bytes)) → start + 3 ≤ end
 field_is_long bytes start end tag value low high field =
     let part = field.has_tag in

@@ -2,11 +2,11 @@ use Rattle.std.proofs.Common.{◌≡◌, ◌++◌, ◌∷◌, [], ℕ, List, len
 use Rattle.std.proofs.lemmas.List.{append-nil, drop_at, length-append, take_at}
 use Rattle.gu_msgs.proofs.moment_texts.joined.Goals as goal
 
--- twelve bytes that are written over
+-- twelve bytes to be overwritten
 abbrev filler : List ℕ
 filler = 45 ∷ 45 ∷ 45 ∷ 45 ∷ 45 ∷ 45 ∷ 45 ∷ 45 ∷ 45 ∷ 45 ∷ 45 ∷ 45 ∷ []
 
--- eight bytes, `-`, and what is written after them
+-- eight bytes, `-`, and the bytes written after them
 written_after : (date time : List ℕ) → length date ≡ 8
     → take 9 (date ++ 45 ∷ filler) ++ (time ++ drop 12 (drop 9 (date ++ 45 ∷ filler))) ≡ (date ++ 45 ∷ []) ++ time
 written_after date time eight =

@@ -10,7 +10,7 @@ use Rattle.gu_terms.proofs.Standing.{lookup-standing}
 use Rattle.gu_positions.proofs.RowNumbers.{stands-set_value_at}
 use Rattle.gu_positions.proofs.positions.settle.Goals as goal
 
--- what stands at an instrument's place is what a look-up finds
+-- the value at an instrument's index is the one that a look-up finds
 found : {S : Type 0} (interests : IndexMap Symbol ℕ S) (place : ℕ) → IsUnique same_symbol interests → (interest : ℕ) → slice_get (values interests) place ≡ Some interest
     → (symbol : Symbol) → StandsAt interests.entries symbol place → unwrap_or (get same_symbol interests symbol) 0 ≡ interest
 found interests place unique interest is symbol stands =

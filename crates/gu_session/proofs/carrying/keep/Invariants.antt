@@ -4,7 +4,7 @@ use Rattle.gu_session.specs.Sending.{numbered, sent_in}
 use Rattle.gu_session.specs.Sound.{extended}
 use Rattle.gu_session.proofs.carrying.keep.Given as goal
 
--- what is to be kept of the messages so far is kept
+-- the messages so far that are to be kept are kept
 abbrev pub invariant-loop-place : goal.invariant-loop-place
 invariant-loop-place l =
     l.kept ≡ extended l.initial.kept (filter_map sent_in (take l.place (numbered l.plan.after.firm l.now l.first l.plan.messages)))

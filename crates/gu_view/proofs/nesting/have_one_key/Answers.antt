@@ -6,7 +6,7 @@ use Rattle.gu_view.specs.Paths.{have_one_key, key_on, same_key}
 use Rattle.gu_view.specs.declared.view.ViewOffer.{ViewOffer}
 use Rattle.gu_view.proofs.nesting.have_one_key.Goals as goal
 
--- the others have the first one's key
+-- the others have the key of the first
 others_have_it : (offers : List ViewOffer) (depth : ℕ) (places : List ℕ) (key : Option LimitKey) (told : Bool)
     → 1 ≤ length places → key ≡ key_on offers depth (get_or places 0 0)
     → told ≡ list_all (λ place. same_key key (key_on offers depth place)) (drop 1 places) → told ≡ have_one_key offers depth places

@@ -4,7 +4,7 @@ use Rattle.gu_desk.specs.declared.error.SweepError.{SweepError}
 use Rattle.gu_desk.proofs.RefusalLemmas.{refused_after}
 use Rattle.gu_desk.proofs.desk.Desk.sweep.Goals as goal
 
--- what follows from a fact of an error
+-- the consequence of a property of an error
 if_err : {T E : Type 0} {P Q : E → Type 0} (r : Result T E) → ((e : E) → P e → Q e) → IfErr r P → IfErr r Q
 if_err (Ok x) f h = tt
 if_err (Err e) f h = f e h

@@ -5,7 +5,7 @@ use Rattle.gu_desk.specs.KeptReceipts.{receipts_in}
 use Rattle.gu_desk.specs.declared.kept_receipts.KeptReceipts.{KeptReceipts}
 use Rattle.gu_desk.proofs.kept_receipts.KeptReceipts.last.Goals as goal
 
--- what is last is after the others
+-- the last receipt is after the others
 after_others : (kept : KeptReceipts) (o : Option (Bor Receipt)) → option_copied o ≡ kept.last
     → IfSome o (λ last. (earlier : List Receipt) × (receipts_in kept ≡ earlier ++ last.now ∷ []))
 after_others kept None is = tt

@@ -25,7 +25,7 @@ enter_seen-requires-clause-honest g c =
     let seen : view ≡ group_view me.book.reference c.seat.inside.front view.group = c.requires.seen ∙ (λ k. group_view (sym i.0 k) (front k) view.group) in
     honest me.book.reference c.seat.inside.front me.book.history view begins c.history.ensures.legal seen
 
--- what is seen of a seat
+-- the state of a seat
 abbrev seat_of : ℕ → ℕ → List Entry → SeatState
 seat_of entries swept front = record { entries = entries; swept = swept; front = front }
 
@@ -77,7 +77,7 @@ returns-clause-current g c =
     let view = c.args.proposal.now.view in
     c.in-Ok.ensures.current.same ∙ (λ k. group_view (c.self.invariant.0 k) (c.self.view_is k) view.group)
 
--- the seat, as it was before the book refused
+-- the seat as it was before the book refused
 seat_was : (g : _) (c : goal.After-show g) → seat_of c.audit.new.share.amount c.seat.inside.swept.amount c.compare.new.front ≡ c.args.seat.now
 seat_was g c =
     let same : seat_of c.audit.new.share.amount c.seat.inside.swept.amount c.compare.new.front ≡ seat_of c.seat.inside.entries.amount c.seat.inside.swept.amount c.seat.inside.front =

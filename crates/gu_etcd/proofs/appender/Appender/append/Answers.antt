@@ -31,6 +31,7 @@ returns-in-Ok g c = record {
   before_stopped = tt;
   kept = c.in-Ok.ensures.kept;
   leader = c.put_until_settled.ensures.leader;
+  leader_stopped = tt;
   any_moment = c.put_until_settled.ensures.any_moment;
   any_moment_stopped = tt;
   fenced = tt;

@@ -4,7 +4,7 @@ use Rattle.gu_terms.specs.declared.limit_key.LimitKey.{LimitKey}
 use Rattle.gu_limits.specs.Limits.{room_in}
 use Rattle.gu_limits.proofs.table.LimitTable.limits_of.Goals as goal
 
--- no key has less room than no lots
+-- no key has less room than 0 lots
 none_short : (room : LimitKey → ℕ) (keys : List LimitKey) → find (λ key. nat_lt (room key) 0) keys ≡ None
 none_short room [] = refl
 none_short room (k ∷ keys) = rw (le-ltb (room k) 0 (omega arith)) (none_short room keys)

@@ -7,7 +7,7 @@ use Rattle.gu_terms.specs.declared.limit_key.LimitKey.{LimitKey}
 use Rattle.gu_limits.specs.Limits.{number_in, room_in}
 use Rattle.gu_limits.proofs.table.LimitTable.limits_with_room.Goals as goal
 
--- the keys before a place are the same with one more, and that is the next
+-- the keys before an index, followed by the next one
 front : (items : List LimitKey) (at place : ℕ) → at < length items → place ≢ at → slice_get (take (suc at) items) place ≡ slice_get (take at items) place
 front [] at place inside other = absurd (omega (arith, inside))
 front (k ∷ items) zero zero inside other = absurd (other refl)
@@ -20,7 +20,7 @@ next [] at k inside = absurd (omega (arith, inside))
 next (j ∷ items) zero k inside = refl
 next (j ∷ items) (suc at) k inside = next items at k (omega (arith, inside))
 
--- the number of the next key is written at its place
+-- the number of the next key is written at its index
 one_more : (f : LimitKey → ℕ) (items : List LimitKey) (numbers : List ℕ) (at : ℕ) (k : LimitKey) (n : ℕ) → at < length items → at < length numbers → k ≡ get_or items at k → n ≡ f k
     → ((place : ℕ) → place < 5 → slice_index numbers place ≡ option_map_or f (slice_get (take at items) place) 0)
     → (place : ℕ) → place < 5 → slice_index (set numbers at n) place ≡ option_map_or f (slice_get (take (suc at) items) place) 0

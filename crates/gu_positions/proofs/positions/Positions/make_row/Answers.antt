@@ -12,13 +12,13 @@ use Rattle.gu_positions.proofs.RowNumbers.{numbered-append, numbered-kept, numbe
 use Rattle.gu_positions.proofs.positions.Positions.make_row.Goals as goal
 use Rattle.gu_positions.proofs.positions.Positions.make_row.Goals.{In-Some, In_ok-make}
 
--- there was none
+-- there was no such row
 absent : (c : In_ok-make) → false ≡ has_row c.args.self.now c.args.account.now c.args.symbol.now
 absent c =
     c.in_default.ensures.there ∙ sym (has_row-lookup c.args.account.now c.args.symbol.now c.self.inside.rows.entries)
     ∙ ap (λ rows. has_row rows c.args.account.now c.args.symbol.now) c.self.view_is
 
--- both tables are kept, and the rows have an empty one last
+-- both tables are stored correctly, with an empty row last
 kept : (c : In_ok-make) → let new : Inside = record { rows = c.make.new.rows; interests = c.make.new.interests } in
     IsKept new × (rows_of new ≡ c.args.self.now ++ empty_row c.args.account.now c.args.symbol.now ∷ [])
 kept c =

@@ -14,11 +14,11 @@ own_side : (side : Side) → same_side side side ≡ true
 own_side Buy = refl
 own_side Sell = refl
 
--- of lots on a side of an instrument, all are there
+-- lots counted on their own side and instrument are all of them
 own_lots : (side : Side) (symbol : Symbol) (lots : ℕ) → lots_at_side side symbol lots side symbol ≡ lots
 own_lots side symbol lots = (λ i. if own_side side i && (bytes_eq-Decides symbol.name symbol.name).1 refl i then lots else 0)
 
--- in each answer: the row that gets the lots is whose it was, once they left the other
+-- in each answer: the receiving row keeps its account and instrument after the lots leave the other
 
 pub add_to-requires-clause-fits : goal.add_to-requires-clause-fits
 add_to-requires-clause-fits c =

@@ -30,7 +30,7 @@ settle-requires c =
     (few-less c.self.inside c.self.invariant c.args.side (account_at c.args.self.now c.args.row.now) (symbol_at c.args.self.now c.args.row.now) c.args.lots c.args.row.now.number (rw c.self.view_is (numbered-made c.args.self.now c.args.row.now c.requires.made)) (rw c.self.view_is c.requires.there))
     c.excess.result c.excess-2.result c.excess.ensures c.excess-2.ensures
 
--- both tables are kept, and the rows are those
+-- both tables are stored correctly, with these rows
 kept : (c : After-settle) → let later : Inside = record { rows = c.write.new.rows; interests = c.settle.new.interests } in
     IsKept later × (rows_of later ≡ with_less (rows_of c.self.inside) c.args.side (account_at c.args.self.now c.args.row.now) (symbol_at c.args.self.now c.args.row.now) c.args.lots)
 kept c =

@@ -4,7 +4,7 @@ use Rattle.gu_ref.proofs.Lookups.{pushed}
 use Rattle.gu_ref.proofs.table.Table.push.Given.{Over}
 use Rattle.gu_ref.proofs.table.Table.push.Goals as goal
 
--- the rows are kept by their names, and have one more
+-- the rows are stored by name, with one more
 kept : (g : Over) (c : goal.In_ok-insert g) → (keys_of c.insert.new.self.entries ≡ map g.R.Named.name (values_of c.insert.new.self.entries))
     × (values_of c.insert.new.self.entries ≡ c.args.self.now ++ c.args.row ∷ [])
 kept g c =

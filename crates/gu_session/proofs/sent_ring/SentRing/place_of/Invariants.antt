@@ -2,7 +2,7 @@ use Rattle.std.proofs.Common.{◌-◌, ◌≤◌, length, take, drop}
 use Rattle.gu_session.specs.Ascending.{AreBelow, AreFrom}
 use Rattle.gu_session.proofs.sent_ring.SentRing.place_of.Given as goal
 
--- what is sought is between the two
+-- the index sought is between the two
 abbrev pub invariant-loop-low : goal.invariant-loop-low
 invariant-loop-low l = record {
   ordered : l.low ≤ l.high;

@@ -6,7 +6,7 @@ use Rattle.gu_terms.specs.Days.{IsDayText}
 use Rattle.gu_terms.proofs.NumberLemmas.{digits_from, digits_until}
 use Rattle.gu_terms.proofs.day.Day.read.Goals as goal
 
--- the year, the month and the day that are read are those of the text
+-- the year, the month and the day read are those in the text
 day-whole : (text : List ℕ) → IsDayText text → take (length text - 6) (drop 6 text) ≡ drop 6 text
 day-whole text is = take_all (length text - 6) (drop 6 text) (omega (arith, length-drop 6 text))
 

@@ -5,7 +5,7 @@ use Rattle.std.specs.Prelude.{replicate}
 use Rattle.gu_terms.specs.Padded.{IsPadded}
 use Rattle.gu_terms.proofs.padded.Padded.new.Goals as goal
 
--- a text that fits, put in front of zeros
+-- a text that fits, written over leading zeros
 text_over_zeros : (size : ℕ) (text copied : List ℕ) → copied ≡ text → length text ≤ size
     → IsPadded size (copied ++ drop (length text) (replicate size 0)) (length text)
 text_over_zeros size text copied same fits = rw (same, drop-replicate {X = ℕ} (length text) size 0) (record {

@@ -6,7 +6,7 @@ use Rattle.gu_terms.specs.Padded.{IsPadded, length-text}
 use Rattle.gu_terms.proofs.padded.Padded.with.Goals as goal
 use borrow.Rule.Slice.PartMut.{drop_put, put_mid, same_len_mid, mid_of}
 
--- more after a text leaves zeros after both
+-- appending to a text leaves zeros after both
 more_after : (size : ℕ) (kept more : List ℕ) (len n : ℕ) → IsPadded size kept len → len + n ≤ size → length more ≡ n
     → length more ≡ length (mid_of len (len + n - len) kept)
     → IsPadded size (put_mid len (len + n - len) kept more) (len + n)

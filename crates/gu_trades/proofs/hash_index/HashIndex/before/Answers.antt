@@ -8,7 +8,7 @@ use Rattle.gu_trades.specs.declared.hash_index.HashIndex.TheInside.{Inside}
 use Rattle.gu_trades.proofs.Rows.{found-along, link-start, number-read, start-row, start-within}
 use Rattle.gu_trades.proofs.hash_index.HashIndex.before.Goals as goal
 
--- a place that has a number has a link
+-- a position that has a hash has a link
 linked_place : (inside : Inside) (numbered : Numbered) (place : ℕ) → numbers_of inside.links.items ≡ numbered.numbers → place < length numbered.numbers → place < length inside.links.items
 linked_place inside numbered place is there =
     omega (arith, length-map inside.links.items (λ (link : Link). link.number), ap length is)

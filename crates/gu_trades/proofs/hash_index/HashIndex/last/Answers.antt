@@ -8,7 +8,7 @@ use Rattle.gu_trades.specs.declared.hash_index.HashIndex.TheInside.{Inside}
 use Rattle.gu_trades.proofs.Rows.{end-start, found-along, start-row, start-within}
 use Rattle.gu_trades.proofs.hash_index.HashIndex.last.Goals as goal
 
--- a number's row ends where it is read
+-- the row of a hash ends at the position read
 start : (inside : Inside) (number row from : ℕ) → IsHashIndex inside → (length inside.last.items == 0) ≡ false → row ≡ number % length inside.last.items → from ≡ get_or inside.last.items row from
     → from ≡ last_before (is_in_row (numbers_of inside.links.items) (length inside.last.items) (number % length inside.last.items)) (length inside.links.items)
 start inside number row from places some is read =

@@ -3,7 +3,7 @@ use Rattle.std.proofs.lemmas.List.Elements.{same_from_all_zip}
 use Rattle.gu_view.proofs.view.View.copy.Goals as goal
 use Rattle.gu_view.proofs.view.View.copy.Goals.{In_ok-clone-3}
 
--- a copy has what is copied
+-- a copy equals the original
 offers-are : (c : In_ok-clone-3) → c.in_ok-clone.field-0.items ≡ c.self.inside.offers.items
 offers-are c = same_from_all_zip (λ x y. y ≡ x) _ _ c.in_ok-clone.ensures.cases.0 (λ x y e. e)
 

@@ -8,7 +8,7 @@ use Rattle.std.proofs.lemmas.Option.{slice_get-get_or, slice_get_past}
 use Rattle.gu_view.specs.declared.view.ViewOffer.{ViewOffer}
 use Rattle.gu_view.proofs.view.View.offer.Goals as goal
 
--- what is found stands at its place
+-- what is found is at its index
 found_at_place : (test : ViewOffer → Bool) (offers : List ViewOffer) → find test offers ≡ option_and_then (slice_get offers) (position test offers)
 found_at_place test offers = find_at test offers ∙ go (nat_lt (position_or_len test offers) (length offers)) refl
   where

@@ -1,0 +1,18 @@
+//! The lead over a log in etcd: taken by one desk, and renewed while the desk works; and what the log has.
+#![tactic(auto)]
+
+mod beside;
+mod candidate;
+mod clocks;
+mod drawing;
+mod lead;
+mod log_text;
+mod taking;
+
+pub use beside::{HeldLead, lead_while};
+pub use candidate::Candidate;
+pub use clocks::Clocks;
+pub use drawing::draw_name;
+pub use lead::{LEASE_SECONDS, Lead, MARGIN_MS, Renewal};
+pub use log_text::{LogError, LogText};
+pub use taking::{Taking, take_lead};

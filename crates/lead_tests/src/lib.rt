@@ -1,0 +1,15 @@
+//! Tests of the lead over a log: taking it, renewing it, and reading the log.
+#![tactic(auto)]
+
+#[cfg(test)]
+mod etcd;
+#[cfg(test)]
+mod logs;
+#[cfg(test)]
+mod memory;
+#[cfg(test)]
+mod names;
+#[cfg(test)]
+mod renewals;
+#[cfg(test)]
+mod takings;
