@@ -6,10 +6,12 @@ use Rattle.std.proofs.lemmas.Bool.{cases_lt, cond_both}
 use Rattle.std.proofs.lemmas.List.{get_or_append_left, get_or_push, length_push}
 use Rattle.std.proofs.lemmas.List.Elements.{All-from_get_or}
 use Rattle.std.proofs.lemmas.List.Sums.{sum_by-le}
+use Rattle.gu_view.specs.Paths.{step_of}
+use Rattle.gu_view.specs.Takes.{lots_with}
 use Rattle.gu_view.specs.View.{GroupView, IsView, place_of}
 use Rattle.gu_flow.specs.Ends.{no_arc, arc_at, capacities, JoinsNodes}
-use Rattle.gu_flow.specs.Layouts.{step_of, node_or_sink, node_at}
-use Rattle.gu_flow.specs.Networks.{no_room, room_at, lots_with, capacity_of, way_of, IsArcOf}
+use Rattle.gu_flow.specs.Layouts.{node_or_sink, node_at}
+use Rattle.gu_flow.specs.Networks.{no_room, room_at, capacity_of, way_of, IsArcOf}
 use Rattle.gu_flow.specs.declared.network.Arc.{Arc}
 use Rattle.gu_terms.specs.declared.agreement.AgreementId.{AgreementId}
 use Rattle.gu_terms.specs.declared.limit_key.LimitKey.{LimitKey}

@@ -1,27 +1,24 @@
 -- The shares of a maximum flow and the cut at which its last search stops: right takes, a right cut, and no greater takes.
-use Rattle.std.proofs.Common.{◌≡◌, ◌≢◌, ℕ, ◌+◌, ◌<◌, ◌≤◌, ◌==◌, ◌⊎◌, ◌&&◌, not, Bool, true, false, cond, List, [], ◌∷◌, suc, length, get_or, refl, sym, ◌∙◌, ap, subst, arith, inl, inr}
+use Rattle.std.proofs.Common.{◌≡◌, ◌≢◌, ℕ, ◌+◌, ◌<◌, ◌≤◌, ◌==◌, ◌⊎◌, not, Bool, true, false, cond, List, suc, length, get_or, refl, sym, ◌∙◌, ap, subst, arith, inl, inr}
 use Rattle.std.specs.Prelude.{IsTrue, nat_lt, sum_by}
 use Rattle.std.specs.List.{AllByRecursion, list_any}
 use Rattle.std.proofs.Math.Bool.{and-true, and-false}
-use Rattle.std.proofs.lemmas.Bool.{cases_eq, cases_order, or_cases, or_left, or_right, eq-eqb, ne_eqb, eqb-true, lt-ltb, and_from}
+use Rattle.std.proofs.lemmas.Bool.{cases_eq, cases_order, or_left, or_right, eq-eqb, ne_eqb, eqb-true, and_from}
 use Rattle.std.proofs.lemmas.List.{get_or_default}
 use Rattle.std.proofs.lemmas.List.Elements.{All-filter, All-from_get_or}
-use Rattle.gu_terms.proofs.KeyLemmas.{key_eq-same}
 use Rattle.gu_terms.specs.Cuts.{CutLists, has_number}
-use Rattle.gu_terms.specs.LimitKeys.{key_eq, has_key}
+use Rattle.gu_terms.specs.LimitKeys.{has_key}
 use Rattle.gu_terms.specs.Takes.{lots_of}
-use Rattle.gu_terms.specs.declared.agreement.AgreementId.{AgreementId}
-use Rattle.gu_terms.specs.declared.limit_key.LimitKey.{LimitKey}
-use Rattle.gu_terms.specs.declared.limit_key.LimitKey.TheVariants.{Agr}
 use Rattle.gu_terms.specs.declared.takes.Take.{Take}
 use Rattle.gu_view.proofs.CutBounds.{greatest_by_cut}
+use Rattle.gu_view.proofs.HoldLemmas.{any_key}
 use Rattle.gu_view.specs.Check.{has_offer, IsRight}
 use Rattle.gu_view.specs.Cut.{Covers, is_covered, room_of}
+use Rattle.gu_view.specs.Nearest.{IsNearestCut}
 use Rattle.gu_view.specs.Takes.{IsAdmissible, IsGreatest, IsOldestFirst, IsOldestGreatest, lots_under, total}
 use Rattle.gu_view.specs.View.{GroupView, IsView, IsNested}
 use Rattle.gu_view.specs.declared.view.ViewOffer.{ViewOffer}
 use Rattle.gu_flow.specs.CutArcs.{leads_out, cuts_key, cuts_offers, IsCutBy}
-use Rattle.gu_flow.specs.LeastCuts.{IsLeastCut}
 use Rattle.gu_flow.specs.Ends.{arc_at}
 use Rattle.gu_flow.specs.Flows.{places, sum_over, IsFlow, IsClosed}
 use Rattle.gu_flow.specs.Networks.{no_room, room_at, no_offer, offer_at, way_of, IsOfferOf, AreArcs}
@@ -29,6 +26,7 @@ use Rattle.gu_flow.specs.Proposals.{IsSound}
 use Rattle.gu_flow.specs.Shares.{above_zero, agreement_place, agreement_lots, AreAllShares}
 use Rattle.gu_flow.specs.declared.network.Arc.{Arc}
 use Rattle.gu_flow.proofs.ArcLists.{IsAgreement, kind_of, capacity-le}
+use Rattle.gu_flow.proofs.CutMembers.{key_told, offer_told}
 use Rattle.gu_flow.proofs.CutTotals.{walk_leads_out, total_is_cut}
 use Rattle.gu_flow.proofs.Loads.{agree, Sided}
 use Rattle.gu_flow.proofs.ShareLemmas.{share_taken, share_fits, shares_ascend, shares_oldest_first, shares_together, shares_known}
@@ -37,16 +35,8 @@ use Rattle.gu_flow.proofs.Sides.{IsLaid, distance, first_left, later_right}
 use Rattle.gu_terms.proofs.Lists.{sum_by-add, sum_by-swap, sum_by-agree}
 use Rattle.gu_flow.proofs.SumLemmas.{sum_by-by, sum_by_place, sum_places_by, sum_one_place, cond-sum, cond-swap}
 use Rattle.gu_flow.proofs.Walks.{Walking, load}
-use Rattle.gu_flow.proofs.ViewLoads.{all_walk, brought_is, each_offer, key_on, offer_here, walking}
+use Rattle.gu_flow.proofs.ViewLoads.{all_walk, brought_is, each_offer, key_on, offer_here, under_agreement, walking}
 use Rattle.gu_flow.proofs.OfferWays.{step_at, own_in, under_own, way_stepped, way_on}
-
--- a key on a path that passes a test
-any_key : (test : LimitKey → Bool) (key : LimitKey) (path : List LimitKey) → has_key path key ≡ true → test key ≡ true → list_any test path ≡ true
-any_key test key [] on passes = cc
-any_key test key (k ∷ path) on passes = elim (or_cases (key_eq k key) (has_key path key) on) [
-  | inl here ↦ or_left (test k) (list_any test path) (ap test (key_eq-same k key here) ∙ passes)
-  | inr there ↦ or_right (test k) (list_any test path) (any_key test key path there passes)
-]
 
 module _ (view : GroupView) (sound : IsView view) (nested : IsNested view) (arcs : List Arc) (are : AreArcs view arcs) (flow : List ℕ) (is_flow : IsFlow arcs flow)
     (reached : ℕ → Bool) (from_source : reached 0 ≡ true) (not_to_sink : reached 1 ≡ false) (closed : IsClosed arcs flow reached)
@@ -75,13 +65,6 @@ module _ (view : GroupView) (sound : IsView view) (nested : IsNested view) (arcs
   abbrev each : AllByRecursion (Walking arcs way 0 1) view.offers
   each = all_walk view sound nested arcs are
 
-  -- sums under an agreement, by the indexes of the offers' agreements
-  under_agreement : (f : ViewOffer → ℕ) (k : ℕ) → k < length view.rooms → (agreement : AgreementId) → (room_at view.rooms k).key ≡ Agr agreement
-      → sum_by (λ o. cond (has_key o.path (room_at view.rooms k).key) (f o) 0) view.offers ≡ sum_by (λ o. cond (agreement_place view.rooms o == k) (f o) 0) view.offers
-  under_agreement f k k_in agreement is =
-      sum_by-by (IsOfferOf view) (λ o. cond (has_key o.path (room_at view.rooms k).key) (f o) 0) (λ o. cond (agreement_place view.rooms o == k) (f o) 0) view.offers
-      (λ o h. ap (λ b. cond b (f o) 0) (under_own view sound nested o h k k_in agreement is)) (each_offer view sound nested arcs are)
-
   -- an arc of the middle step is an agreement's, and so is one with less capacity than its room
   agreement_of : (k : ℕ) (k_in : k < length arcs) → (step k ≡ 1) ⊎ ((arc_at arcs k).capacity ≢ (room_at view.rooms k).lots) → IsAgreement view.offers (room_at view.rooms k).lots (arc_at arcs k).capacity (room_at view.rooms k).key
   agreement_of k k_in either = elim (kind_of view.offers (room_at view.rooms k).lots (arc_at arcs k).capacity (room_at view.rooms k).key (are.each k k_in).capacity) [
@@ -94,8 +77,8 @@ module _ (view : GroupView) (sound : IsView view) (nested : IsNested view) (arcs
   middle k k_in is =
       let k_room : k < length view.rooms = omega (arith, are.all) in
       let a = agreement_of k k_in (inl is) in
-      let enough : get_or flow k 0 ≤ agreement_lots view.rooms view.offers k = omega (arith, is_flow.within.each k, a.capacity_is, under_agreement (λ o. o.lots) k k_room a.agreement a.is) in
-      sym (brought_is view sound nested arcs are (lots_of takes) k k_room ∙ under_agreement lots k k_room a.agreement a.is ∙ shares_together view sound flow takes shares k enough)
+      let enough : get_or flow k 0 ≤ agreement_lots view.rooms view.offers k = omega (arith, is_flow.within.each k, a.capacity_is, under_agreement view sound nested arcs are (λ o. o.lots) k k_room a.agreement a.is) in
+      sym (brought_is view sound nested arcs are (lots_of takes) k k_room ∙ under_agreement view sound nested arcs are lots k k_room a.agreement a.is ∙ shares_together view sound flow takes shares k enough)
 
   sided : (k : ℕ) → k < length arcs → Sided arcs (λ k. get_or flow k 0) view.offers way lots 0 1 (distance step) each is_flow.kept k
   sided k k_in = elim (cases_order (step k) 1) [
@@ -130,16 +113,6 @@ module _ (view : GroupView) (sound : IsView view) (nested : IsNested view) (arcs
       let takes_some = subst (λ n. 0 < n) (ap lots at_j ∙ share_taken view sound flow takes shares j j_in) some in
       ap lots at_i ∙ share_taken view sound flow takes shares i i_in ∙ shares_oldest_first view sound flow takes shares i j before j_in agreements takes_some ∙ ap (λ (o : ViewOffer). o.lots) (sym at_i)
 
-  -- whether a room's key is in the cut, and whether an offer is
-  key_told : (k : ℕ) → k < length view.rooms → has_key cut.keys (room_at view.rooms k).key ≡ cuts_key reached arcs view.rooms k
-  key_told k k_in = cut_is.keys.exact k k_in ∙ ap (λ b. b && cuts_key reached arcs view.rooms k) (lt-ltb k (length view.rooms) k_in)
-
-  offer_told : (o : ViewOffer) → IsOfferOf view o → has_number cut.offers o.number ≡ cuts_offers reached arcs view.rooms (agreement_place view.rooms o)
-  offer_told o h =
-      let told : has_number cut.offers (offer_at view.offers h.place).number ≡ cuts_offers reached arcs view.rooms (agreement_place view.rooms (offer_at view.offers h.place)) =
-      cut_is.offers.exact h.place h.within ∙ ap (λ b. b && cuts_offers reached arcs view.rooms (agreement_place view.rooms (offer_at view.offers h.place))) (lt-ltb h.place (length view.offers) h.within) in
-      subst (λ (x : ViewOffer). has_number cut.offers x.number ≡ cuts_offers reached arcs view.rooms (agreement_place view.rooms x)) (sym h.is) told
-
   -- if an offer's way leads out, its key is cut, or the offer itself
   covered : (o : ViewOffer) → IsOfferOf view o → is_covered cut o ≡ true
   covered o h =
@@ -149,12 +122,12 @@ module _ (view : GroupView) (sound : IsView view) (nested : IsNested view) (arcs
       let on = key_on view sound nested arcs are o h k k_in out.on_way in
       elim (cases_eq (arc_at arcs k).capacity (room_at view.rooms k).lots) [
         | inl same ↦ or_right (has_number cut.offers o.number) (list_any (has_key cut.keys) o.path)
-            (any_key (has_key cut.keys) (room_at view.rooms k).key o.path on (key_told k k_in ∙ and_from (leads_out reached (arc_at arcs k)) ((arc_at arcs k).capacity == (room_at view.rooms k).lots) out.out (eq-eqb (arc_at arcs k).capacity (room_at view.rooms k).lots same)))
+            (any_key (has_key cut.keys) (room_at view.rooms k).key o.path on (key_told view reached arcs cut cut_is k k_in ∙ and_from (leads_out reached (arc_at arcs k)) ((arc_at arcs k).capacity == (room_at view.rooms k).lots) out.out (eq-eqb (arc_at arcs k).capacity (room_at view.rooms k).lots same)))
         | inr other ↦
             let s = agreement_of k out.place_in (inr other) in
             let own : agreement_place view.rooms o ≡ k = eqb-true (agreement_place view.rooms o) k (sym (under_own view sound nested o h k k_in s.agreement s.is) ∙ on) in
             or_left (has_number cut.offers o.number) (list_any (has_key cut.keys) o.path)
-            (offer_told o h ∙ ap (cuts_offers reached arcs view.rooms) own
+            (offer_told view reached arcs cut cut_is o h ∙ ap (cuts_offers reached arcs view.rooms) own
             ∙ and_from (leads_out reached (arc_at arcs k)) (not ((arc_at arcs k).capacity == (room_at view.rooms k).lots)) out.out (ap not (ne_eqb (arc_at arcs k).capacity (room_at view.rooms k).lots other)))
       ]
 
@@ -172,7 +145,7 @@ module _ (view : GroupView) (sound : IsView view) (nested : IsNested view) (arcs
         | inl same ↦ rw (eq-eqb (arc_at arcs k).capacity room same, and-true, and-false) (ap (λ n. cond (leads_out reached (arc_at arcs k)) n 0) same ∙ omega arith)
         | inr other ↦
             let s = agreement_of k k_in (inr other) in
-            let lots : (arc_at arcs k).capacity ≡ all = omega (arith, s.capacity_is, other, under_agreement (λ o. o.lots) k k_room s.agreement s.is) in
+            let lots : (arc_at arcs k).capacity ≡ all = omega (arith, s.capacity_is, other, under_agreement view sound nested arcs are (λ o. o.lots) k k_room s.agreement s.is) in
             rw (ne_eqb (arc_at arcs k).capacity room other, and-true, and-false) (ap (λ n. cond (leads_out reached (arc_at arcs k)) n 0) lots ∙ omega arith)
       ]
 
@@ -180,7 +153,7 @@ module _ (view : GroupView) (sound : IsView view) (nested : IsNested view) (arcs
   keys_room =
       sum_by_place (λ r. cond (has_key cut.keys r.key) r.lots 0) view.rooms no_room
       ∙ sum_places_by (λ k. cond (has_key cut.keys (room_at view.rooms k).key) (room_at view.rooms k).lots 0) (λ k. cond (cuts_key reached arcs view.rooms k) (room_at view.rooms k).lots 0) (length view.rooms)
-      (λ k k_in. ap (λ b. cond b (room_at view.rooms k).lots 0) (key_told k k_in))
+      (λ k k_in. ap (λ b. cond b (room_at view.rooms k).lots 0) (key_told view reached arcs cut cut_is k k_in))
       ∙ ap (λ n. sum_by (λ k. cond (cuts_key reached arcs view.rooms k) (room_at view.rooms k).lots 0) (places n)) (sym are.all)
 
   offers_room : sum_by (λ o. cond (has_number cut.offers o.number) o.lots 0) view.offers ≡ sum_by (λ k. cond (cuts_offers reached arcs view.rooms k) (agreement_lots view.rooms view.offers k) 0) (places (length arcs))
@@ -188,7 +161,7 @@ module _ (view : GroupView) (sound : IsView view) (nested : IsNested view) (arcs
       let w = cuts_offers reached arcs view.rooms in
       let at = agreement_place view.rooms in
       sum_by-by (IsOfferOf view) (λ o. cond (has_number cut.offers o.number) o.lots 0) (λ o. sum_by (λ k. cond (at o == k) (cond (w k) o.lots 0) 0) (places (length arcs))) view.offers
-      (λ o h. ap (λ b. cond b o.lots 0) (offer_told o h) ∙ sym (sum_one_place (λ k. cond (w k) o.lots 0) (length arcs) (at o) (omega (arith, own_in view sound nested o h, are.all)))) (each_offer view sound nested arcs are)
+      (λ o h. ap (λ b. cond b o.lots 0) (offer_told view reached arcs cut cut_is o h) ∙ sym (sum_one_place (λ k. cond (w k) o.lots 0) (length arcs) (at o) (omega (arith, own_in view sound nested o h, are.all)))) (each_offer view sound nested arcs are)
       ∙ sum_by-swap (λ (o : ViewOffer) k. cond (at o == k) (cond (w k) o.lots 0) 0) view.offers (places (length arcs))
       ∙ sum_by-agree (λ k. sum_by (λ (o : ViewOffer). cond (at o == k) (cond (w k) o.lots 0) 0) view.offers) (λ k. cond (w k) (agreement_lots view.rooms view.offers k) 0) (places (length arcs))
       (λ k. sum_by-agree (λ (o : ViewOffer). cond (at o == k) (cond (w k) o.lots 0) 0) (λ (o : ViewOffer). cond (w k) (cond (at o == k) o.lots 0) 0) view.offers (λ o. cond-swap (at o == k) (w k) o.lots)
@@ -239,12 +212,12 @@ module _ (view : GroupView) (sound : IsView view) (nested : IsNested view) (arcs
   }
 
   -- altogether: takes and cut are right, and the takes are greatest
-  pub certified : (named : List Take) → named ≡ above_zero takes → (n : ℕ) → n ≡ total view.offers (lots_of takes) → IsOldestGreatest view (lots_of takes) → IsLeastCut view cut → IsSound (record { view = view; takes = named; cut = cut; lots = n })
-  certified named are n is oldest least =
+  pub certified : (named : List Take) → named ≡ above_zero takes → (n : ℕ) → n ≡ total view.offers (lots_of takes) → IsOldestGreatest view (lots_of takes) → IsNearestCut view cut → IsSound (record { view = view; takes = named; cut = cut; lots = n })
+  certified named are n is oldest nearest =
       rw (are, is) (record {
         of_view = sound;
         right = right_above_zero;
         named = above_zero-all takes;
         oldest = subst (IsOldestGreatest view) (sym same) oldest;
-        least = least;
+        nearest = nearest;
       })

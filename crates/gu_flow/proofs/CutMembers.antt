@@ -1,5 +1,5 @@
 -- The members of the cut, one after another.
-use Rattle.std.proofs.Common.{◌≡◌, ◌≢◌, ℕ, ◌+◌, ◌<◌, ◌==◌, ◌||◌, ◌&&◌, not, nat_lt, Bool, true, false, cond, List, [], ◌∷◌, ◌++◌, length, refl, sym, ◌∙◌, ap, arith, inl, inr}
+use Rattle.std.proofs.Common.{◌≡◌, ◌≢◌, ℕ, ◌+◌, ◌<◌, ◌==◌, ◌||◌, ◌&&◌, not, nat_lt, Bool, true, false, cond, List, [], ◌∷◌, ◌++◌, length, refl, sym, ◌∙◌, ap, subst, arith, inl, inr}
 use Rattle.std.specs.Prelude.{All}
 use Rattle.std.specs.List.{list_any}
 use Rattle.std.proofs.Math.Bool.{or-false, and-true, and-false, and-not_self}
@@ -8,15 +8,16 @@ use Rattle.std.proofs.lemmas.List.{get_or_past}
 use Rattle.std.proofs.lemmas.List.Elements.{All-push}
 use Rattle.std.proofs.lemmas.List.Folds.{list_any-append, list_any_at}
 use Rattle.gu_terms.proofs.KeyLemmas.{key_eq-same, key_eq-refl}
-use Rattle.gu_terms.specs.Cuts.{has_number}
+use Rattle.gu_terms.specs.Cuts.{CutLists, has_number}
 use Rattle.gu_terms.specs.LimitKeys.{key_eq, has_key}
 use Rattle.gu_terms.specs.declared.limit_key.LimitKey.{LimitKey}
 use Rattle.gu_view.proofs.RoomLemmas.{apart}
 use Rattle.gu_view.specs.View.{GroupView, IsView}
 use Rattle.gu_view.specs.declared.view.Room.{Room}
-use Rattle.gu_flow.specs.CutArcs.{leads_out, cuts_key, cuts_offers, AreCut, AreKeysCut, AreNoOffersCut, AreOffersCut}
+use Rattle.gu_view.specs.declared.view.ViewOffer.{ViewOffer}
+use Rattle.gu_flow.specs.CutArcs.{leads_out, cuts_key, cuts_offers, AreCut, AreKeysCut, AreNoOffersCut, AreOffersCut, IsCutBy}
 use Rattle.gu_flow.specs.Ends.{no_arc, arc_at}
-use Rattle.gu_flow.specs.Networks.{no_offer, offer_at, no_room, room_at}
+use Rattle.gu_flow.specs.Networks.{no_offer, offer_at, no_room, room_at, IsOfferOf}
 use Rattle.gu_flow.specs.Shares.{agreement_place}
 use Rattle.gu_flow.specs.declared.network.Arc.{Arc}
 
@@ -132,3 +133,14 @@ none_at_all view reached arcs all none = record {
       sym (ap (λ b. nat_lt k (length view.offers) && b) uncut ∙ and-false (nat_lt k (length view.offers)));
   known = λ k d k_in. absurd (omega arith);
 }
+
+-- whether the key of a room is in the cut, and whether an offer is
+module _ (view : GroupView) (reached : ℕ → Bool) (arcs : List Arc) (cut : CutLists) (cut_is : IsCutBy view reached arcs cut) where
+  pub key_told : (k : ℕ) → k < length view.rooms → has_key cut.keys (room_at view.rooms k).key ≡ cuts_key reached arcs view.rooms k
+  key_told k k_in = cut_is.keys.exact k k_in ∙ ap (λ b. b && cuts_key reached arcs view.rooms k) (lt-ltb k (length view.rooms) k_in)
+
+  pub offer_told : (o : ViewOffer) → IsOfferOf view o → has_number cut.offers o.number ≡ cuts_offers reached arcs view.rooms (agreement_place view.rooms o)
+  offer_told o h =
+      let told : has_number cut.offers (offer_at view.offers h.place).number ≡ cuts_offers reached arcs view.rooms (agreement_place view.rooms (offer_at view.offers h.place)) =
+      cut_is.offers.exact h.place h.within ∙ ap (λ b. b && cuts_offers reached arcs view.rooms (agreement_place view.rooms (offer_at view.offers h.place))) (lt-ltb h.place (length view.offers) h.within) in
+      subst (λ (x : ViewOffer). has_number cut.offers x.number ≡ cuts_offers reached arcs view.rooms (agreement_place view.rooms x)) (sym h.is) told

@@ -51,7 +51,7 @@ walk_leads_out arcs reached (k ∷ way) a b (k_in, from, walk) here there = elim
 
 -- an arc out of the reached nodes is full, and one back is empty
 module _ (arcs : List Arc) (flow : List ℕ) (reached : ℕ → Bool) (w : IsWithin arcs flow) (closed : IsClosed arcs flow reached) (k : ℕ) (k_in : k < length arcs) where
-  full : reached (arc_at arcs k).from ≡ true → reached (arc_at arcs k).to ≡ false → get_or flow k 0 ≡ (arc_at arcs k).capacity
+  pub full : reached (arc_at arcs k).from ≡ true → reached (arc_at arcs k).to ≡ false → get_or flow k 0 ≡ (arc_at arcs k).capacity
   full from to =
       let tail : (2 * k) % 2 == 0 ≡ true = eq-eqb ((2 * k) % 2) 0 (omega arith) in
       let place : 2 * k / 2 ≡ k = omega arith in
@@ -66,7 +66,7 @@ module _ (arcs : List Arc) (flow : List ℕ) (reached : ℕ → Bool) (w : IsWit
 module _ {X : Type 0} (arcs : List Arc) (walkers : List X) (way : X → List ℕ) (lots : X → ℕ) (s t : ℕ) (each : AllByRecursion (Walking arcs way s t) walkers)
     (reached : ℕ → Bool) (from_s : reached s ≡ true) (not_t : reached t ≡ false) where
   -- the total brought is what goes out less what comes back
-  total_leaves : sum_over arcs (leads_out reached) (load arcs walkers way lots s t each) ≡ sum_over arcs (leads_back reached) (load arcs walkers way lots s t each) + sum_by lots walkers
+  pub total_leaves : sum_over arcs (leads_out reached) (load arcs walkers way lots s t each) ≡ sum_over arcs (leads_back reached) (load arcs walkers way lots s t each) + sum_by lots walkers
   total_leaves =
       by_walks arcs walkers way lots s t each (leads_out reached)
       ∙ sum_by-by (Walking arcs way s t) (λ x. way_sum arcs (leads_out reached) (way x) (lots x)) (λ x. way_sum arcs (leads_back reached) (way x) (lots x) + lots x) walkers

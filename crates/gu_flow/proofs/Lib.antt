@@ -21,6 +21,9 @@ pub mod CutMembers
 pub mod OfferWays
 pub mod Certifying
 pub mod ViewLoads
+pub mod HeldWays
+pub mod FreeNodes
+pub mod NearestSides
 pub mod OldestTakes
 pub mod OldestPass
 pub mod Marks

@@ -2,10 +2,11 @@
 use Rattle.std.proofs.Common.{◌≡◌, ◌≢◌, ℕ, ◌<◌, ◌==◌, ◌⊎◌, cond, List, zero, suc, length, sym, ◌∙◌, ap, arith, inl, inr}
 use Rattle.std.specs.List.{AllByRecursion}
 use Rattle.std.proofs.lemmas.Bool.{eqb-true, eq-eqb}
+use Rattle.gu_view.proofs.HoldLemmas.{same_test}
 use Rattle.gu_flow.specs.declared.network.Arc.{Arc}
 use Rattle.gu_flow.specs.Ends.{arc_at}
 use Rattle.gu_flow.specs.Flows.{sum_over}
-use Rattle.gu_flow.proofs.SumLemmas.{sum_places_by, sum_one_place, same_test, at_test}
+use Rattle.gu_flow.proofs.SumLemmas.{sum_places_by, sum_one_place, at_test}
 use Rattle.gu_flow.proofs.Walks.{Walking, load, loads_kept}
 
 -- an index whose arc is the only one here at its node, and the arcs there from the other side are of earlier layers

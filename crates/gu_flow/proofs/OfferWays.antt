@@ -14,10 +14,11 @@ use Rattle.gu_terms.specs.declared.firm.FirmId.{FirmId}
 use Rattle.gu_terms.specs.declared.limit_key.LimitKey.{LimitKey}
 use Rattle.gu_terms.specs.declared.limit_key.LimitKey.TheVariants.{Exec, Agr, Acct, Carry, Guar}
 use Rattle.gu_view.proofs.TakesLemmas.{key_at_place}
+use Rattle.gu_view.specs.Paths.{step_of}
 use Rattle.gu_view.specs.View.{GroupView, IsView, IsNested, IsPath, next_key, place_of}
 use Rattle.gu_view.specs.declared.view.ViewOffer.{ViewOffer}
 use Rattle.gu_view.specs.declared.view.Room.{Room}
-use Rattle.gu_flow.specs.Layouts.{step_of, node_or_sink, node_at}
+use Rattle.gu_flow.specs.Layouts.{node_or_sink, node_at}
 use Rattle.gu_flow.specs.Networks.{no_room, room_at, no_offer, way_of, IsOfferOf}
 use Rattle.gu_flow.specs.Shares.{agreement_place}
 use Rattle.gu_flow.proofs.RoomPlaces.{place_of_room, at_place, roomed}
@@ -82,7 +83,7 @@ module _ (view : GroupView) (sound : IsView view) (nested : IsNested view) where
   way_ends o h = let p = path_at o h in subst (λ path. node_at (map at path) (length (map at path)) ≡ 1) (sym p.4) (whole_ends at p.0 o.agreement p.1 p.2 p.3)
 
   -- a key on a path is at its step, and the next follows it
-  on_step : (o : ViewOffer) → IsOfferOf view o → (key : LimitKey) → has_key o.path key ≡ true → slice_get o.path (step_of key) ≡ Some key
+  pub on_step : (o : ViewOffer) → IsOfferOf view o → (key : LimitKey) → has_key o.path key ≡ true → slice_get o.path (step_of key) ≡ Some key
   on_step o h key on = let s = key_stands 0 o.path key (stepped o h) on in ap (slice_get o.path) (omega (arith, s.step)) ∙ s.at
 
   behind : (o : ViewOffer) → IsOfferOf view o → (key : LimitKey) → has_key o.path key ≡ true → slice_get o.path (step_of key + 1) ≡ next_key o.path key
@@ -103,7 +104,7 @@ module _ (view : GroupView) (sound : IsView view) (nested : IsNested view) where
       ap (has_key o.path) is ∙ ap (λ path. has_key path (Agr agreement)) p.4 ∙ agreement_on p.0 o.agreement p.1 p.2 p.3 agreement ∙ ap (key_eq (Agr o.agreement)) (sym is) ∙ sym (at_place view sound k (Agr o.agreement) k_in (own_in o h))
 
   -- offers under one agreement have one path
-  one_path_at : (o p : ViewOffer) → IsOfferOf view o → IsOfferOf view p → o.agreement ≡ p.agreement → o.path ≡ p.path
+  pub one_path_at : (o p : ViewOffer) → IsOfferOf view o → IsOfferOf view p → o.agreement ≡ p.agreement → o.path ≡ p.path
   one_path_at o p h g same = elim (cases_order h.place g.place) [
     | inl one ↦ ap (λ (x : ViewOffer). x.path) (h.is ∙ ap (λ i. get_or view.offers i no_offer) one ∙ sym g.is)
     | inr apart ↦ elim apart [
@@ -113,7 +114,7 @@ module _ (view : GroupView) (sound : IsView view) (nested : IsNested view) where
   ]
 
   -- paths with the same key at a step have the same node there
-  same_node : (o p : ViewOffer) (i : ℕ) → slice_get o.path i ≡ slice_get p.path i → node_or_sink (slice_get (way_of view.rooms o) i) ≡ node_or_sink (slice_get (way_of view.rooms p) i)
+  pub same_node : (o p : ViewOffer) (i : ℕ) → slice_get o.path i ≡ slice_get p.path i → node_or_sink (slice_get (way_of view.rooms o) i) ≡ node_or_sink (slice_get (way_of view.rooms p) i)
   same_node o p i same = ap node_or_sink (slice_get-map at o.path i ∙ ap (option_map at) same ∙ sym (slice_get-map at p.path i))
 
   -- so all ways that pass an index lay out the same arc there

@@ -13,18 +13,19 @@ use Rattle.gu_terms.specs.LimitKeys.{key_eq, has_key}
 use Rattle.gu_terms.specs.declared.agreement.AgreementId.{AgreementId}
 use Rattle.gu_terms.specs.declared.limit_key.LimitKey.{LimitKey}
 use Rattle.gu_terms.specs.declared.limit_key.LimitKey.TheVariants.{Agr}
+use Rattle.gu_view.proofs.HoldLemmas.{same_test}
 use Rattle.gu_view.proofs.PassingPlaces.{sum_by-places}
 use Rattle.gu_view.proofs.MarkLemmas.{path_inside}
 use Rattle.gu_view.proofs.RoomLemmas.{apart, has_key-keys_of, has_room-keys}
 use Rattle.gu_view.proofs.TakesLemmas.{key_at_place}
 use Rattle.gu_view.specs.Check.{has_room}
 use Rattle.gu_view.specs.Places.{places_from}
+use Rattle.gu_view.specs.Takes.{lots_with}
 use Rattle.gu_view.specs.View.{GroupView, IsView, place_of, places_under}
 use Rattle.gu_view.specs.declared.view.ViewOffer.{ViewOffer}
 use Rattle.gu_view.specs.declared.view.Room.{Room}
-use Rattle.gu_flow.proofs.SumLemmas.{same_test}
 use Rattle.gu_flow.specs.Shares.{agreement_place}
-use Rattle.gu_flow.specs.Networks.{no_room, room_at, no_offer, offer_at, way_of, GoesBy, IsOfferOf, lots_with, capacity_of}
+use Rattle.gu_flow.specs.Networks.{no_room, room_at, no_offer, offer_at, way_of, GoesBy, IsOfferOf, capacity_of}
 
 -- the lots at the indexes under a key are those of the offers with it
 pub lots_under_places : (offers : List ViewOffer) (k : LimitKey) (places : List ℕ) → places ≡ places_under offers k → sum_by (λ p. (offer_at offers p).lots) places ≡ lots_with offers k

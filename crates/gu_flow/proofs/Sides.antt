@@ -54,7 +54,7 @@ node_some : (o : _) (k : ℕ) → node_or_sink o ≡ node_of k → o ≡ Some k
 node_some None k at = absurd (omega arith)
 node_some (Some p) k at = ap Some (omega arith)
 
-comes_to : (way : List ℕ) (i k : ℕ) → node_at way i ≡ node_of k → ((i ≡ 1) × (slice_get way 0 ≡ Some k)) ⊎ ((1 < i) × (slice_get way i ≡ Some k))
+pub comes_to : (way : List ℕ) (i k : ℕ) → node_at way i ≡ node_of k → ((i ≡ 1) × (slice_get way 0 ≡ Some k)) ⊎ ((1 < i) × (slice_get way i ≡ Some k))
 comes_to way i k at = elim (cases_eq i 0) [
   | inl none ↦ absurd (let at = rw none at at in omega arith)
   | inr some ↦ elim (cases_eq i 1) [

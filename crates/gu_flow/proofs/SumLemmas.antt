@@ -3,6 +3,7 @@ use Rattle.std.proofs.Common.{◌≡◌, ◌≢◌, ℕ, ◌+◌, ◌<◌, ◌�
 use Rattle.std.specs.List.{sum_by, AllByRecursion}
 use Rattle.std.proofs.lemmas.List.Sums.{sum_by-cons}
 use Rattle.gu_terms.proofs.Lists.{sum_by-agree, sum_by-zeros}
+use Rattle.gu_view.proofs.HoldLemmas.{same_test}
 use Rattle.gu_flow.specs.Flows.{places}
 use Rattle.std.proofs.lemmas.Bool.{cases_eq, ne_eqb, eq-eqb, eqb-true, cond-false, cond-true}
 
@@ -83,13 +84,6 @@ sum_places_set f g (suc n) zero k_in same =
     omega (arith, sum_places f n, sum_places g n, sum_places_by (λ j. g (suc j)) (λ j. f (suc j)) n (λ j j_in. same (suc j) (omega arith)))
 sum_places_set f g (suc n) (suc k) k_in same =
     omega (arith, sum_places f n, sum_places g n, same 0 (omega arith), sum_places_set (λ j. f (suc j)) (λ j. g (suc j)) n k (omega arith) (λ j other. same (suc j) (omega arith)))
-
--- two equivalent tests
-pub same_test : (b c : Bool) → (b ≡ true → c ≡ true) → (c ≡ true → b ≡ true) → b ≡ c
-same_test true true f g = refl
-same_test true false f g = sym (f refl)
-same_test false true f g = g refl
-same_test false false f g = refl
 
 test-suc : (k j : ℕ) → (suc k == suc j) ≡ (k == j)
 test-suc k j = same_test (suc k == suc j) (k == j) (λ e. eq-eqb k j (let same = eqb-true (suc k) (suc j) e in omega arith)) (λ e. eq-eqb (suc k) (suc j) (ap suc (eqb-true k j e)))

@@ -1,5 +1,6 @@
 -- Admissible lots give a flow through the network of a view, whose value is their total.
 use Rattle.std.proofs.Common.{◌≡◌, ℕ, ◌+◌, ◌<◌, ◌≤◌, ◌==◌, Bool, true, false, cond, List, [], ◌∷◌, zero, suc, length, map, get_or, slice_get, Some, refl, sym, ◌∙◌, ap, arith, inl, inr}
+use Rattle.std.specs.Prelude.{All, sum_by}
 use Rattle.std.specs.List.{AllByRecursion, list_any}
 use Rattle.std.proofs.lemmas.Bool.{cases_lt, or_cases, eq-eqb, eqb-true}
 use Rattle.std.proofs.lemmas.List.{get_or_default, get_or_past, get_or-map, length-map}
@@ -8,16 +9,20 @@ use Rattle.std.proofs.lemmas.List.Folds.{list_any_at}
 use Rattle.std.proofs.lemmas.Option.{slice_get_within, get_or_from_slice_get}
 use Rattle.gu_terms.proofs.Lists.{along, sum_by-add, sum_by-mono}
 use Rattle.gu_terms.specs.LimitKeys.{has_key}
-use Rattle.gu_view.specs.Takes.{IsAdmissible, lots_under, total}
+use Rattle.gu_terms.specs.declared.limit_key.LimitKey.{LimitKey}
+use Rattle.gu_terms.specs.declared.limit_key.LimitKey.TheVariants.{Agr}
+use Rattle.gu_terms.specs.declared.agreement.AgreementId.{AgreementId}
+use Rattle.gu_view.specs.Takes.{IsAdmissible, lots_under, lots_with, total}
 use Rattle.gu_view.specs.View.{GroupView, IsView, IsNested, place_of}
 use Rattle.gu_view.specs.declared.view.ViewOffer.{ViewOffer}
 use Rattle.gu_flow.specs.Ends.{arc_at}
 use Rattle.gu_flow.specs.Flows.{places, sum_over, value_of, IsFlow}
 use Rattle.gu_flow.specs.Layouts.{node_at}
-use Rattle.gu_flow.specs.Networks.{no_room, room_at, no_offer, way_of, lots_with, IsOfferOf, AreArcs}
+use Rattle.gu_flow.specs.Networks.{no_room, room_at, no_offer, way_of, IsOfferOf, AreArcs}
+use Rattle.gu_flow.specs.Shares.{agreement_place}
 use Rattle.gu_flow.specs.declared.network.Arc.{Arc}
 use Rattle.gu_flow.proofs.ArcLists.{places_within, kind_of}
-use Rattle.gu_flow.proofs.OfferWays.{step_at, way_stepped, way_ends, alike}
+use Rattle.gu_flow.proofs.OfferWays.{step_at, under_own, way_stepped, way_ends, alike}
 use Rattle.gu_flow.proofs.RoomPlaces.{goes_by_key, roomed}
 use Rattle.gu_flow.proofs.Sides.{stepped_at, walks_from, way_once}
 use Rattle.gu_flow.proofs.SumLemmas.{sum_by-by, sum_places_by}
@@ -64,7 +69,7 @@ module _ (view : GroupView) (sound : IsView view) (nested : IsNested view) (arcs
   key_on o h k k_in on = sym (goes_by_key view sound k k_in o.path (roomed view sound o h)) ∙ on
 
   -- each way lays out the arcs that it passes
-  lies : (o : ViewOffer) → IsOfferOf view o → (i k : ℕ) → slice_get (way o) i ≡ Some k → (k < length arcs) × ((arc_at arcs k).from ≡ node_at (way o) i) × ((arc_at arcs k).to ≡ node_at (way o) (i + 1))
+  pub lies : (o : ViewOffer) → IsOfferOf view o → (i k : ℕ) → slice_get (way o) i ≡ Some k → (k < length arcs) × ((arc_at arcs k).from ≡ node_at (way o) i) × ((arc_at arcs k).to ≡ node_at (way o) (i + 1))
   lies o h i k at =
       let on : has_place (way o) k ≡ true = list_any_at (λ p. p == k) (way o) i 0 (slice_get_within (way o) i k at) (eq-eqb (get_or (way o) i 0) k (get_or_from_slice_get (way o) i k 0 at)) in
       let k_room = place_in o h k on in
@@ -83,6 +88,13 @@ module _ (view : GroupView) (sound : IsView view) (nested : IsNested view) (arcs
   pub all_walk : AllByRecursion (Walking arcs way 0 1) view.offers
   all_walk = recursion_from_All (Walking arcs way 0 1) view.offers (λ i d inside. walking (get_or view.offers i d) (offer_here i d inside))
 
+  -- sums under an agreement, by the indexes of the offers' agreements
+  pub under_agreement : (f : ViewOffer → ℕ) (k : ℕ) → k < length view.rooms → (agreement : AgreementId) → (room_at view.rooms k).key ≡ Agr agreement
+      → sum_by (λ o. cond (has_key o.path (room_at view.rooms k).key) (f o) 0) view.offers ≡ sum_by (λ o. cond (agreement_place view.rooms o == k) (f o) 0) view.offers
+  under_agreement f k k_in agreement is =
+      sum_by-by (IsOfferOf view) (λ o. cond (has_key o.path (room_at view.rooms k).key) (f o) 0) (λ o. cond (agreement_place view.rooms o == k) (f o) 0) view.offers
+      (λ o h. ap (λ b. cond b (f o) 0) (under_own view sound nested o h k k_in agreement is)) each_offer
+
   module _ (lots : ℕ → ℕ) where
     abbrev pub brought : ℕ → ℕ
     brought = load arcs view.offers way (λ o. lots o.number) 0 1 all_walk
@@ -92,6 +104,17 @@ module _ (view : GroupView) (sound : IsView view) (nested : IsNested view) (arcs
     brought_is k k_in =
         sum_by-by (IsOfferOf view) (λ o. cond (has_place (way o) k) (lots o.number) 0) (λ o. cond (has_key o.path (room_at view.rooms k).key) (lots o.number) 0) view.offers
         (λ o h. ap (λ b. cond b (lots o.number) 0) (goes_by_key view sound k k_in o.path (roomed view sound o h))) each_offer
+
+    -- no more is taken under a key than the offers with it have
+    part : (b : Bool) (n m : ℕ) → n ≤ m → cond b n 0 ≤ cond b m 0
+    part true n m h = h
+    part false n m h = omega arith
+
+    pub under_all : (key : LimitKey) → All (λ o. lots o.number ≤ o.lots) view.offers → lots_under view.offers key lots ≤ lots_with view.offers key
+    under_all key within =
+        sum_by-mono (λ o. cond (has_key o.path key) (lots o.number) 0) (λ o. cond (has_key o.path key) o.lots 0) view.offers
+        (along (λ o. lots o.number ≤ o.lots) (λ o. cond (has_key o.path key) (lots o.number) 0 ≤ cond (has_key o.path key) o.lots 0) view.offers (λ o h. part (has_key o.path key) (lots o.number) o.lots h)
+        (recursion_from_All (λ o. lots o.number ≤ o.lots) view.offers within))
 
     -- the sink takes the total
     turn : (b c : Bool) (x : ℕ) → cond b x 0 + cond c x 0 ≡ cond c x 0 + cond b x 0
@@ -124,19 +147,12 @@ module _ (view : GroupView) (sound : IsView view) (nested : IsNested view) (arcs
         fits k k_in =
             let k_room : k < length view.rooms = omega (arith, are.all) in
             let key = (room_at view.rooms k).key in
-            let all : lots_under view.offers key lots ≤ lots_with view.offers key =
-            sum_by-mono (λ o. cond (has_key o.path key) (lots o.number) 0) (λ o. cond (has_key o.path key) o.lots 0) view.offers
-            (along (λ o. lots o.number ≤ o.lots) (λ o. cond (has_key o.path key) (lots o.number) 0 ≤ cond (has_key o.path key) o.lots 0) view.offers (λ o h. part (has_key o.path key) (lots o.number) o.lots h)
-            (recursion_from_All (λ o. lots o.number ≤ o.lots) view.offers within.offers)) in
+            let all = under_all key within.offers in
             let room = within.rooms k no_room k_room in
             elim (kind_of view.offers (room_at view.rooms k).lots (arc_at arcs k).capacity key (are.each k k_in).capacity) [
               | inl agreement ↦ omega (arith, brought_is k k_room, all, room, agreement.capacity_is)
               | inr other ↦ omega (arith, brought_is k k_room, room, other.0)
             ]
-          where
-            part : (b : Bool) (n m : ℕ) → n ≤ m → cond b n 0 ≤ cond b m 0
-            part true n m h = h
-            part false n m h = omega arith
 
         pub is_flow_of : IsFlow arcs flow
         is_flow_of = record {

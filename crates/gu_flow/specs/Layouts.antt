@@ -1,15 +1,5 @@
 -- Machinery: the network of ways through places: executing firm, agreement, then account, carrying firm and guarantor.
 use Rattle.std.specs.Prelude.{ℕ, ◌+◌, ◌==◌, if◌then◌else◌, List, Option, None, Some, slice_get}
-use Rattle.gu_terms.specs.declared.limit_key.LimitKey.{LimitKey}
-use Rattle.gu_terms.specs.declared.limit_key.LimitKey.TheVariants.{Exec, Agr, Acct, Carry, Guar}
-
--- the number of steps of a way before the one for a key
-abbrev pub step_of : LimitKey → ℕ
-step_of (Exec firm) = 0
-step_of (Agr agreement) = 1
-step_of (Acct account) = 2
-step_of (Carry firm) = 3
-step_of (Guar firm) = 4
 
 -- each place has a node; node 0 is the source, and node 1 the sink
 abbrev pub node_of : ℕ → ℕ

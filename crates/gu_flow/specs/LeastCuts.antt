@@ -1,10 +1,6 @@
--- Machinery: the cut nearest to the source.
+-- Machinery: the least source side of a network.
 use Rattle.std.specs.Prelude.{◌≡◌, ℕ, Bool, true, false, List}
-use Rattle.gu_terms.specs.Cuts.{CutLists}
-use Rattle.gu_view.specs.View.{GroupView}
-use Rattle.gu_flow.specs.CutArcs.{IsCutBy}
 use Rattle.gu_flow.specs.Flows.{value_of, IsClosed, IsFlow}
-use Rattle.gu_flow.specs.Networks.{AreArcs}
 use Rattle.gu_flow.specs.declared.network.Arc.{Arc}
 
 -- a source side from which a flow can push no more to the sink side, and which lies within each such side of each flow of the same value
@@ -14,13 +10,3 @@ pub record IsLeastSide (arcs : List Arc) (flow : List ℕ) (reached : ℕ → Bo
   pub closed : IsClosed arcs flow reached
   pub least : (same : List ℕ) (others : ℕ → Bool) → IsFlow arcs same → value_of arcs same ≡ value_of arcs flow
       → others 0 ≡ true → IsClosed arcs same others → (n : ℕ) → reached n ≡ true → others n ≡ true
-
--- the cut is the one at the least source side of some flow in the view's network
-pub record IsLeastCut (view : GroupView) (cut : CutLists) : Type 0 where
-  pub arcs : List Arc
-  pub are : AreArcs view arcs
-  pub flow : List ℕ
-  pub is_flow : IsFlow arcs flow
-  pub reached : ℕ → Bool
-  pub side : IsLeastSide arcs flow reached
-  pub cuts : IsCutBy view reached arcs cut

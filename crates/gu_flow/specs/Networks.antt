@@ -1,14 +1,15 @@
 -- Machinery: the network of a view: each key's room is an arc, on the ways of the offers with that key.
-use Rattle.std.specs.Prelude.{◌≡◌, ℕ, ◌+◌, ◌<◌, ◌==◌, min, true, if◌then◌else◌, List, [], length, map, slice_index_or, sum_by}
+use Rattle.std.specs.Prelude.{◌≡◌, ℕ, ◌+◌, ◌<◌, ◌==◌, min, true, List, [], length, map, slice_index_or}
 use Rattle.std.specs.List.{list_any}
-use Rattle.gu_terms.specs.LimitKeys.{has_key}
 use Rattle.gu_terms.specs.declared.limit_key.LimitKey.{LimitKey}
 use Rattle.gu_terms.specs.declared.limit_key.LimitKey.TheVariants.{Exec, Agr}
+use Rattle.gu_view.specs.Paths.{step_of}
+use Rattle.gu_view.specs.Takes.{lots_with}
 use Rattle.gu_view.specs.View.{GroupView, place_of}
 use Rattle.gu_view.specs.declared.view.ViewOffer.{ViewOffer}
 use Rattle.gu_view.specs.declared.view.Room.{Room}
 use Rattle.gu_flow.specs.Ends.{arc_at}
-use Rattle.gu_flow.specs.Layouts.{step_of, node_at}
+use Rattle.gu_flow.specs.Layouts.{node_at}
 use Rattle.gu_flow.specs.declared.network.Arc.{Arc}
 
 -- the room at an index
@@ -32,10 +33,6 @@ way_of rooms o = map (place_of rooms) o.path
 -- a way passes a place
 abbrev pub GoesBy : List ℕ → ℕ → Type 0
 GoesBy way place = list_any (λ p. p == place) way ≡ true
-
--- the total lots of the offers with a key
-abbrev pub lots_with : List ViewOffer → LimitKey → ℕ
-lots_with offers k = sum_by (λ o. if has_key o.path k then o.lots else 0) offers
 
 -- the capacity of a key's arc: its room, but for an agreement no more than its offers have
 abbrev pub capacity_of : List ViewOffer → ℕ → LimitKey → ℕ

@@ -4,9 +4,9 @@ use Rattle.gu_terms.specs.Cuts.{CutLists}
 use Rattle.gu_terms.specs.Takes.{lots_of}
 use Rattle.gu_terms.specs.declared.takes.Take.{Take}
 use Rattle.gu_view.specs.Check.{IsRight}
+use Rattle.gu_view.specs.Nearest.{IsNearestCut}
 use Rattle.gu_view.specs.Takes.{IsOldestGreatest}
 use Rattle.gu_view.specs.View.{GroupView, IsView}
-use Rattle.gu_flow.specs.LeastCuts.{IsLeastCut}
 
 -- a proposal: the view that it was made for, the takes, the cut and the total lots taken
 pub record ProposedSweep : Type 0 where
@@ -16,10 +16,10 @@ pub record ProposedSweep : Type 0 where
   pub lots : ℕ
 
 -- the rules of every proposal: it is for a view, passes the check with its lots, names only offers from which it takes lots, is oldest
--- first over the group among the greatest takes, and its cut is the nearest to the source
+-- first over the group among the greatest takes, and its cut is the nearest
 pub record IsSound (sweep : ProposedSweep) : Type 0 where
   pub of_view : IsView sweep.view
   pub right : IsRight sweep.view sweep.takes sweep.cut sweep.lots
   pub named : All (λ t. 0 < t.lots) sweep.takes
   pub oldest : IsOldestGreatest sweep.view (lots_of sweep.takes)
-  pub least : IsLeastCut sweep.view sweep.cut
+  pub nearest : IsNearestCut sweep.view sweep.cut

@@ -1,9 +1,10 @@
 //! The network of a view, with an arc for each room.
 
 ghost use Rattle.std.specs.Prelude.{◌≡◌, ◌+◌, ◌<◌, ◌^◌, All, IfOk, length, sum_by};
+ghost use Rattle.gu_view.specs.Paths.{step_of};
 ghost use Rattle.gu_view.specs.View.{IsView};
 ghost use Rattle.gu_flow.specs.Ends.{capacities, JoinsNodes};
-ghost use Rattle.gu_flow.specs.Layouts.{step_of, node_at};
+ghost use Rattle.gu_flow.specs.Layouts.{node_at};
 ghost use Rattle.gu_flow.specs.Networks.{capacity_of, IsArcOf, AreArcs, room_at, offer_at};
 
 use crate::network::{Arc, SINK, SOURCE};

@@ -10,18 +10,20 @@ use Rattle.gu_terms.specs.declared.takes.Take.{Take}
 use Rattle.gu_ref.specs.Reference.{is_group}
 use Rattle.gu_ref.specs.Tables.{Tables}
 use Rattle.gu_view.specs.Check.{IsRight}
+use Rattle.gu_view.specs.Nearest.{IsNearestCut}
 use Rattle.gu_view.specs.Takes.{IsOldestGreatest}
 use Rattle.gu_view.specs.View.{GroupView}
 use Rattle.gu_rules.specs.Views.{group_view}
 
 -- a sweep of a view: its takes fit each offer and room, are the greatest that do, and among those give older offers most; its cut covers
--- each offer, with a room of exactly the lots taken; takes ascend, and the cut names each key and offer once
+-- each offer, with a room of exactly the lots taken, and is the nearest; takes ascend, and the cut names each key and offer once
 pub record IsSweepOf (view : GroupView) (sweep : SweepEntry) : Type 0 where
   pub ascending : IsAscending sweep.takes
   pub keys : IsDistinct key_eq sweep.cut.keys
   pub offers : IsDistinct (λ m n. m == n) sweep.cut.offers
   pub right : IsRight view sweep.takes sweep.cut sweep.lots
   pub oldest : IsOldestGreatest view (lots_of sweep.takes)
+  pub nearest : IsNearestCut view sweep.cut
 
 -- a sweep may follow these entries: it is of a group in the reference, as its view is then
 pub record MaySweep (reference : Tables) (before : List Entry) (sweep : SweepEntry) : Type 0 where

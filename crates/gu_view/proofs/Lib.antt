@@ -1,12 +1,15 @@
 pub mod Checked
 pub mod CutBounds
 pub mod DerivedEq
+pub mod HoldLemmas
 pub mod IndexLemmas
 pub mod ListsInOne
 pub mod MakingLemmas
 pub mod MarkLemmas
 pub mod MemberLemmas
 pub mod Mentions
+pub mod NearestCuts
+pub mod NeededMembers
 pub mod NestingLemmas
 pub mod OldestGreatest
 pub mod OnceLemmas

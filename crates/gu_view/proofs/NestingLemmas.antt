@@ -83,7 +83,7 @@ after e own a c g (Agr x) depth at h = cc
 after e own a c g (Guar x) depth at h = cc
 
 -- on the path of an offer
-after_on : (o : ViewOffer) (k : LimitKey) (depth : ℕ) → behind k ≡ Some depth → IsPath o → has_key o.path k ≡ true → next_key o.path k ≡ slice_get o.path depth
+pub after_on : (o : ViewOffer) (k : LimitKey) (depth : ℕ) → behind k ≡ Some depth → IsPath o → has_key o.path k ≡ true → next_key o.path k ≡ slice_get o.path depth
 after_on o k depth at (e, a, c, g, is) on = rw is (after e o.agreement a c g k depth at (rw is at on))
 
 -- keys that pass are equal

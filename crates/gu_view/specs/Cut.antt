@@ -1,5 +1,5 @@
 -- Cuts of a view.
-use Rattle.std.specs.Prelude.{ℕ, ◌+◌, ◌||◌, Bool, IsTrue, if◌then◌else◌, All, sum_by}
+use Rattle.std.specs.Prelude.{ℕ, ◌+◌, ◌≤◌, ◌||◌, Bool, IsTrue, if◌then◌else◌, All, sum_by}
 use Rattle.std.specs.List.{list_any}
 use Rattle.gu_terms.specs.Cuts.{CutLists, has_number}
 use Rattle.gu_terms.specs.LimitKeys.{has_key}
@@ -19,3 +19,8 @@ abbrev pub room_of : GroupView → CutLists → ℕ
 room_of view cut =
     sum_by (λ r. if has_key cut.keys r.key then r.lots else 0) view.rooms
     + sum_by (λ o. if has_number cut.offers o.number then o.lots else 0) view.offers
+
+-- it covers, and no cut that covers has less room
+pub record IsLeastCut (view : GroupView) (cut : CutLists) : Type 0 where
+  pub covers : Covers view cut
+  pub least : (others : CutLists) → Covers view others → room_of view cut ≤ room_of view others

@@ -5,6 +5,7 @@ pub mod Faults
 pub mod Keeping
 pub mod Making
 pub mod Marks
+pub mod Nearest
 pub mod Paths
 pub mod Places
 pub mod Takes

@@ -20,6 +20,14 @@ abbrev pub is_guarantor : LimitKey → Bool
 is_guarantor (Guar _) = true
 is_guarantor _ = false
 
+-- the number of keys before a key on each path that has it
+abbrev pub step_of : LimitKey → ℕ
+step_of (Exec firm) = 0
+step_of (Agr agreement) = 1
+step_of (Acct account) = 2
+step_of (Carry firm) = 3
+step_of (Guar firm) = 4
+
 -- a path has these four keys, or these four and a guarantor's
 abbrev pub is_whole : AgreementId → List LimitKey → Bool
 is_whole own (a ∷ b ∷ c ∷ d ∷ []) = are_kinds own a b c d

@@ -1,4 +1,4 @@
--- Lots taken from a view's offers.
+-- Lots of a view's offers, and lots taken from them.
 use Rattle.std.specs.Prelude.{◌≡◌, ℕ, ◌<◌, ◌≤◌, if◌then◌else◌, List, All, AllPairs, sum_by}
 use Rattle.gu_terms.specs.declared.limit_key.LimitKey.{LimitKey}
 use Rattle.gu_terms.specs.LimitKeys.{has_key}
@@ -8,6 +8,10 @@ use Rattle.gu_view.specs.View.{GroupView}
 -- the lots taken from the offers with a key on their path; `lots` gives those taken from the offer with a number
 abbrev pub lots_under : List ViewOffer → LimitKey → (ℕ → ℕ) → ℕ
 lots_under offers k lots = sum_by (λ o. if has_key o.path k then lots o.number else 0) offers
+
+-- the total lots of the offers with a key on their path
+abbrev pub lots_with : List ViewOffer → LimitKey → ℕ
+lots_with offers k = sum_by (λ o. if has_key o.path k then o.lots else 0) offers
 
 -- the total lots taken
 abbrev pub total : List ViewOffer → (ℕ → ℕ) → ℕ

@@ -47,6 +47,7 @@ sweeps_are_greatest reference history legal k sweep at =
       offers = right.offers_known;
       covers = right.covers;
       room = right.room;
+      nearest = may.sweeps.nearest;
     }
 
 -- each position of an orderly history is a sum

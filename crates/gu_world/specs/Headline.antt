@@ -10,6 +10,7 @@ use Rattle.gu_terms.specs.declared.symbol.Symbol.{Symbol}
 use Rattle.gu_ref.specs.Tables.{Tables}
 use Rattle.gu_view.specs.Check.{has_offer, has_room}
 use Rattle.gu_view.specs.Cut.{Covers, room_of}
+use Rattle.gu_view.specs.Nearest.{IsNearestCut}
 use Rattle.gu_view.specs.Takes.{AgreeOnOlder, IsAdmissible, IsGreatest, IsOldestFirst, total}
 use Rattle.gu_view.specs.View.{GroupView}
 use Rattle.gu_rules.specs.Offers.{standing_of}
@@ -19,7 +20,8 @@ use Rattle.gu_rules.specs.Views.{group_view}
 
 -- a sweep of a view: it takes lots only from the view's offers, no more from an offer than it has and no more under a key than its room,
 -- and the oldest offers of an agreement first; no admissible takes have more lots, and among those with as many that give each older offer
--- the same, none gives an offer more; its cut names only keys and offers of the view, covers each offer, and its room equals the lots taken
+-- the same, none gives an offer more; its cut names only keys and offers of the view, covers each offer, its room equals the lots taken,
+-- and it is the nearest cut
 pub record IsGreatestSweep (view : GroupView) (sweep : SweepEntry) : Type 0 where
   pub known : All (λ t. IsTrue (has_offer view.offers t.offer)) sweep.takes
   pub within : IsAdmissible view (lots_of sweep.takes)
@@ -32,6 +34,7 @@ pub record IsGreatestSweep (view : GroupView) (sweep : SweepEntry) : Type 0 wher
   pub offers : All (λ n. IsTrue (has_offer view.offers n)) sweep.cut.offers
   pub covers : Covers view sweep.cut
   pub room : room_of view sweep.cut ≡ sweep.lots
+  pub nearest : IsNearestCut view sweep.cut
 
 -- each committed sweep is such a sweep of its group's view, as the book was just before the commit
 abbrev pub AreGreatestSweeps : Tables → List Entry → Type 0

@@ -24,4 +24,5 @@ returns c =
           (subst (IsDistinct number_eq) (c.offers.ensures.offers ∙ ap (λ (cut : CutLists). cut.offers) c.cut-cut.ensures.cut) c.offers.ensures.once);
       right = sound.right;
       oldest = sound.oldest;
+      nearest = sound.nearest;
     }

@@ -1,10 +1,12 @@
 use Rattle.std.proofs.Common.{arith, ap, sym, subst, ◌∙◌, sum_by, length}
+use Rattle.gu_terms.specs.Takes.{lots_of}
 use Rattle.gu_terms.specs.declared.takes.Take.{Take}
 use Rattle.gu_flow.specs.Levels.{is_reached}
 use Rattle.gu_flow.specs.Networks.{AreArcs}
 use Rattle.gu_flow.proofs.Borders.{closed_stays}
-use Rattle.gu_flow.proofs.Certifying.{certified, flow_is_taken, greatest}
+use Rattle.gu_flow.proofs.Certifying.{certified, flow_is_taken, greatest, right}
 use Rattle.gu_flow.proofs.LeastSides.{least_side}
+use Rattle.gu_flow.proofs.NearestSides.{nearest_cut}
 use Rattle.gu_flow.proofs.OldestTakes.{oldest_greatest}
 use Rattle.gu_flow.proofs.ShareLemmas.{shares_total, shares_fit}
 use Rattle.gu_flow.proofs.SomeLots.{above_zero-sum}
@@ -36,15 +38,10 @@ returns c =
     ∙ above_zero-sum shares.shares ∙ shares_total view sound flow shares.shares shares.all in
     let taken = flow_is_taken view sound c.requires arcs are flow e.flow reached g.from_source g.not_to_sink closed shares.shares shares.all c.in_ok-cut.cut cut in
     let best = greatest view sound c.requires arcs are flow e.flow reached g.from_source g.not_to_sink closed shares.shares shares.all c.in_ok-cut.cut cut in
+    let all = right view sound c.requires arcs are flow e.flow reached g.from_source g.not_to_sink closed shares.shares shares.all c.in_ok-cut.cut cut in
+    let side = least_side arcs (length net.first.items) net.is_network.joins (omega (arith, net.is_network.ends)) c.in_ok-greatest.greatest.items c.in_ok-greatest.entries.items g.flow g.tree g.from_source g.not_to_sink g.closed in
     certified view sound c.requires arcs are flow e.flow reached g.from_source g.not_to_sink closed shares.shares shares.all
     c.in_ok-cut.cut cut takes shares.named c.sum_of-lots.result lots
     (oldest_greatest view sound c.requires arcs are flow shares.shares shares.all taken e.oldest best)
-    (record {
-      arcs = arcs;
-      are = are;
-      flow = c.in_ok-greatest.greatest.items;
-      is_flow = g.flow;
-      reached = reached;
-      side = least_side arcs (length net.first.items) net.is_network.joins (omega (arith, net.is_network.ends)) c.in_ok-greatest.greatest.items c.in_ok-greatest.entries.items g.flow g.tree g.from_source g.not_to_sink g.closed;
-      cuts = cut;
-    })
+    (nearest_cut view sound c.requires arcs are flow e.flow reached g.from_source g.not_to_sink closed (λ others from shut. side.least flow others e.flow e.value from shut)
+    (lots_of shares.shares) all.admissible taken c.in_ok-cut.cut cut all.covers all.room)
