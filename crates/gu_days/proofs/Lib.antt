@@ -1,6 +1,7 @@
 pub mod Again
 pub mod Alike
 pub mod OneChoice
+pub mod OneCut
 pub mod Played
 pub mod Plays
 pub mod Whole

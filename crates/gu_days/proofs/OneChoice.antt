@@ -1,4 +1,4 @@
--- Two sweeps that may follow take the same lots of each offer.
+-- Two sweeps that may follow are the same: they take the same lots from each offer, and have the same cut.
 use Rattle.std.proofs.Common.{◌≡◌, ℕ, Bool, true, false, ◌||◌, List, [], ◌∷◌, IsTrue, refl, sym, ap, ◌∙◌, subst, arith, inl, inr}
 use Rattle.std.specs.List.{AllByRecursion}
 use Rattle.std.proofs.lemmas.Bool.{cases_eq, ne_eqb}
@@ -13,6 +13,8 @@ use Rattle.gu_view.specs.View.{GroupView}
 use Rattle.gu_view.specs.declared.view.ViewOffer.{ViewOffer}
 use Rattle.gu_view.proofs.OldestGreatest.{oldest_greatest_is_one}
 use Rattle.gu_rules.specs.Sweeps.{IsSweepOf}
+use Rattle.gu_days.specs.PlayedBack.{IsSameSweep}
+use Rattle.gu_days.proofs.OneCut.{HasRooms, one_cut}
 
 -- ---- of the view's offers
 
@@ -42,10 +44,10 @@ module _ (view : GroupView) (sweep other : SweepEntry) (mine : IsSweepOf view sw
   along : AllByRecursion (λ (o : ViewOffer). lots_of other.takes o.number ≡ lots_of sweep.takes o.number) view.offers
   along = recursion_from_All (λ (o : ViewOffer). lots_of other.takes o.number ≡ lots_of sweep.takes o.number) view.offers (oldest_greatest_is_one view (lots_of sweep.takes) (lots_of other.takes) mine.oldest theirs.oldest)
 
-  pub same_lots : other.lots ≡ sweep.lots
+  same_lots : other.lots ≡ sweep.lots
   same_lots = sym theirs.right.taken ∙ same_total view.offers (lots_of sweep.takes) (lots_of other.takes) along ∙ mine.right.taken
 
-  pub same_takes : (n : ℕ) → lots_of other.takes n ≡ lots_of sweep.takes n
+  same_takes : (n : ℕ) → lots_of other.takes n ≡ lots_of sweep.takes n
   same_takes n = by (has_offer view.offers n) refl
     where
       known : (s : SweepEntry) → IsSweepOf view s → AllByRecursion (λ (t : Take). IsTrue (has_offer view.offers t.offer)) s.takes
@@ -54,3 +56,12 @@ module _ (view : GroupView) (sweep other : SweepEntry) (mine : IsSweepOf view sw
       by : (b : Bool) → has_offer view.offers n ≡ b → lots_of other.takes n ≡ lots_of sweep.takes n
       by true e = same_at view.offers (lots_of sweep.takes) (lots_of other.takes) n along e
       by false e = none_at view.offers other.takes n (known other theirs) e ∙ sym (none_at view.offers sweep.takes n (known sweep mine) e)
+
+  -- so the sweeps of one view, whose rooms are those of its keys, are one sweep
+  pub same_sweep : HasRooms view → other.group ≡ sweep.group → IsSameSweep sweep other
+  same_sweep rooms group = record {
+    group = group;
+    lots = same_lots;
+    takes = same_takes;
+    cut = one_cut view rooms sweep.cut other.cut mine.nearest theirs.nearest;
+  }

@@ -25,7 +25,7 @@ use Rattle.gu_rules.specs.Reports.{open_day, opened_day, report_on}
 use Rattle.gu_rules.specs.Versions.{is_of_group, touches}
 use Rattle.gu_rules.proofs.Growing.{last-given, last-kept}
 use Rattle.gu_script.specs.Journals.{days_apart, open_after}
-use Rattle.gu_days.specs.PlayedBack.{ArePlayedBack, IsPlayedBack, TakesAlike, played}
+use Rattle.gu_days.specs.PlayedBack.{ArePlayedBack, IsPlayedBack, IsSameSweep, played}
 use Rattle.gu_days.proofs.Alike.{AreAlike, IsAlike}
 
 -- two days are apart unless they are the same
@@ -162,8 +162,8 @@ played-answered reference state (ReportSide it) = by (days_apart state.today (Re
             of false g = let same : (day, today) ≡ days = cc in ap (λ (d : Day × Day). Some d.1) same
 played-answered reference state command = ap (λ (days : Option (Day × Day)). answer_in reference state (played command days)) (none_apart state.today command tt)
 
--- sweeps that take alike say the same
-alike-swept : (sweep other : SweepEntry) → TakesAlike sweep other → IsAlike (Swept sweep) (Swept other)
+-- the same sweep says the same
+alike-swept : (sweep other : SweepEntry) → IsSameSweep sweep other → IsAlike (Swept sweep) (Swept other)
 alike-swept sweep other same = record {
   opened = refl;
   reported = none;

@@ -33,7 +33,8 @@ use Rattle.gu_script.specs.Replaying.{HasLineText, HasText, IsTextOfLines, SayAl
 use Rattle.gu_days.specs.PlayedBack.{ArePlayedBack, IsPlayedBack, played}
 use Rattle.gu_days.specs.Resumed.{IsDayAgain}
 use Rattle.gu_days.proofs.Alike.{AreAlike, alike-append, alike-group_view, alike-length, alike-state_of, one_book}
-use Rattle.gu_days.proofs.OneChoice.{same_lots, same_takes}
+use Rattle.gu_days.proofs.OneChoice.{same_sweep}
+use Rattle.gu_days.proofs.OneCut.{rooms_of}
 use Rattle.gu_days.proofs.Played.{alike-entry, follows-here, legal-on, open_day-step, played-answered, played_back_alike}
 
 -- ---- what lines say is one thing
@@ -210,11 +211,7 @@ entry_plays old new before (Swept sweep) text alike may room within h =
     let theirs : IsSweepOf (group_view reference before sweep.group) made.sweep = subst (λ (v : GroupView). IsSweepOf v made.sweep) view own in
     record {
       other = Swept made.sweep;
-      back = record {
-        group = made.own;
-        lots = same_lots (group_view reference before sweep.group) sweep made.sweep may.sweeps theirs;
-        takes = same_takes (group_view reference before sweep.group) sweep made.sweep may.sweeps theirs;
-      };
+      back = same_sweep (group_view reference before sweep.group) sweep made.sweep may.sweeps theirs (rooms_of reference before sweep.group) made.own;
       entered = made.entered;
       looks = made.looks;
     }

@@ -8,6 +8,7 @@ use Rattle.gu_terms.specs.declared.entry.Entry.{Entry}
 use Rattle.gu_terms.specs.declared.entry.Entry.TheVariants.{Asked, Swept}
 use Rattle.gu_terms.specs.declared.entry.SweepEntry.{SweepEntry}
 use Rattle.gu_text.specs.WrittenCommands.{undated}
+use Rattle.gu_view.specs.Nearest.{AreSame}
 use Rattle.gu_script.specs.Journals.{days_apart, open_after}
 
 -- the command that is played for a command, where these are its days apart: the report of a day that isn't open is an opening of the open day, which is
@@ -16,16 +17,17 @@ abbrev pub played : Command → Option (Day × Day) → Command
 played command None = undated command
 played command (Some days) = OpenDay (record { day = days.1 })
 
--- a sweep of the same group that takes the same lots of each offer; its cut may differ
-pub record TakesAlike (sweep other : SweepEntry) : Type 0 where
+-- the same sweep: of the same group, with the same lots from each offer and in all, and a cut with the same keys and the same offers
+pub record IsSameSweep (sweep other : SweepEntry) : Type 0 where
   pub group : other.group ≡ sweep.group
   pub lots : other.lots ≡ sweep.lots
   pub takes : (number : ℕ) → lots_of other.takes number ≡ lots_of sweep.takes number
+  pub cut : AreSame sweep.cut other.cut
 
--- an entry is played back as another, where this day was open before: the command has the same reply, and the sweep takes the same
+-- an entry is played back as another, where this day was open before: the command has the same reply, and the sweep is the same
 abbrev pub IsPlayedBack : Option Day → Entry → Entry → Type 0
 IsPlayedBack today (Asked command reply) other = other ≡ Asked (played command (days_apart today command)) reply
-IsPlayedBack today (Swept sweep) (Swept other) = TakesAlike sweep other
+IsPlayedBack today (Swept sweep) (Swept other) = IsSameSweep sweep other
 IsPlayedBack today (Swept sweep) (Asked command reply) = ⊥
 
 -- entries are played back as others, one by one, where this day was open before them
