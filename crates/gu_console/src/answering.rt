@@ -36,7 +36,7 @@ fn say_left_out(text: &mut Vec<u8>, why: EnterError) -> Result<(), AllocError>
     }
 }
 
-/// Enters a command from a seat, and says its reply in a text without bytes. Others hear of the entry.
+/// Enters a command from a seat, and writes its reply to an empty text. Others are informed of the entry.
 pub(crate) fn enter<E: EntryLedger, S: LotLedger, R: Wait, O: Office, I: Informs>(
     console: &Console<'_, E, S, R, O, I>,
     seat: &mut SeatReceipts<E, S>,

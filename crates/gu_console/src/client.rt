@@ -10,7 +10,7 @@ use std::io::{ErrorKind, Read, Write};
 /// How many bytes of an answer are read at once at most.
 const LONGEST_READ: usize = 4_096;
 
-/// What came of a line that was told.
+/// What came of a line that was sent.
 #[derive(Clone, Copy, Debug, PartialEq, Eq)]
 pub enum Told {
     /// It was answered.

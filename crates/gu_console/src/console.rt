@@ -17,7 +17,7 @@ pub struct Console<'a, E: EntryLedger, S: LotLedger, R: Wait, O: Office, I: Info
     pub office: &'a O,
     /// What counts the entries, for whoever watches.
     pub tally: &'a Tally,
-    /// Who hears of entries as they are made.
+    /// Who is informed of entries as they are made.
     pub informs: &'a I,
     /// Whether they may look and change nothing.
     pub is_watch: bool,

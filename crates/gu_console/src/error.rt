@@ -1,8 +1,8 @@
-//! Why a line wasn't told to the end.
+//! Why a line didn't get its whole answer.
 
 use thiserror::Error;
 
-/// Why a line wasn't told to the end.
+/// Why a line didn't get its whole answer.
 #[derive(Debug, Drop, Clone, Copy, PartialEq, Eq, Error)]
 pub enum TellError {
     /// The line couldn't be sent.

@@ -19,7 +19,7 @@ use std::sync::Wait;
 /// How many bytes of a line are kept: those of the longest line, a CR, and one that shows that the line is longer.
 const MOST_KEPT: usize = 1_026;
 
-/// The bytes of a line that have come. Of a line that is too long, which is bad, the first ones are kept: they are too long as well.
+/// The bytes of a line that have come. A line that is too long is bad, so only its first bytes are kept, which are too long as well.
 #[derive(Drop)]
 pub struct LineBuffer {
     kept: ArrayVec<u8, MOST_KEPT>,

@@ -125,7 +125,7 @@ impl<'a, E: EntryLedger, S: LotLedger, R: Wait, O: Office, I: Informs> Operator<
         self.seat.seen()
     }
 
-    /// Goes back to where the journal that it follows stood.
+    /// Goes back to this place in the journal that it follows.
     fn go_back(&mut self, shown: usize, today: Option<Day>)
         requires { (shown ≤ length self.old.seat.front) × (today ≡ day_after None (take shown self.old.seat.front)) }
         ensures { self.new ≡ record self.old { shown = shown } }

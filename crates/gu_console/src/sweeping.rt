@@ -93,7 +93,7 @@ fn say_sheet<E: EntryLedger, S: LotLedger>(
     Ok(())
 }
 
-/// Counts a sweep that was made, and has others hear of it.
+/// Counts a sweep that was made, and has others informed of it.
 fn note_sweep<E: EntryLedger, S: LotLedger, R: Wait, O: Office, I: Informs>(
     console: &Console<'_, E, S, R, O, I>,
     swept: &SeatSweep,
@@ -104,7 +104,7 @@ fn note_sweep<E: EntryLedger, S: LotLedger, R: Wait, O: Office, I: Informs>(
         .inform(swept.number, swept.informs, console.origin());
 }
 
-/// Sweeps a group from a seat, and says what came of it in a text without bytes. Others hear of the entry.
+/// Sweeps a group from a seat, and writes what came of it to an empty text. Others are informed of the entry.
 pub(crate) fn sweep<E: EntryLedger, S: LotLedger, R: Wait, O: Office, I: Informs>(
     console: &Console<'_, E, S, R, O, I>,
     seat: &mut SeatReceipts<E, S>,

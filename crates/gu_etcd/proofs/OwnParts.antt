@@ -22,7 +22,7 @@ or_true true = refl
 or_true false = refl
 
 module _ (desk : List ℕ) where
-  -- an entry of the desk is told by its first line
+  -- the first line of an entry says whether it is the desk's
   own_of : (entry : List ℕ) → IsOf desk entry → is_own desk entry ≡ true
   own_of entry own = (starts_is Decides-eqb entry (desk_line desk) (is_own desk entry) refl).1 own.batch own.is
 

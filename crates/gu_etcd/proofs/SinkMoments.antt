@@ -41,7 +41,7 @@ module _ {N : Type 0} {g : Ghosts N} where
             (run.before t left.0 le left.1);
       }
 
-  -- the same of a place that is told by an equation
+  -- the same for a place that an equation gives
   pub at_place : (old new place : Led N g) (P : Option (List ℕ) → Type 0) → place ≡ new → (g.is_honest (node_in new) → LeavesText old new P)
       → g.is_honest (node_in place) → LeavesText old place P
   at_place old new place P is run = subst (λ (led : Led N g). g.is_honest (node_in led) → LeavesText old led P) (sym is) run

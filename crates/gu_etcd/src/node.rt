@@ -78,8 +78,8 @@ pub trait Node: Drop {
     /// The moment, as a number that never falls.
     ghost moment: { Self → ℕ };
 
-    /// What the log might have had at some moment from that one on, during a call or between two. Of this `Elapses` and `LeavesOnly`
-    /// speak, as in gu_journal of what a crash might have left.
+    /// What the log might have had at some moment from that one on, during a call or between two. `Elapses` and `LeavesOnly` speak of
+    /// this, as they do in gu_journal of what a crash might have left.
     ghost held_since: { Self → ℕ → List (List ℕ) → Type 0 };
 
     /// How many exchanges got no answer, how many calls etcd refused, and how many allocations failed.

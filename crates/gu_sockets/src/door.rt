@@ -16,7 +16,7 @@ pub trait Listens {
     /// A connection, with what is known of its peer.
     type Accepted: Drop;
 
-    /// The listener may have accepted this. Of a socket it says nothing, but whoever serves listeners of any type keeps to it: so a
+    /// The listener may have accepted this. It says nothing about a socket, but who serves listeners of any type keeps to it: so a
     /// connection is never taken for one that another listener accepted.
     ghost accepts: { Self → Self.Accepted → Type 0 };
 

@@ -114,7 +114,7 @@ impl<H: House, A: Admission> House for AdmittingHouse<'_, H, A> {
         ensures told { IfOk result (λ stretch. H.rules.tells self.old.house firm.now from stretch self.new.house) }
         ensures goes_on { IfOk result (λ stretch. stretch.is_last ≡ false → from < stretch.notices.next) }
 
-        // Only a firm that has a place is told anything.
+        // Only a firm that has a place gets notices.
         ensures admitted { OnOk result (IsSome self.new.firm) }
     {
         if !self.admit(firm) {

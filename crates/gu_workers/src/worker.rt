@@ -209,7 +209,7 @@ impl<
         }
     }
 
-    /// Notes the firm of a connection, if it was admitted in this visit: from now on the worker is told of what informs it.
+    /// Notes the firm of a connection, if it was admitted in this visit: from now on the worker is woken for what informs it.
     fn note_firm(&mut self, card: &mut Card) {
         let Some(firm) = self.house.firm() else {
             return;
@@ -230,8 +230,8 @@ impl<
             .set_firm(self.settings.worker, firm_place, true);
     }
 
-    /// Goes on with a session, over the house of this worker. Its firm is admitted before it is told or answered anything; where it isn't,
-    /// the connection ends.
+    /// Goes on with a session, over the house of this worker. Its firm is admitted before it gets any answer or notice; if it isn't
+    /// admitted, the connection ends.
     fn turn(
         &mut self,
         place: PlaceOf<P>,
