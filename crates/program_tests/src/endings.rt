@@ -5,7 +5,7 @@ use crate::machine::{Machine, Setting, Text};
 use crate::rows::check_told;
 use gu_journal::{FileDevice, Log};
 use gu_log::EventLog;
-use gu_program::{FileLog, end_day, sample_reference};
+use gu_program::{FileLog, JournalSink, end_day, sample_reference};
 use gu_server::{Closed, Closers, DayReceipts, JournalEnd, LostBy, LostJournal, Served};
 use gu_streams::StreamError;
 use gu_terms::Seed;
@@ -56,24 +56,19 @@ fn empty_log<'a, R: Wait>(machine: &Machine<'a, R>) -> Option<FileLog<Text<'a, R
     Log::create(FileDevice::new(machine.alloc, file), 1_000).ok()
 }
 
-/// Ends such a day on a machine, whose journal has this fate, and returns the status.
-fn end_on<R: Wait>(machine: &Machine<'_, R>, fate: Fate) -> Option<u32> {
-    let (path, journal) = match fate {
-        Fate::None => (None, None),
-        Fate::Whole => (Some("log"), Some(JournalEnd::Whole(empty_log(machine)?))),
-        Fate::Lost => {
-            let lost = LostJournal {
-                kept: 0,
-                by: LostBy::Memory,
-            };
-            (Some("log"), Some(JournalEnd::Lost(lost)))
-        }
+/// Ends such a day on a machine, with what became of its journal, and returns the status.
+fn end_with<R: Wait, K: JournalSink>(
+    machine: &Machine<'_, R>,
+    path: Option<&str>,
+    journal: Option<JournalEnd<K>>,
+) -> Option<u32> {
+    let Some(closed) = faulty_day(machine.alloc) else {
+        drop(journal);
+        return None;
     };
-    let closed = faulty_day(machine.alloc)?;
-    let closers = Closers::new(Vec::new(machine.alloc));
     let served = Served {
         closed,
-        closers,
+        closers: Closers::new(Vec::new(machine.alloc)),
         journal,
     };
     match end_day(machine, served, path, &EventLog::silent()) {
@@ -82,6 +77,26 @@ fn end_on<R: Wait>(machine: &Machine<'_, R>, fate: Fate) -> Option<u32> {
         Err(faults) => {
             faults.tell(machine, false);
             Some(1)
+        }
+    }
+}
+
+/// Ends such a day on a machine, whose journal has this fate, and returns the status.
+fn end_on<R: Wait>(machine: &Machine<'_, R>, fate: Fate) -> Option<u32> {
+    let path = Some("log");
+    match fate {
+        Fate::None => end_with(machine, None, None::<JournalEnd<FileLog<Text<'_, R>>>>),
+        Fate::Whole => {
+            let log = empty_log(machine)?;
+            end_with(machine, path, Some(JournalEnd::Whole(log)))
+        }
+        Fate::Lost => {
+            let lost = LostJournal {
+                kept: 0,
+                by: LostBy::Memory,
+            };
+            let end: JournalEnd<FileLog<Text<'_, R>>> = JournalEnd::Lost(lost);
+            end_with(machine, path, Some(end))
         }
     }
 }
