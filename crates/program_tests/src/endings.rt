@@ -5,14 +5,15 @@ use crate::machine::{Machine, Setting, Text};
 use crate::rows::check_told;
 use gu_journal::{FileDevice, Log};
 use gu_log::EventLog;
-use gu_program::{FileLog, JournalSink, end_day, sample_reference};
+use gu_program::{FileLog, end_day, sample_reference};
 use gu_server::{Closed, Closers, DayReceipts, JournalEnd, LostBy, LostJournal, Served};
 use gu_streams::StreamError;
 use gu_terms::Seed;
 use gu_words::Status;
 use gu_world::World;
 use std::alloc::{AllocError, Global};
-use std::fs::File;
+use std::fs::{File, OpenFile};
+use std::io::{Read, Seek, Write};
 use std::sync::{Mutex, Wait};
 use trials::shown;
 
@@ -56,20 +57,42 @@ fn empty_log<'a, R: Wait>(machine: &Machine<'a, R>) -> Option<FileLog<Text<'a, R
     Log::create(FileDevice::new(machine.alloc, file), 1_000).ok()
 }
 
-/// Ends such a day on a machine, with what became of its journal, and returns the status.
-fn end_with<R: Wait, K: JournalSink>(
+/// Returns what became of a journal of this fate, in this log if it is whole.
+fn journal_of<F: Read + Write + Seek + OpenFile + Drop>(
+    fate: Fate,
+    log: Option<FileLog<F>>,
+) -> Option<JournalEnd<FileLog<F>>> {
+    match (fate, log) {
+        (Fate::Whole, Some(log)) => Some(JournalEnd::Whole(log)),
+        (Fate::Lost, None) => Some(JournalEnd::Lost(LostJournal {
+            kept: 0,
+            by: LostBy::Memory,
+        })),
+        (_, log) => {
+            drop(log);
+            None
+        }
+    }
+}
+
+/// Ends such a day on a machine, whose journal has this fate, and returns the status.
+fn end_on<R: Wait, F: Read + Write + Seek + OpenFile + Drop>(
     machine: &Machine<'_, R>,
-    path: Option<&str>,
-    journal: Option<JournalEnd<K>>,
+    fate: Fate,
+    log: Option<FileLog<F>>,
 ) -> Option<u32> {
     let Some(closed) = faulty_day(machine.alloc) else {
-        drop(journal);
+        drop(log);
         return None;
+    };
+    let path = match fate {
+        Fate::None => None,
+        Fate::Whole | Fate::Lost => Some("log"),
     };
     let served = Served {
         closed,
         closers: Closers::new(Vec::new(machine.alloc)),
-        journal,
+        journal: journal_of(fate, log),
     };
     match end_day(machine, served, path, &EventLog::silent()) {
         Ok(Status::Done) => Some(0),
@@ -77,26 +100,6 @@ fn end_with<R: Wait, K: JournalSink>(
         Err(faults) => {
             faults.tell(machine, false);
             Some(1)
-        }
-    }
-}
-
-/// Ends such a day on a machine, whose journal has this fate, and returns the status.
-fn end_on<R: Wait>(machine: &Machine<'_, R>, fate: Fate) -> Option<u32> {
-    let path = Some("log");
-    match fate {
-        Fate::None => end_with(machine, None, None::<JournalEnd<FileLog<Text<'_, R>>>>),
-        Fate::Whole => {
-            let log = empty_log(machine)?;
-            end_with(machine, path, Some(JournalEnd::Whole(log)))
-        }
-        Fate::Lost => {
-            let lost = LostJournal {
-                kept: 0,
-                by: LostBy::Memory,
-            };
-            let end: JournalEnd<FileLog<Text<'_, R>>> = JournalEnd::Lost(lost);
-            end_with(machine, path, Some(end))
         }
     }
 }
@@ -120,7 +123,11 @@ fn told<R: Wait>(host: &R, alloc: Global, fate: Fate) -> Result<String, AllocErr
         err: Mutex::new(Vec::new(alloc)),
         opened: &opened,
     };
-    let status = end_on(&machine, fate).unwrap_or(9);
+    let log = match fate {
+        Fate::Whole => empty_log(&machine),
+        Fate::None | Fate::Lost => None,
+    };
+    let status = end_on(&machine, fate, log).unwrap_or(9);
     let opened = shown(alloc, machine.opened.lock(host).as_slice())?;
     let out = shown(alloc, machine.out.lock(host).as_slice())?;
     let err = shown(alloc, machine.err.lock(host).as_slice())?;
