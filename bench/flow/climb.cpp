@@ -1,17 +1,21 @@
 // Climbs against the choice of the oldest: views of 4,096 offers for which it looks at ever more ends.
 //     g++ -O2 -std=c++17 -o climb bench/flow/climb.cpp && ./climb FOLDER COUNT TRIES SEED
+//     ./climb looks VIEW..
 //
 // Each of COUNT climbs begins with a view by dice, and changes one of its numbers at a time, TRIES times: how many firms, accounts, carrying firms and
 // guarantors there are, how many lots an offer has, how narrow the rooms of each kind are, and in which order the offers come. A change stays if
 // the choice looks at more ends. The last view of each climb is written to FOLDER, and a line says how many ends that were. What is counted is
-// the same pass as gu_flow's, over a flow of Dinic's: nothing of it is timed here.
+// the same pass as gu_flow's, over a flow that begins with each offer's own way, as gu_flow's does, and is then Dinic's, without a surge:
+// nothing of it is timed here. `looks` says of each view how many ends the searches for the greatest flow look at, and how many the choice's.
 #include <algorithm>
 #include <array>
 #include <cmath>
 #include <cstdint>
 #include <cstdio>
+#include <fstream>
 #include <map>
 #include <random>
+#include <sstream>
 #include <string>
 #include <vector>
 
@@ -104,7 +108,7 @@ struct Network {
     std::vector<int> from, to;
     std::vector<long> room, flow, least;
     std::vector<std::vector<int>> ends;
-    long looked = 0;
+    long looked = 0, sought = 0;
 
     int other(int end) const { return end % 2 ? from[end / 2] : to[end / 2]; }
     long out(int end) const { return end % 2 ? flow[end / 2] - least[end / 2] : room[end / 2] - flow[end / 2]; }
@@ -150,17 +154,37 @@ struct Choice {
         return 0;
     }
 
-    void fill() {
-        while (true) {
-            level.assign(net.ends.size(), 0), at.assign(net.ends.size(), 0);
-            std::vector<int> queue{0};
-            level[0] = 1;
-            for (size_t done = 0; done < queue.size(); done++)
-                for (int end : net.ends[queue[done]])
-                    if (int other = net.other(end); !level[other] && net.out(end) > 0) level[other] = level[queue[done]] + 1, queue.push_back(other);
-            if (!level[1]) return;
-            while (push(0, 1L << 60) > 0) {}
+    // Gives each offer, the oldest first, as many lots as its own way has room for.
+    void begin() {
+        for (auto &offer : view.offers) {
+            long lots = offer.lots;
+            for (int kind = 0; kind < 5; kind++)
+                if (offer.names[kind] >= 0) lots = std::min(lots, net.out(2 * place(offer, kind)));
+            for (int kind = 0; kind < 5; kind++)
+                if (offer.names[kind] >= 0) net.send(2 * place(offer, kind), lots);
         }
+    }
+
+    // Labels what a search from the source reaches until it reaches the sink. Whether it does.
+    bool seek() {
+        level.assign(net.ends.size(), 0), at.assign(net.ends.size(), 0);
+        std::vector<int> queue{0};
+        level[0] = 1;
+        for (size_t done = 0; done < queue.size(); done++)
+            for (int end : net.ends[queue[done]]) {
+                net.sought++;
+                if (int other = net.other(end); !level[other] && net.out(end) > 0) {
+                    level[other] = level[queue[done]] + 1, queue.push_back(other);
+                    if (other == 1) return true;
+                }
+            }
+        return false;
+    }
+
+    void fill() {
+        begin();
+        while (seek())
+            while (push(0, 1L << 60) > 0) {}
     }
 
     // A search from one node, an end at a time: forward, or back to where lots can be brought from.
@@ -249,7 +273,36 @@ void write(const View &view, const std::string &path) {
     std::fclose(file);
 }
 
+View view_of(const std::string &path) {
+    View view;
+    std::ifstream file(path);
+    for (std::string line, word; std::getline(file, line);) {
+        std::istringstream words(line);
+        if (words >> word; word == "offer") {
+            Offer offer{0, {-1, -1, -1, -1, -1}};
+            words >> word >> offer.lots;
+            for (int kind = 0; kind < 5 && words >> offer.names[kind]; kind++) {}
+            if (words.fail()) offer.names[4] = -1;
+            view.offers.push_back(offer);
+        } else if (word == "room") {
+            long name, lots;
+            words >> word >> name >> lots;
+            view.rooms.push_back({std::find(KINDS.begin(), KINDS.end(), word) - KINDS.begin(), name, lots});
+        }
+    }
+    return view;
+}
+
 int main(int count, char **words) {
+    if (count > 2 && std::string(words[1]) == "looks") {
+        for (int n = 2; n < count; n++) {
+            View view = view_of(words[n]);
+            Choice choice(view);
+            long looked = choice.cost();
+            std::printf("%s %ld ends for the greatest flow, %ld for the choice\n", words[n], choice.net.sought, looked);
+        }
+        return 0;
+    }
     if (count != 5) return 2;
     int climbs = std::stoi(words[2]), tries = std::stoi(words[3]);
     for (int climb = 0; climb < climbs; climb++) {

@@ -1,41 +1,67 @@
--- The nodes that a search from the source has reached lie within each source side from which nothing more can be pushed.
-use Rattle.std.proofs.Common.{◌≡◌, ℕ, zero, suc, ◌<◌, ◌≤◌, Bool, true, false, List, length, sym, ◌∙◌, ap, arith, inl, inr}
-use Rattle.std.proofs.lemmas.Bool.{cases_Bool, cases_eq, ltb-true}
-use Rattle.gu_flow.specs.declared.levels.Label.{Label}
+-- A search from the source over a flow without floors: what it has reached lies within each source side from which nothing more can be pushed.
+use Rattle.std.proofs.Common.{◌≡◌, ℕ, zero, suc, ◌-◌, ◌/◌, ◌<◌, ◌≤◌, Bool, true, false, cond, nat_lt, List, get_or, refl, sym, ◌∙◌, ap, subst, arith, inl, inr}
+use Rattle.std.proofs.Math.Path.{fun_ext}
+use Rattle.std.proofs.lemmas.Bool.{cases_Bool, cases_eq, eq-eqb, ltb-true}
+use Rattle.gu_flow.specs.declared.allotment.Allotment.{Allotment}
 use Rattle.gu_flow.specs.declared.network.Arc.{Arc}
-use Rattle.gu_flow.specs.Ends.{far, other_end, JoinsNodes}
+use Rattle.gu_flow.specs.declared.searching.Mark.{Mark}
+use Rattle.gu_flow.specs.declared.searching.Search.{Search}
+use Rattle.gu_flow.specs.Ends.{arc_at, is_tail, near, far, residual_out, JoinsNodes}
 use Rattle.gu_flow.specs.Flows.{IsClosed, IsFlow}
 use Rattle.gu_flow.specs.LeastCuts.{IsLeastSide}
-use Rattle.gu_flow.specs.Levels.{entry_at, level_at, is_reached, IsTree}
-use Rattle.gu_flow.proofs.Borders.{closed_stays}
-use Rattle.gu_flow.proofs.EndLemmas.{near-other_end, far-other_end, other_end-in, residual_out-other_end}
+use Rattle.gu_flow.specs.Rounds.{room_inside, IsAllotment, IsFree}
+use Rattle.gu_flow.specs.Searches.{mark_at, level_at, is_reached, IsSourceSearch, IsTree}
+use Rattle.gu_flow.proofs.Borders.{all_one, closed_stays}
+use Rattle.gu_flow.proofs.Looking.{search_done}
 
-module _ (arcs : List Arc) (flow : List ℕ) (entries : List Label) (tree : IsTree arcs flow entries) (others : ℕ → Bool) (source : others 0 ≡ true) (closed : IsClosed arcs flow others) where
-  up_to : (level n : ℕ) → level_at entries n ≤ level → 0 < level_at entries n → others n ≡ true
+no_floor : (b : Bool) (x y : ℕ) → cond b x (y - 0) ≡ cond b x y
+no_floor true x y = refl
+no_floor false x y = omega arith
+
+module _ (arcs : List Arc) (nodes : ℕ) (a : Allotment) (free : IsFree arcs nodes a) where
+  pub free_allotment : IsAllotment arcs nodes a
+  free_allotment = record {
+    is_flow = free.is_flow;
+    keeps = record { each = λ k. omega (arith, free.no_floors k) };
+    floors = free.floors;
+    regions = free.regions;
+    fixed = all_one arcs a.floors.items a.flow.items a.regions.items free.one_region;
+  }
+
+  -- each end has all the room that the flow leaves
+  free_room : room_inside arcs a false ≡ residual_out arcs a.flow.items
+  free_room = fun_ext (λ e.
+      let one = eq-eqb (get_or a.regions.items (near arcs e) 0) (get_or a.regions.items (far arcs e) 0) (free.one_region (near arcs e) ∙ sym (free.one_region (far arcs e))) in
+      rw (one, free.no_floors (e / 2)) (no_floor (is_tail e) ((arc_at arcs (e / 2)).capacity - get_or a.flow.items (e / 2) 0) (get_or a.flow.items (e / 2) 0)))
+
+  pub over_flow : (s : Search) → IsSourceSearch arcs nodes (room_inside arcs a s.back) s → IsSourceSearch arcs nodes (residual_out arcs a.flow.items) s
+  over_flow s is = subst (λ room. IsSourceSearch arcs nodes room s) (ap (room_inside arcs a) is.ahead ∙ free_room) is
+
+module _ (arcs : List Arc) (flow : List ℕ) (marks : List Mark) (tree : IsTree arcs (residual_out arcs flow) 0 marks) (others : ℕ → Bool) (source : others 0 ≡ true) (closed : IsClosed arcs flow others) where
+  up_to : (level n : ℕ) → level_at marks n ≤ level → 0 < level_at marks n → others n ≡ true
   up_to zero n within some = absurd (omega arith)
   up_to (suc level) n within some = elim (cases_eq n 0) [
     | inl here ↦ ap others here ∙ source
     | inr other ↦
-        let s = tree.entered n other some in
-        let via = (entry_at entries n).via in
-        let before = up_to level (far arcs via) (omega (arith, s.falls, within)) (omega (arith, s.falls, tree.above n other some)) in
+        let e = tree.entered n other some in
+        let via = (mark_at marks n).via in
+        let before = up_to level (near arcs via) (omega (arith, e.falls, within)) (omega (arith, e.falls, tree.above n other some)) in
         elim (cases_Bool (others n)) [
           | inl is ↦ is
-          | inr off ↦
-              let none = closed.each (other_end via) (other_end-in via (length arcs) s.end_in) (ap others (near-other_end arcs via) ∙ before) (ap others (far-other_end arcs via ∙ s.here) ∙ off) in
-              absurd (omega (arith, none, residual_out-other_end arcs flow via, s.room))
+          | inr off ↦ absurd (omega (arith, closed.each via e.end_in before (ap others e.here ∙ off), e.some, e.fits))
         ]
   ]
 
-  pub reached_within : (n : ℕ) → is_reached entries n ≡ true → others n ≡ true
-  reached_within n reached = up_to (level_at entries n) n (omega arith) (ltb-true 0 (level_at entries n) reached)
-
--- so they are the least such side in each flow of this value
-pub least_side : (arcs : List Arc) (nodes : ℕ) → JoinsNodes arcs nodes → 0 < nodes → (flow : List ℕ) (entries : List Label) → IsFlow arcs flow → IsTree arcs flow entries → is_reached entries 0 ≡ true → is_reached entries 1 ≡ false
-    → IsClosed arcs flow (is_reached entries) → IsLeastSide arcs flow (is_reached entries)
-least_side arcs nodes joins some flow entries is tree source sink closed = record {
-  source = source;
-  sink = sink;
-  closed = closed;
-  least = λ same others is_flow value from shut. reached_within arcs flow entries tree others from (closed_stays arcs nodes joins some same flow others is_flow is (sym value) shut);
-}
+-- if it has no ends left and hasn't reached the sink, they are the least such side in each flow of this value
+pub least_side : (arcs : List Arc) (nodes : ℕ) → JoinsNodes arcs nodes → 0 < nodes → (flow : List ℕ) (s : Search) → IsFlow arcs flow → IsSourceSearch arcs nodes (residual_out arcs flow) s → s.count ≤ s.done
+    → is_reached s.marks.items 1 ≡ false → IsLeastSide arcs flow (is_reached s.marks.items)
+least_side arcs nodes joins some flow s is from_source out sink =
+    let marks = s.marks.items in
+    let tree : IsTree arcs (residual_out arcs flow) 0 marks = subst (λ n. IsTree arcs (residual_out arcs flow) n marks) from_source.source from_source.search.tree in
+    record {
+      source = ap (nat_lt 0) tree.begun;
+      sink = sink;
+      closed = search_done arcs (residual_out arcs flow) s from_source.search out;
+      least = λ same others is_flow value from shut n reached.
+          up_to arcs flow marks tree others from (closed_stays arcs nodes joins some same flow others is_flow is (sym value) shut) (level_at marks n) n (omega arith) (ltb-true 0 (level_at marks n) reached);
+    }

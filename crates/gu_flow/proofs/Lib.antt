@@ -1,10 +1,9 @@
 pub mod EndLemmas
-pub mod Reaching
-pub mod Spreading
 pub mod Linking
 pub mod PushLemmas
 pub mod PreflowLemmas
 pub mod Augmenting
+pub mod DirectWays
 pub mod Descents
 pub mod SumLemmas
 pub mod Walks

@@ -6,15 +6,16 @@ use Rattle.gu_flow.specs.declared.network.Arc.{Arc}
 use Rattle.gu_flow.specs.declared.searching.Mark.{Mark}
 use Rattle.gu_flow.specs.declared.searching.Search.{Search}
 use Rattle.gu_flow.specs.Ends.{near, far, last_before}
-use Rattle.gu_flow.specs.Searches.{mark_at, depth_at, is_marked, IsMarkQueue, IsMarkTree, IsSearch, IsShut, KeepsReached}
+use Rattle.gu_flow.specs.Searches.{mark_at, level_at, is_reached, IsQueue, IsTree, IsSearch, KeepsReached}
+use Rattle.gu_flow.specs.Flows.{IsShut}
 use Rattle.gu_flow.proofs.Linking.{last_is_before, last_is_at, none_after}
 use Rattle.gu_flow.proofs.Marks.{count_one}
 
 -- the first node is reached, and none of its ends has been looked at
-pub search_begins : (arcs : List Arc) (room : ℕ → ℕ) (s : Search) → s.from < length s.marks.items → ((n : ℕ) → n ≢ s.from → depth_at s.marks.items n ≡ 0) → depth_at s.marks.items s.from ≡ 1 → 0 < (mark_at s.marks.items s.from).lots
+pub search_begins : (arcs : List Arc) (room : ℕ → ℕ) (s : Search) → s.from < length s.marks.items → ((n : ℕ) → n ≢ s.from → level_at s.marks.items n ≡ 0) → level_at s.marks.items s.from ≡ 1 → 0 < (mark_at s.marks.items s.from).lots
     → get_or s.queue.items 0 0 ≡ s.from → s.count ≡ 1 → s.done ≡ 0 → s.ends ≡ last_before arcs (2 * length arcs) s.from → IsSearch arcs room s
 search_begins arcs room s inside others here some at one none ends =
-    let low : (n : ℕ) → depth_at s.marks.items n ≤ 1 = λ n. elim (cases_eq n s.from) [ inl same ↦ rw (same, here) (omega arith) | inr other ↦ omega (arith, others n other) ] in
+    let low : (n : ℕ) → level_at s.marks.items n ≤ 1 = λ n. elim (cases_eq n s.from) [ inl same ↦ rw (same, here) (omega arith) | inr other ↦ omega (arith, others n other) ] in
     let first : get_or s.queue.items s.done 0 ≡ s.from = ap (λ k. get_or s.queue.items k 0) none ∙ at in
     record {
       tree = record {
@@ -28,7 +29,7 @@ search_begins arcs room s inside others here some at one none ends =
       waits = record {
         counted = count_one s.marks.items s.from inside others here ∙ sym one;
         waits = λ n reached. elim (cases_eq n s.from) [ inl same ↦ (0, (omega arith, at ∙ sym same)) | inr other ↦ absurd (omega (arith, others n other)) ];
-        reached = λ k k_in. let is : get_or s.queue.items k 0 ≡ s.from = ap (λ j. get_or s.queue.items j 0) (omega arith) ∙ at in (omega (arith, is), subst (λ j. 0 < depth_at s.marks.items j) (sym is) (omega (arith, here)));
+        reached = λ k k_in. let is : get_or s.queue.items k 0 ≡ s.from = ap (λ j. get_or s.queue.items j 0) (omega arith) ∙ at in (omega (arith, is), subst (λ j. 0 < level_at s.marks.items j) (sym is) (omega (arith, here)));
         low = λ n. omega (arith, low n);
       };
       within = omega arith;
@@ -60,14 +61,14 @@ module _ (arcs : List Arc) (room : ℕ → ℕ) (s : Search) (is : IsSearch arcs
     pub end_here : near arcs (s.ends - 1) ≡ get_or s.queue.items s.done 0
     end_here = is.ends_at on left
 
-    pub end_reached : 0 < depth_at s.marks.items (near arcs (s.ends - 1))
-    end_reached = subst (λ n. 0 < depth_at s.marks.items n) (sym (is.ends_at on left)) (is.waits.reached s.done on).1
+    pub end_reached : 0 < level_at s.marks.items (near arcs (s.ends - 1))
+    end_reached = subst (λ n. 0 < level_at s.marks.items n) (sym (is.ends_at on left)) (is.waits.reached s.done on).1
 
     pub search_goes_on : (now : Search) (ends : ℕ) → ends ≡ last_before arcs (s.ends - 1) (near arcs (s.ends - 1)) → KeepsReached (record s { ends = ends }) now → now.done ≡ s.done → now.ends ≡ ends
-        → IsMarkTree arcs room now.from now.marks.items → IsMarkQueue now.marks.items now.queue.items now.count → (0 < room (s.ends - 1) → 0 < depth_at now.marks.items (far arcs (s.ends - 1)))
+        → IsTree arcs room now.from now.marks.items → IsQueue now.marks.items now.queue.items now.count → (0 < room (s.ends - 1) → 0 < level_at now.marks.items (far arcs (s.ends - 1)))
         → IsSearch arcs room now
     search_goes_on now ends next keeps same_done same_ends tree waits there =
-        let kept : (n : ℕ) → 0 < depth_at s.marks.items n → 0 < depth_at now.marks.items n = λ n was. omega (arith, was, ap (λ (m : Mark). m.level) (keeps.marks n was)) in
+        let kept : (n : ℕ) → 0 < level_at s.marks.items n → 0 < level_at now.marks.items n = λ n was. omega (arith, was, ap (λ (m : Mark). m.level) (keeps.marks n was)) in
         let node : get_or now.queue.items now.done 0 ≡ get_or s.queue.items s.done 0 = ap (λ k. get_or now.queue.items k 0) same_done ∙ keeps.places s.done on in
         record {
           tree = tree;
@@ -81,26 +82,26 @@ module _ (arcs : List Arc) (room : ℕ → ℕ) (s : Search) (is : IsSearch arcs
           half = λ _ e from e_in at some. elim (cases_lt e (s.ends - 1)) [
             | inl below ↦ absurd (none_after arcs (s.ends - 1) (near arcs (s.ends - 1)) e (omega (arith, from, same_ends, next)) below (at ∙ node ∙ sym (is.ends_at on left)))
             | inr above ↦ elim (cases_eq e (s.ends - 1)) [
-              | inl same ↦ subst (λ k. 0 < depth_at now.marks.items (far arcs k)) (sym same) (there (subst (λ k. 0 < room k) same some))
+              | inl same ↦ subst (λ k. 0 < level_at now.marks.items (far arcs k)) (sym same) (there (subst (λ k. 0 < room k) same some))
               | inr past ↦ kept (far arcs e) (is.half on e (omega arith) e_in (at ∙ node) some)
             ]
           ];
         }
 
 -- once all are looked through, nothing more can be pushed
-pub search_done : (arcs : List Arc) (room : ℕ → ℕ) (s : Search) → IsSearch arcs room s → s.count ≤ s.done → IsShut arcs room (is_marked s.marks.items)
+pub search_done : (arcs : List Arc) (room : ℕ → ℕ) (s : Search) → IsSearch arcs room s → s.count ≤ s.done → IsShut arcs room (is_reached s.marks.items)
 search_done arcs room s is all = record {
   each = λ e e_in from to. elim (cases_eq (room e) 0) [
     | inl none ↦ none
     | inr some ↦
-        let w = is.waits.waits (near arcs e) (ltb-true 0 (depth_at s.marks.items (near arcs e)) from) in
+        let w = is.waits.waits (near arcs e) (ltb-true 0 (level_at s.marks.items (near arcs e)) from) in
         let there = is.spent w.0 (omega (arith, w.1.0, all)) e (omega arith) e_in (sym w.1.1) (omega arith) in
-        absurd (omega (arith, there, ltb-false 0 (depth_at s.marks.items (far arcs e)) to))
+        absurd (omega (arith, there, ltb-false 0 (level_at s.marks.items (far arcs e)) to))
   ];
 }
 
 -- each reached node has lots to push on
-pub some_lots : (arcs : List Arc) (room : ℕ → ℕ) (source : ℕ) (marks : List Mark) (n : ℕ) → IsMarkTree arcs room source marks → 0 < depth_at marks n → 0 < (mark_at marks n).lots
+pub some_lots : (arcs : List Arc) (room : ℕ → ℕ) (source : ℕ) (marks : List Mark) (n : ℕ) → IsTree arcs room source marks → 0 < level_at marks n → 0 < (mark_at marks n).lots
 some_lots arcs room source marks n tree reached = elim (cases_eq n source) [ inl here ↦ rw here tree.some | inr other ↦ (tree.entered n other reached).some ]
 
 -- fewer turns are left

@@ -70,7 +70,7 @@ module _ (view : GroupView) (sound : IsView view) (nested : IsNested view) where
   abbrev at : LimitKey → ℕ
   at = place_of view.rooms
 
-  path_at : (o : ViewOffer) → IsOfferOf view o → IsPath o
+  pub path_at : (o : ViewOffer) → IsOfferOf view o → IsPath o
   path_at o h = rw h.is (nested.paths h.place no_offer h.within)
 
   stepped : (o : ViewOffer) → IsOfferOf view o → AreStepped step_of 0 o.path

@@ -6,9 +6,9 @@ use Rattle.gu_flow.specs.declared.network.Arc.{Arc}
 use Rattle.gu_flow.specs.declared.searching.Mark.{Mark}
 use Rattle.gu_flow.specs.Ends.{arc_at, is_tail, near, far, other_end, JoinsNodes}
 use Rattle.gu_flow.specs.Floors.{KeepsFloors, IsAlike, room_out}
-use Rattle.gu_flow.specs.Flows.{inflow, outflow, value_of, IsFlow, Pushes}
+use Rattle.gu_flow.specs.Flows.{inflow, outflow, value_of, IsFlow, IsShut, Pushes}
 use Rattle.gu_flow.specs.Rounds.{room_inside, AreFixed, CarriesMost, IsAllotment, IsBrought, IsClosedInside}
-use Rattle.gu_flow.specs.Searches.{depth_at, is_marked, IsShut}
+use Rattle.gu_flow.specs.Searches.{level_at, is_reached}
 use Rattle.gu_flow.proofs.Borders.{fixed_more, fixed_stays, most_reached}
 use Rattle.gu_flow.proofs.EndLemmas.{near-other_end, far-other_end, other_end-in, other_end-twice}
 
@@ -160,11 +160,11 @@ pub raised_most : (arcs : List Arc) (nodes : ℕ) (start older : List ℕ) (a : 
 raised_most arcs nodes start older a place goal r here most others alike = omega (arith, here, most.each older others r.others alike)
 
 -- the nodes that a search has reached are made a region
-pub set_apart_agrees : (marks : List Mark) (old new : List ℕ) (region : ℕ) → ((n : ℕ) → 0 < depth_at marks n → get_or new n 0 ≡ region) → ((n : ℕ) → depth_at marks n ≡ 0 → get_or new n 0 ≡ get_or old n 0)
-    → (n m : ℕ) → is_marked marks n ≡ is_marked marks m → get_or old n 0 ≡ get_or old m 0 → get_or new n 0 ≡ get_or new m 0
-set_apart_agrees marks old new region inside outside n m same were = elim (cases_Bool (is_marked marks n)) [
-  | inl here ↦ inside n (ltb-true 0 (depth_at marks n) here) ∙ sym (inside m (ltb-true 0 (depth_at marks m) (sym same ∙ here)))
-  | inr off ↦ outside n (omega (arith, ltb-false 0 (depth_at marks n) off)) ∙ were ∙ sym (outside m (omega (arith, ltb-false 0 (depth_at marks m) (sym same ∙ off))))
+pub set_apart_agrees : (marks : List Mark) (old new : List ℕ) (region : ℕ) → ((n : ℕ) → 0 < level_at marks n → get_or new n 0 ≡ region) → ((n : ℕ) → level_at marks n ≡ 0 → get_or new n 0 ≡ get_or old n 0)
+    → (n m : ℕ) → is_reached marks n ≡ is_reached marks m → get_or old n 0 ≡ get_or old m 0 → get_or new n 0 ≡ get_or new m 0
+set_apart_agrees marks old new region inside outside n m same were = elim (cases_Bool (is_reached marks n)) [
+  | inl here ↦ inside n (ltb-true 0 (level_at marks n) here) ∙ sym (inside m (ltb-true 0 (level_at marks m) (sym same ∙ here)))
+  | inr off ↦ outside n (omega (arith, ltb-false 0 (level_at marks n) off)) ∙ were ∙ sym (outside m (omega (arith, ltb-false 0 (level_at marks m) (sym same ∙ off))))
 ]
 
 pub not_same : (b c : Bool) → not b ≡ not c → b ≡ c

@@ -9,7 +9,7 @@ use Rattle.gu_flow.specs.Ends.{arc_at, is_tail, near, far, other_end, residual_i
 use Rattle.gu_flow.specs.Floors.{KeepsFloors, room_out}
 use Rattle.gu_flow.specs.Flows.{inflow, outflow, IsWithin, Pushes}
 use Rattle.gu_flow.specs.Rounds.{room_inside, IsBrought}
-use Rattle.gu_flow.specs.Searches.{mark_at, depth_at, IsEntry, IsMarkTree, KeepsReached}
+use Rattle.gu_flow.specs.Searches.{mark_at, level_at, IsEntry, IsTree, KeepsReached}
 use Rattle.gu_flow.proofs.EndLemmas.{near-other_end, far-other_end, other_end-in}
 
 -- a search that goes on and on keeps what it reached
@@ -53,13 +53,13 @@ pub record RoundPushing (arcs : List Arc) (start now : Allotment) (source : ℕ)
   pub keeps : KeepsFloors now.floors.items now.flow.items
   pub same : (now.floors ≡ start.floors) × (now.regions ≡ start.regions)
   pub nodes : (n : ℕ) → inflow arcs now.flow.items n + outflow arcs start.flow.items n + cond (node == n) lots 0 ≡ inflow arcs start.flow.items n + outflow arcs now.flow.items n + cond (to == n) lots 0
-  pub reached : 0 < depth_at marks node
+  pub reached : 0 < level_at marks node
   pub few : lots ≤ (mark_at marks node).lots
-  pub ahead : (m : ℕ) → m ≢ source → 0 < depth_at marks m → depth_at marks m ≤ depth_at marks node → room_out arcs now.floors.items now.flow.items (mark_at marks m).via ≡ room_out arcs start.floors.items start.flow.items (mark_at marks m).via
+  pub ahead : (m : ℕ) → m ≢ source → 0 < level_at marks m → level_at marks m ≤ level_at marks node → room_out arcs now.floors.items now.flow.items (mark_at marks m).via ≡ room_out arcs start.floors.items start.flow.items (mark_at marks m).via
   pub floor : (place : ℕ) → get_or start.floors.items place 0 ≡ get_or start.flow.items place 0 → (arc_at arcs place).to ≡ source → get_or now.flow.items place 0 ≡ get_or start.flow.items place 0
 
 -- nothing is pushed yet
-pub push_begins : (arcs : List Arc) (start : Allotment) (source : ℕ) (marks : List Mark) (to lots : ℕ) → IsWithin arcs start.flow.items → KeepsFloors start.floors.items start.flow.items → 0 < depth_at marks to → lots ≤ (mark_at marks to).lots
+pub push_begins : (arcs : List Arc) (start : Allotment) (source : ℕ) (marks : List Mark) (to lots : ℕ) → IsWithin arcs start.flow.items → KeepsFloors start.floors.items start.flow.items → 0 < level_at marks to → lots ≤ (mark_at marks to).lots
     → RoundPushing arcs start start source marks to lots to
 push_begins arcs start source marks to lots within keeps reached few = record {
   within = within;
@@ -79,7 +79,7 @@ flow_stays arcs old new k same =
     let place : 2 * k / 2 ≡ k = omega arith in
     rw (tail, place) at same
 
-module _ (arcs : List Arc) (start now : Allotment) (source : ℕ) (marks : List Mark) (to lots node : ℕ) (tree : IsMarkTree arcs (room_inside arcs start false) source marks) (on_way : node ≢ source)
+module _ (arcs : List Arc) (start now : Allotment) (source : ℕ) (marks : List Mark) (to lots node : ℕ) (tree : IsTree arcs (room_inside arcs start false) source marks) (on_way : node ≢ source)
     (p : RoundPushing arcs start now source marks to lots node) where
   abbrev via : ℕ
   via = (mark_at marks node).via
@@ -93,7 +93,7 @@ module _ (arcs : List Arc) (start now : Allotment) (source : ℕ) (marks : List 
   pub entry_room : lots ≤ room_out arcs now.floors.items now.flow.items (mark_at marks node).via
   entry_room = omega (arith, p.ahead node on_way p.reached (omega arith), entry_fits, p.few)
 
-  both_ends : (e : ℕ) → depth_at marks (near arcs e) + depth_at marks (far arcs e) ≡ depth_at marks (arc_at arcs (e / 2)).from + depth_at marks (arc_at arcs (e / 2)).to
+  both_ends : (e : ℕ) → level_at marks (near arcs e) + level_at marks (far arcs e) ≡ level_at marks (arc_at arcs (e / 2)).from + level_at marks (arc_at arcs (e / 2)).to
   both_ends e = elim (cases_Bool (is_tail e)) [ inl tail ↦ rw tail refl | inr head ↦ rw head (omega arith) ]
 
   -- an arc that is at its floor and leads to the start of the search is on no path
@@ -111,7 +111,7 @@ module _ (arcs : List Arc) (start now : Allotment) (source : ℕ) (marks : List 
       → RoundPushing arcs start new source marks to lots (near arcs (mark_at marks node).via)
   pushes_on new c keeps same =
       let next = near arcs via in
-      let deeper : 1 < depth_at marks node = tree.above node on_way p.reached in
+      let deeper : 1 < level_at marks node = tree.above node on_way p.reached in
       record {
         within = c.within;
         keeps = keeps;
@@ -123,7 +123,7 @@ module _ (arcs : List Arc) (start now : Allotment) (source : ℕ) (marks : List 
             let other = tree.entered m not_source reached in
             let d = (mark_at marks m).via in
             let not_same : d / 2 ≢ via / 2 = λ one.
-            absurd (omega (arith, both_ends d, both_ends via, ap (λ k. depth_at marks (arc_at arcs k).from + depth_at marks (arc_at arcs k).to) one, ap (depth_at marks) other.here, ap (depth_at marks) entry.here, other.falls, entry.falls, below)) in
+            absurd (omega (arith, both_ends d, both_ends via, ap (λ k. level_at marks (arc_at arcs k).from + level_at marks (arc_at arcs k).to) one, ap (level_at marks) other.here, ap (level_at marks) entry.here, other.falls, entry.falls, below)) in
             let flows : get_or new.flow.items (d / 2) 0 ≡ get_or now.flow.items (d / 2) 0 = flow_stays arcs now.flow.items new.flow.items (d / 2) (c.others (2 * (d / 2)) (λ e. not_same (omega arith))) in
             let floors : get_or new.floors.items (d / 2) 0 ≡ get_or now.floors.items (d / 2) 0 = ap (λ f. get_or f.items (d / 2) 0) same.0 in
             ap (λ y. cond (is_tail d) ((arc_at arcs (d / 2)).capacity - y) (y - get_or new.floors.items (d / 2) 0)) flows
@@ -144,10 +144,10 @@ pub record LeadsOn (arcs : List Arc) (a : Allotment) (marks : List Mark) (node v
   pub here : near arcs (other_end via) ≡ node
   pub next : far arcs (other_end via) ≡ near arcs via
   pub some : 0 < room_inside arcs a false (other_end via)
-  pub before : 0 < depth_at marks (near arcs via)
-  pub falls : depth_at marks (near arcs via) + 1 ≡ depth_at marks node
+  pub before : 0 < level_at marks (near arcs via)
+  pub falls : level_at marks (near arcs via) + 1 ≡ level_at marks node
 
-pub leads_on : (arcs : List Arc) (a : Allotment) (s : Search) (node : ℕ) → IsMarkTree arcs (room_inside arcs a s.back) s.from s.marks.items → s.back ≡ true → node ≢ s.from → 0 < depth_at s.marks.items node
+pub leads_on : (arcs : List Arc) (a : Allotment) (s : Search) (node : ℕ) → IsTree arcs (room_inside arcs a s.back) s.from s.marks.items → s.back ≡ true → node ≢ s.from → 0 < level_at s.marks.items node
     → LeadsOn arcs a s.marks.items node (mark_at s.marks.items node).via
 leads_on arcs a s node tree back on_way reached =
     let via = (mark_at s.marks.items node).via in

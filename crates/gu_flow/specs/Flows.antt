@@ -43,7 +43,10 @@ pub record Pushes (arcs : List Arc) (old new : List ℕ) (end lots : ℕ) : Type
   pub others : (d : ℕ) → d / 2 ≢ end / 2 → residual_in arcs new d ≡ residual_in arcs old d
   pub less : is_tail end ≡ false → sum new + lots ≡ sum old
 
--- nothing more can be pushed from the reached nodes to the others
-pub record IsClosed (arcs : List Arc) (flow : List ℕ) (reached : ℕ → Bool) : Type 0 where
-  pub each : (e : ℕ) → e < 2 * length arcs → reached (near arcs e) ≡ true → reached (far arcs e) ≡ false
-      → residual_out arcs flow e ≡ 0
+-- no lots can be pushed from the reached nodes to the others, if `room` gives the lots that can be pushed over an end
+pub record IsShut (arcs : List Arc) (room : ℕ → ℕ) (reached : ℕ → Bool) : Type 0 where
+  pub each : (e : ℕ) → e < 2 * length arcs → reached (near arcs e) ≡ true → reached (far arcs e) ≡ false → room e ≡ 0
+
+-- a flow can push no more from the reached nodes to the others
+abbrev pub IsClosed : List Arc → List ℕ → (ℕ → Bool) → Type 0
+IsClosed arcs flow = IsShut arcs (residual_out arcs flow)

@@ -1,5 +1,4 @@
 pub mod Ends
-pub mod Levels
 pub mod Flows
 pub mod Floors
 pub mod Preflows

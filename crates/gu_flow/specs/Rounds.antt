@@ -38,6 +38,14 @@ pub record IsAllotment (arcs : List Arc) (nodes : ℕ) (a : Allotment) : Type 0 
   pub regions : length a.regions.items ≡ nodes
   pub fixed : AreFixed arcs a.floors.items a.flow.items a.regions.items
 
+-- a flow that can still be rerouted at will: no arc has a floor, and all nodes are in one region
+pub record IsFree (arcs : List Arc) (nodes : ℕ) (a : Allotment) : Type 0 where
+  pub is_flow : IsFlow arcs a.flow.items
+  pub floors : length a.floors.items ≡ length arcs
+  pub regions : length a.regions.items ≡ nodes
+  pub no_floors : (k : ℕ) → slice_index a.floors.items k ≡ 0
+  pub one_region : (n : ℕ) → slice_index a.regions.items n ≡ 0
+
 -- no flow of the same value that keeps the floors of the other arcs carries more at an index, whatever the floor there
 pub record CarriesMost (arcs : List Arc) (floors flow : List ℕ) (place : ℕ) : Type 0 where
   pub each : (older others : List ℕ) → ((k : ℕ) → k ≢ place → slice_index floors k ≡ slice_index older k) → IsAlike arcs older flow others

@@ -1,9 +1,9 @@
 -- Machinery: augmenting paths from the sink back towards the source, as lists of arc ends.
-use Rattle.std.specs.Prelude.{◌≡◌, ℕ, ◌-◌, ◌*◌, ◌/◌, ◌<◌, ◌≤◌, ◌==◌, if◌then◌else◌, List, length, slice_index}
+use Rattle.std.specs.Prelude.{◌≡◌, ℕ, ◌+◌, ◌-◌, ◌*◌, ◌/◌, ◌<◌, ◌≤◌, ◌==◌, if◌then◌else◌, List, length, slice_index}
 use Rattle.gu_flow.specs.declared.network.Arc.{Arc}
-use Rattle.gu_flow.specs.declared.levels.Label.{Label}
+use Rattle.gu_flow.specs.declared.searching.Mark.{Mark}
 use Rattle.gu_flow.specs.Ends.{near, far, residual_in}
-use Rattle.gu_flow.specs.Levels.{level_at, IsStep}
+use Rattle.gu_flow.specs.Searches.{level_at}
 
 -- the node that a path from the sink has reached after this many steps
 abbrev pub stand : List Arc → List ℕ → ℕ → ℕ
@@ -38,11 +38,18 @@ pub record IsNarrow (arcs : List Arc) (flow way : List ℕ) (steps lots : ℕ) :
 abbrev pub IsAhead : List Arc → List ℕ → List ℕ → ℕ → Type 0
 IsAhead arcs current way steps = (i : ℕ) → i < steps → slice_index way i < slice_index current (near arcs (slice_index way i))
 
+-- lots can be pushed over an end to its node, which has this level, from a node one level below
+pub record IsStep (arcs : List Arc) (flow : List ℕ) (marks : List Mark) (node level end : ℕ) : Type 0 where
+  pub end_in : end < 2 * length arcs
+  pub here : near arcs end ≡ node
+  pub room : 0 < residual_in arcs flow end
+  pub falls : level_at marks (far arcs end) + 1 ≡ level
+
 -- an end by which a path can continue: it leads a level down, and the search hasn't passed it
-pub record IsDown (arcs : List Arc) (flow : List ℕ) (entries : List Label) (current : List ℕ) (node end : ℕ) : Type 0 where
-  pub step : IsStep arcs flow entries node (level_at entries node) end
+pub record IsDown (arcs : List Arc) (flow : List ℕ) (marks : List Mark) (current : List ℕ) (node end : ℕ) : Type 0 where
+  pub step : IsStep arcs flow marks node (level_at marks node) end
   pub ahead : end < slice_index current node
 
 -- a path on which each step has room and leads a level down
-pub record IsDescent (arcs : List Arc) (flow : List ℕ) (entries : List Label) (way : List ℕ) (steps : ℕ) : Type 0 where
-  pub each : (i : ℕ) → i < steps → IsStep arcs flow entries (stand arcs way i) (level_at entries (stand arcs way i)) (slice_index way i)
+pub record IsDescent (arcs : List Arc) (flow : List ℕ) (marks : List Mark) (way : List ℕ) (steps : ℕ) : Type 0 where
+  pub each : (i : ℕ) → i < steps → IsStep arcs flow marks (stand arcs way i) (level_at marks (stand arcs way i)) (slice_index way i)

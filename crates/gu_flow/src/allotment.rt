@@ -2,9 +2,9 @@
 
 ghost use Rattle.std.specs.Prelude.{◌≡◌, ℕ, ◌+◌, ◌*◌, ◌/◌, ◌%◌, ◌<◌, ◌≤◌, IfOk, length, slice_index};
 ghost use Rattle.gu_flow.specs.Floors.{KeepsFloors, room_out};
-ghost use Rattle.gu_flow.specs.Flows.{IsWithin, Pushes};
-ghost use Rattle.gu_flow.specs.Rounds.{room_inside, IsAllotment};
-ghost use Rattle.gu_flow.specs.Searches.{depth_at, IsMarkQueue};
+ghost use Rattle.gu_flow.specs.Flows.{IsFlow, IsWithin, Pushes};
+ghost use Rattle.gu_flow.specs.Rounds.{room_inside, IsAllotment, IsFree};
+ghost use Rattle.gu_flow.specs.Searches.{level_at, IsQueue};
 
 use crate::network::{Network, other_end};
 use crate::searching::Search;
@@ -20,15 +20,12 @@ pub struct Allotment {
 
 impl Allotment {
     /// Returns the allotment of a flow: no floors, one region.
-    pub(crate) fn new(alloc: Global, nodes: usize, flow: Vec<u64>) -> Result<Allotment, AllocError>
-        ensures flow { IfOk result (λ a. a.flow.items ≡ flow.items) }
-        ensures floors { IfOk result (λ a. length a.floors.items ≡ length flow.items) }
-        ensures no_floors { IfOk result (λ a. (k : ℕ) → slice_index a.floors.items k ≡ 0) }
-        ensures regions { IfOk result (λ a. length a.regions.items ≡ nodes) }
-        ensures one_region { IfOk result (λ a. (n : ℕ) → slice_index a.regions.items n ≡ 0) }
+    pub(crate) fn new(alloc: Global, net: &Network, flow: Vec<u64>) -> Result<Allotment, AllocError>
+        requires { IsFlow net.now.arcs.items flow.items }
+        ensures { IfOk result (λ a. IsFree net.now.arcs.items (length net.now.first.items) a) }
     {
         let floors = vec![in alloc; 0; flow.len()]?;
-        let regions = vec![in alloc; 0; nodes]?;
+        let regions = vec![in alloc; 0; net.nodes()]?;
         Ok(Allotment {
             flow,
             floors,
@@ -74,13 +71,13 @@ impl Allotment {
 
     /// Makes the nodes that a search has reached a region.
     pub(crate) fn set_apart(&mut self, search: &Search, region: u32)
-        requires waits { IsMarkQueue search.now.marks.items search.now.queue.items search.now.count }
+        requires waits { IsQueue search.now.marks.items search.now.queue.items search.now.count }
         requires places { (length search.now.marks.items ≡ length self.old.regions.items)
             × (length search.now.queue.items ≡ length self.old.regions.items) }
         ensures same { (self.new.flow ≡ self.old.flow) × (self.new.floors ≡ self.old.floors) }
         ensures size { length self.new.regions.items ≡ length self.old.regions.items }
-        ensures inside { (n : ℕ) → 0 < depth_at search.now.marks.items n → slice_index self.new.regions.items n ≡ region }
-        ensures outside { (n : ℕ) → depth_at search.now.marks.items n ≡ 0
+        ensures inside { (n : ℕ) → 0 < level_at search.now.marks.items n → slice_index self.new.regions.items n ≡ region }
+        ensures outside { (n : ℕ) → level_at search.now.marks.items n ≡ 0
             → slice_index self.new.regions.items n ≡ slice_index self.old.regions.items n }
     {
         for place in 0..search.count {

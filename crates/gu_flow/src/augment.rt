@@ -35,6 +35,16 @@ fn push_along(net: &Network, flow: &mut [u64], way: &[u32], lots: u64)
     }
 }
 
+/// Pushes as many lots as a path has room for, up to this many.
+pub(crate) fn push_some(net: &Network, flow: &mut [u64], way: &[u32], most: u64)
+    requires flow { IsFlow net.now.arcs.items flow.old }
+    requires whole { IsWhole net.now.arcs.items way.now }
+    ensures { IsFlow net.now.arcs.items flow.new }
+{
+    let lots = bottleneck(net, flow, way).min(most);
+    push_along(net, flow, way, lots);
+}
+
 /// Pushes as many lots as a path has room for.
 pub(crate) fn augment(net: &Network, flow: &mut [u64], way: &[u32])
     requires flow { IsFlow net.now.arcs.items flow.old }

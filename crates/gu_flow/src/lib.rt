@@ -3,10 +3,10 @@
 
 mod allotment;
 mod augment;
+mod beginning;
 mod cutting;
 mod heights;
 mod layout;
-mod levels;
 mod maximum;
 mod network;
 mod oldest;

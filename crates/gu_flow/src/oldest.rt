@@ -6,7 +6,7 @@ ghost use Rattle.gu_flow.specs.Floors.{IsAlike};
 ghost use Rattle.gu_flow.specs.Flows.{IsFlow, value_of};
 ghost use Rattle.gu_flow.specs.Networks.{AreArcs};
 ghost use Rattle.gu_flow.specs.OldestFlows.{IsOldestFlow};
-ghost use Rattle.gu_flow.specs.Rounds.{AreReady, IsAllotment};
+ghost use Rattle.gu_flow.specs.Rounds.{AreReady, IsAllotment, IsFree};
 
 use crate::allotment::Allotment;
 use crate::network::Network;
@@ -78,18 +78,18 @@ pub(crate) fn give_oldest(
     alloc: Global,
     view: &View,
     net: &Network,
-    flow: Vec<u64>,
+    mut allotment: Allotment,
+    searches: &mut TwoWay,
 ) -> Result<Vec<u64>, AllocError>
-    requires flow { IsFlow net.now.arcs.items flow.items }
+    requires free { IsFree net.now.arcs.items (length net.now.first.items) allotment }
+    requires ready { AreReady (length net.now.first.items) searches.old }
     requires arcs { AreArcs view.now net.now.arcs.items }
     ensures flow { IfOk result (λ given. IsFlow net.now.arcs.items given.items) }
-    ensures value { IfOk result (λ given. value_of net.now.arcs.items given.items ≡ value_of net.now.arcs.items flow.items) }
+    ensures value { IfOk result (λ given. value_of net.now.arcs.items given.items ≡ value_of net.now.arcs.items allotment.flow.items) }
     ensures oldest { IfOk result (λ given. IsOldestFlow view.now net.now.arcs.items given.items) }
 {
-    let mut goals = vec![in alloc; 0; flow.len()]?;
-    let mut searches = TwoWay::new(alloc, net.nodes())?;
-    let mut allotment = Allotment::new(alloc, net.nodes(), flow)?;
-    give_each(view, net, &mut allotment, &mut goals, &mut searches);
+    let mut goals = vec![in alloc; 0; net.arcs().len()]?;
+    give_each(view, net, &mut allotment, &mut goals, searches);
     let Allotment {
         flow,
         floors: _,

@@ -5,11 +5,14 @@ ghost use Rattle.gu_flow.specs.Proposals.{IsSound};
 ghost use Rattle.gu_view.specs.Check.{verdict};
 ghost use Rattle.gu_view.specs.View.{IsNested};
 
+use crate::allotment::Allotment;
+use crate::beginning::begin;
 use crate::cutting::cut_by;
 use crate::layout::lay_out;
 use crate::maximum::maximize;
 use crate::network::Network;
 use crate::oldest::give_oldest;
+use crate::rounds::TwoWay;
 use crate::sharing::share_out;
 use gu_terms::{Cut, Take, Takes};
 use gu_view::View;
@@ -132,10 +135,14 @@ fn sweep(alloc: Global, view: &View) -> Result<(Takes, Cut, u64), AllocError>
 {
     let arcs = lay_out(alloc, view)?;
     let net = Network::new(alloc, arcs, view.rooms().len() + 2)?;
-    let (greatest, entries) = maximize(alloc, &net)?;
-    let flow = give_oldest(alloc, view, &net, greatest)?;
+    let first = begin(alloc, view, &net)?;
+    let mut allotment = Allotment::new(alloc, &net, first)?;
+    let mut searches = TwoWay::new(alloc, net.nodes())?;
+    maximize(alloc, &net, &mut allotment, &mut searches.ahead)?;
+    let cut = cut_by(alloc, view, net.arcs(), &searches.ahead.marks)?;
+    searches.ahead.clear();
+    let flow = give_oldest(alloc, view, &net, allotment, &mut searches)?;
     let takes = share_out(alloc, view, flow)?;
-    let cut = cut_by(alloc, view, net.arcs(), &entries)?;
     let lots = sum_of(takes.as_slice());
     Ok((takes, cut, lots))
 }

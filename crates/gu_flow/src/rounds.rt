@@ -5,7 +5,7 @@ ghost use Rattle.gu_flow.specs.Ends.{arc_at};
 ghost use Rattle.gu_flow.specs.Floors.{KeepsFloors};
 ghost use Rattle.gu_flow.specs.Flows.{IsWithin, value_of};
 ghost use Rattle.gu_flow.specs.Rounds.{room_inside, AreReady, AreSearches, AreUnderWay, CarriesMost, IsAllotment, IsBrought};
-ghost use Rattle.gu_flow.specs.Searches.{depth_at, mark_at, HasPlaces, IsMarkQueue, IsMarkTree, KeepsReached};
+ghost use Rattle.gu_flow.specs.Searches.{level_at, mark_at, HasPlaces, IsQueue, IsTree, KeepsReached};
 
 use crate::allotment::Allotment;
 use crate::network::{Network, other_end};
@@ -15,7 +15,7 @@ use std::alloc::{AllocError, Global};
 /// Two searches that meet: one goes ahead from the head of an arc, the other back from its tail.
 #[derive(Drop)]
 pub struct TwoWay {
-    ahead: Search,
+    pub(crate) ahead: Search,
     back: Search,
 }
 
@@ -38,9 +38,9 @@ impl TwoWay {
         ensures ahead { KeepsReached self.old.ahead self.new.ahead }
         ensures back { KeepsReached self.old.back self.new.back }
         ensures met { IfSome result (λ n. (n < length net.now.first.items)
-            × (0 < depth_at self.new.ahead.marks.items n) × (0 < depth_at self.new.back.marks.items n)) }
-        ensures apart { IfNone result ((depth_at self.new.ahead.marks.items self.new.back.from ≡ 0)
-            × (depth_at self.new.back.marks.items self.new.ahead.from ≡ 0)) }
+            × (0 < level_at self.new.ahead.marks.items n) × (0 < level_at self.new.back.marks.items n)) }
+        ensures apart { IfNone result ((level_at self.new.ahead.marks.items self.new.back.from ≡ 0)
+            × (level_at self.new.back.marks.items self.new.ahead.from ≡ 0)) }
         ensures out { IfNone result ((self.new.ahead.count ≤ self.new.ahead.done) ⊎ (self.new.back.count ≤ self.new.back.done)) }
     {
         'turns: while self.ahead.done < self.ahead.count && self.back.done < self.back.count {
@@ -68,13 +68,13 @@ impl TwoWay {
     fn lead_on(&mut self, net: &Network, allotment: &Allotment, met: u32)
         requires allotment { IsAllotment net.now.arcs.items (length net.now.first.items) allotment.now }
         requires under_way { AreUnderWay net.now.arcs.items (length net.now.first.items) allotment.now self.old }
-        requires met { (met < length net.now.first.items) × (0 < depth_at self.old.ahead.marks.items met) × (0 < depth_at self.old.back.marks.items met) }
+        requires met { (met < length net.now.first.items) × (0 < level_at self.old.ahead.marks.items met) × (0 < level_at self.old.back.marks.items met) }
         ensures are { AreSearches (length net.now.first.items) self.new }
-        ensures tree { IsMarkTree net.now.arcs.items (room_inside net.now.arcs.items allotment.now false) self.new.ahead.from self.new.ahead.marks.items }
-        ensures waits { IsMarkQueue self.new.ahead.marks.items self.new.ahead.queue.items self.new.ahead.count }
+        ensures tree { IsTree net.now.arcs.items (room_inside net.now.arcs.items allotment.now false) self.new.ahead.from self.new.ahead.marks.items }
+        ensures waits { IsQueue self.new.ahead.marks.items self.new.ahead.queue.items self.new.ahead.count }
         ensures keeps { KeepsReached self.old.ahead self.new.ahead }
         ensures same { self.new.back ≡ self.old.back }
-        ensures found { 0 < depth_at self.new.ahead.marks.items self.old.back.from }
+        ensures found { 0 < level_at self.new.ahead.marks.items self.old.back.from }
     {
         let mut node = met;
         while node != self.back.from {
@@ -91,7 +91,7 @@ impl TwoWay {
         requires place { (place < length net.now.arcs.items)
             × (slice_index allotment.old.floors.items place ≡ slice_index allotment.old.flow.items place) }
         requires ends { (self.now.ahead.from ≡ (arc_at net.now.arcs.items place).to) × (self.now.back.from ≡ (arc_at net.now.arcs.items place).from) }
-        requires apart { (depth_at self.now.ahead.marks.items self.now.back.from ≡ 0) × (depth_at self.now.back.marks.items self.now.ahead.from ≡ 0) }
+        requires apart { (level_at self.now.ahead.marks.items self.now.back.from ≡ 0) × (level_at self.now.back.marks.items self.now.ahead.from ≡ 0) }
         requires out { (self.now.ahead.count ≤ self.now.ahead.done) ⊎ (self.now.back.count ≤ self.now.back.done) }
         ensures allotment { IsAllotment net.now.arcs.items (length net.now.first.items) allotment.new }
         ensures same { (allotment.new.flow ≡ allotment.old.flow) × (allotment.new.floors ≡ allotment.old.floors) }
@@ -121,8 +121,8 @@ impl TwoWay {
             ≤ (arc_at net.now.arcs.items place).capacity }
         ensures allotment { IsAllotment net.now.arcs.items (length net.now.first.items) allotment.new }
         ensures searches { AreSearches (length net.now.first.items) self.new }
-        ensures ahead { IsMarkQueue self.new.ahead.marks.items self.new.ahead.queue.items self.new.ahead.count }
-        ensures back { IsMarkQueue self.new.back.marks.items self.new.back.queue.items self.new.back.count }
+        ensures ahead { IsQueue self.new.ahead.marks.items self.new.ahead.queue.items self.new.ahead.count }
+        ensures back { IsQueue self.new.back.marks.items self.new.back.queue.items self.new.back.count }
         ensures value { value_of net.now.arcs.items allotment.new.flow.items ≡ value_of net.now.arcs.items allotment.old.flow.items }
         ensures here { slice_index allotment.new.floors.items place ≡ slice_index allotment.new.flow.items place }
         ensures within { slice_index allotment.new.flow.items place
@@ -181,8 +181,8 @@ impl TwoWay {
 fn push_along(net: &Network, allotment: &mut Allotment, search: &Search, to: u32, lots: u64)
     requires allotment { IsAllotment net.now.arcs.items (length net.now.first.items) allotment.old }
     requires places { HasPlaces (length net.now.first.items) search.now }
-    requires tree { IsMarkTree net.now.arcs.items (room_inside net.now.arcs.items allotment.old false) search.now.from search.now.marks.items }
-    requires found { (to < length net.now.first.items) × (0 < depth_at search.now.marks.items to) }
+    requires tree { IsTree net.now.arcs.items (room_inside net.now.arcs.items allotment.old false) search.now.from search.now.marks.items }
+    requires found { (to < length net.now.first.items) × (0 < level_at search.now.marks.items to) }
     requires room { lots ≤ (mark_at search.now.marks.items to).lots }
     ensures within { IsWithin net.now.arcs.items allotment.new.flow.items }
     ensures keeps { KeepsFloors allotment.new.floors.items allotment.new.flow.items }
@@ -204,10 +204,10 @@ fn push_along(net: &Network, allotment: &mut Allotment, search: &Search, to: u32
 fn bring_round(net: &Network, allotment: &mut Allotment, search: &Search, place: usize)
     requires allotment { IsAllotment net.now.arcs.items (length net.now.first.items) allotment.old }
     requires places { HasPlaces (length net.now.first.items) search.now }
-    requires tree { IsMarkTree net.now.arcs.items (room_inside net.now.arcs.items allotment.old false) search.now.from search.now.marks.items }
+    requires tree { IsTree net.now.arcs.items (room_inside net.now.arcs.items allotment.old false) search.now.from search.now.marks.items }
     requires place { (place < length net.now.arcs.items)
         × (slice_index allotment.old.floors.items place ≡ slice_index allotment.old.flow.items place) }
-    requires ends { (search.now.from ≡ (arc_at net.now.arcs.items place).to) × (0 < depth_at search.now.marks.items (arc_at net.now.arcs.items place).from) }
+    requires ends { (search.now.from ≡ (arc_at net.now.arcs.items place).to) × (0 < level_at search.now.marks.items (arc_at net.now.arcs.items place).from) }
     requires fits { slice_index allotment.old.flow.items place + (mark_at search.now.marks.items search.now.from).lots
         ≤ (arc_at net.now.arcs.items place).capacity }
     ensures allotment { IsAllotment net.now.arcs.items (length net.now.first.items) allotment.new }

@@ -3,7 +3,7 @@
 ghost use Rattle.std.specs.Prelude.{◌≡◌, ℕ, ◌*◌, ◌<◌, ◌≤◌, IfOk, IfSome, length};
 ghost use Rattle.gu_flow.specs.Ends.{near, far};
 ghost use Rattle.gu_flow.specs.Rounds.{room_inside, IsAllotment};
-ghost use Rattle.gu_flow.specs.Searches.{depth_at, is_marked, mark_at, turns_left, HasPlaces, IsClear, IsMarkQueue, IsMarkTree, IsSearch, KeepsReached};
+ghost use Rattle.gu_flow.specs.Searches.{level_at, is_reached, mark_at, turns_left, HasPlaces, IsClear, IsQueue, IsTree, IsSearch, KeepsReached};
 
 use crate::allotment::Allotment;
 use crate::network::Network;
@@ -86,7 +86,7 @@ impl Search {
     /// Returns whether it has reached a node.
     pub(crate) fn has(&self, node: u32) -> bool
         requires { node < length self.now.marks.items }
-        ensures { result ≡ is_marked self.now.marks.items node }
+        ensures { result ≡ is_reached self.now.marks.items node }
     {
         self.marks[node as usize].level > 0
     }
@@ -95,17 +95,17 @@ impl Search {
     pub(crate) fn reach(&mut self, net: &Network, allotment: &Allotment, end: u32) -> Option<u32>
         requires allotment { IsAllotment net.now.arcs.items (length net.now.first.items) allotment.now }
         requires places { HasPlaces (length net.now.first.items) self.old }
-        requires tree { IsMarkTree net.now.arcs.items (room_inside net.now.arcs.items allotment.now self.old.back) self.old.from self.old.marks.items }
-        requires waits { IsMarkQueue self.old.marks.items self.old.queue.items self.old.count }
-        requires end { (end < 2 * length net.now.arcs.items) × (0 < depth_at self.old.marks.items (near net.now.arcs.items end)) }
+        requires tree { IsTree net.now.arcs.items (room_inside net.now.arcs.items allotment.now self.old.back) self.old.from self.old.marks.items }
+        requires waits { IsQueue self.old.marks.items self.old.queue.items self.old.count }
+        requires end { (end < 2 * length net.now.arcs.items) × (0 < level_at self.old.marks.items (near net.now.arcs.items end)) }
         ensures places { HasPlaces (length net.now.first.items) self.new }
-        ensures tree { IsMarkTree net.now.arcs.items (room_inside net.now.arcs.items allotment.now self.new.back) self.new.from self.new.marks.items }
-        ensures waits { IsMarkQueue self.new.marks.items self.new.queue.items self.new.count }
+        ensures tree { IsTree net.now.arcs.items (room_inside net.now.arcs.items allotment.now self.new.back) self.new.from self.new.marks.items }
+        ensures waits { IsQueue self.new.marks.items self.new.queue.items self.new.count }
         ensures keeps { KeepsReached self.old self.new }
         ensures position { (self.new.done ≡ self.old.done) × (self.new.ends ≡ self.old.ends) }
         ensures reached { 0 < room_inside net.now.arcs.items allotment.now self.old.back end
-            → 0 < depth_at self.new.marks.items (far net.now.arcs.items end) }
-        ensures found { IfSome result (λ n. (n < length net.now.first.items) × (0 < depth_at self.new.marks.items n)) }
+            → 0 < level_at self.new.marks.items (far net.now.arcs.items end) }
+        ensures found { IfSome result (λ n. (n < length net.now.first.items) × (0 < level_at self.new.marks.items n)) }
     {
         let other = net.far(end);
         if self.has(other) {
@@ -135,7 +135,7 @@ impl Search {
         ensures places { HasPlaces (length net.now.first.items) self.new }
         ensures search { IsSearch net.now.arcs.items (room_inside net.now.arcs.items allotment.now self.new.back) self.new }
         ensures keeps { KeepsReached self.old self.new }
-        ensures found { IfSome result (λ n. (n < length net.now.first.items) × (0 < depth_at self.new.marks.items n)) }
+        ensures found { IfSome result (λ n. (n < length net.now.first.items) × (0 < level_at self.new.marks.items n)) }
         ensures less { turns_left net.now.arcs.items self.new < turns_left net.now.arcs.items self.old }
     {
         if self.ends == 0 {
@@ -152,7 +152,7 @@ impl Search {
 
     /// Clears what was reached.
     pub(crate) fn clear(&mut self)
-        requires waits { IsMarkQueue self.old.marks.items self.old.queue.items self.old.count }
+        requires waits { IsQueue self.old.marks.items self.old.queue.items self.old.count }
         requires places { length self.old.queue.items ≡ length self.old.marks.items }
         ensures clear { IsClear self.new }
         ensures same { (self.new.back ≡ self.old.back) × (length self.new.marks.items ≡ length self.old.marks.items)

@@ -1,32 +1,32 @@
 //! Augmenting paths from the sink back to the source, each step one level down.
 
 ghost use Rattle.std.specs.Prelude.{◌≡◌, ◌≢◌, ℕ, ◌+◌, ◌*◌, ◌<◌, ◌≤◌, IfSome, true, length, slice_index, sum};
-ghost use Rattle.gu_flow.specs.Ends.{far, residual_in, IsCurrent};
+ghost use Rattle.gu_flow.specs.Ends.{far, residual_in, residual_out, IsCurrent};
 ghost use Rattle.gu_flow.specs.Flows.{IsFlow, IsWithin, value_of};
-ghost use Rattle.gu_flow.specs.Levels.{level_at, IsTree};
+ghost use Rattle.gu_flow.specs.Searches.{level_at, IsTree};
 ghost use Rattle.gu_flow.specs.Ways.{stand, IsWay, HasRoom, IsAhead, IsDown, IsDescent};
 
 use crate::augment::augment;
-use crate::levels::Label;
-use crate::network::{Network, SINK, SOURCE};
+use crate::network::{Network, SINK, SOURCE, other_end};
 use crate::residual::residual_in;
+use crate::searching::Mark;
 
 /// The steps that a path pays for: a longer one costs the difference, and a shorter one pays for part of a search.
 const PAID: usize = 8;
 
 /// Returns the path on which the search reached the sink, and its number of steps.
-pub(crate) fn trace(net: &Network, flow: &[u64], entries: &[Label], way: &mut [u32]) -> usize
-    requires tree { IsTree net.now.arcs.items flow.now entries.now }
-    requires found { 0 < level_at entries.now 1 }
-    requires lists { (length entries.now ≡ length net.now.first.items) × (length entries.now ≤ length way.old) }
+pub(crate) fn trace(net: &Network, flow: &[u64], marks: &[Mark], way: &mut [u32]) -> usize
+    requires tree { IsTree net.now.arcs.items (residual_out net.now.arcs.items flow.now) 0 marks.now }
+    requires found { 0 < level_at marks.now 1 }
+    requires lists { (length marks.now ≡ length net.now.first.items) × (length marks.now ≤ length way.old) }
     ensures within { result ≤ length way.new }
-    ensures descent { IsDescent net.now.arcs.items flow.now entries.now way.new result }
+    ensures descent { IsDescent net.now.arcs.items flow.now marks.now way.new result }
     ensures whole { stand net.now.arcs.items way.new result ≡ 0 }
 {
     let mut steps = 0;
     let mut node = SINK;
     while node != SOURCE {
-        let end = entries[node as usize].via;
+        let end = other_end(marks[node as usize].via);
         way[steps] = end;
         steps += 1;
         node = net.far(end);
@@ -65,18 +65,18 @@ fn stand(net: &Network, way: &[u32], steps: usize) -> u32
 }
 
 /// Returns whether lots can be pushed over an end from a node one level below this one.
-fn leads_down(net: &Network, flow: &[u64], entries: &[Label], end: u32, level: u32) -> bool
+fn leads_down(net: &Network, flow: &[u64], marks: &[Mark], end: u32, level: u32) -> bool
     requires within { IsWithin net.now.arcs.items flow.now }
-    requires lists { length entries.now ≡ length net.now.first.items }
+    requires lists { length marks.now ≡ length net.now.first.items }
     requires end { end < 2 * length net.now.arcs.items }
-    requires levels { (n : ℕ) → level_at entries.now n ≤ length entries.now }
+    requires levels { (n : ℕ) → level_at marks.now n ≤ length marks.now }
     ensures room { result ≡ true → 0 < residual_in net.now.arcs.items flow.now end }
-    ensures falls { result ≡ true → level_at entries.now (far net.now.arcs.items end) + 1 ≡ level }
+    ensures falls { result ≡ true → level_at marks.now (far net.now.arcs.items end) + 1 ≡ level }
     ensures each { 0 < residual_in net.now.arcs.items flow.now end
-        → level_at entries.now (far net.now.arcs.items end) + 1 ≡ level
+        → level_at marks.now (far net.now.arcs.items end) + 1 ≡ level
         → result ≡ true }
 {
-    let before = entries[net.far(end) as usize].level;
+    let before = marks[net.far(end) as usize].level;
     before + 1 == level && residual_in(net, flow, end) > 0
 }
 
@@ -84,24 +84,24 @@ fn leads_down(net: &Network, flow: &[u64], entries: &[Label], end: u32, level: u
 fn next_down(
     net: &Network,
     flow: &[u64],
-    entries: &[Label],
+    marks: &[Mark],
     current: &mut [u32],
     node: u32,
 ) -> Option<u32>
     requires within { IsWithin net.now.arcs.items flow.now }
-    requires lists { length entries.now ≡ length net.now.first.items }
-    requires levels { (n : ℕ) → level_at entries.now n ≤ length entries.now }
-    requires node { (node < length current.old) × (node < length entries.now) }
+    requires lists { length marks.now ≡ length net.now.first.items }
+    requires levels { (n : ℕ) → level_at marks.now n ≤ length marks.now }
+    requires node { (node < length current.old) × (node < length marks.now) }
     requires current { IsCurrent net.now.arcs.items current.old }
     ensures current { IsCurrent net.now.arcs.items current.new }
     ensures others { (n : ℕ) → n ≢ node → slice_index current.new n ≡ slice_index current.old n }
     ensures less { sum current.new ≤ sum current.old }
-    ensures down { IfSome result (λ end. IsDown net.now.arcs.items flow.now entries.now current.new node end) }
+    ensures down { IfSome result (λ end. IsDown net.now.arcs.items flow.now marks.now current.new node end) }
 {
-    let level = entries[node as usize].level;
+    let level = marks[node as usize].level;
     'ends: while current[node as usize] > 0 {
         let end = current[node as usize] - 1;
-        if leads_down(net, flow, entries, end, level) {
+        if leads_down(net, flow, marks, end, level) {
             return Some(end);
         }
         current[node as usize] = net.ends_before(end);
@@ -113,29 +113,29 @@ fn next_down(
 pub(crate) fn extend(
     net: &Network,
     flow: &[u64],
-    entries: &[Label],
+    marks: &[Mark],
     current: &mut [u32],
     way: &mut [u32],
     kept: usize,
 ) -> Option<usize>
     requires within { IsWithin net.now.arcs.items flow.now }
-    requires levels { (n : ℕ) → level_at entries.now n ≤ length entries.now }
-    requires lists { (length entries.now ≡ length net.now.first.items) × (length entries.now ≤ length current.old)
-        × (length entries.now ≤ length way.old) }
+    requires levels { (n : ℕ) → level_at marks.now n ≤ length marks.now }
+    requires lists { (length marks.now ≡ length net.now.first.items) × (length marks.now ≤ length current.old)
+        × (length marks.now ≤ length way.old) }
     requires kept { kept ≤ length way.old }
-    requires descent { IsDescent net.now.arcs.items flow.now entries.now way.old kept }
+    requires descent { IsDescent net.now.arcs.items flow.now marks.now way.old kept }
     requires current { IsCurrent net.now.arcs.items current.old }
     requires ahead { IsAhead net.now.arcs.items current.old way.old kept }
     ensures current { IsCurrent net.now.arcs.items current.new }
     ensures within { IfSome result (λ steps. steps ≤ length way.new) }
-    ensures descent { IfSome result (λ steps. IsDescent net.now.arcs.items flow.now entries.now way.new steps) }
+    ensures descent { IfSome result (λ steps. IsDescent net.now.arcs.items flow.now marks.now way.new steps) }
     ensures ahead { IfSome result (λ steps. IsAhead net.now.arcs.items current.new way.new steps) }
     ensures whole { IfSome result (λ steps. stand net.now.arcs.items way.new steps ≡ 0) }
 {
     let mut steps = kept;
     let mut node = stand(net, way, kept);
     'steps: while node != SOURCE {
-        match next_down(net, flow, entries, current, node) {
+        match next_down(net, flow, marks, current, node) {
             Some(end) => {
                 way[steps] = end;
                 steps += 1;
@@ -161,25 +161,25 @@ pub(crate) fn extend(
 pub(crate) fn block(
     net: &Network,
     flow: &mut [u64],
-    entries: &[Label],
+    marks: &[Mark],
     current: &mut [u32],
     way: &mut [u32],
     most: usize,
 ) -> usize
     requires flow { IsFlow net.now.arcs.items flow.old }
-    requires tree { IsTree net.now.arcs.items flow.old entries.now }
-    requires found { 0 < level_at entries.now 1 }
-    requires lists { (length entries.now ≡ length net.now.first.items) × (length entries.now ≤ length current.old)
-        × (length entries.now ≤ length way.old) }
+    requires tree { IsTree net.now.arcs.items (residual_out net.now.arcs.items flow.old) 0 marks.now }
+    requires found { 0 < level_at marks.now 1 }
+    requires lists { (length marks.now ≡ length net.now.first.items) × (length marks.now ≤ length current.old)
+        × (length marks.now ≤ length way.old) }
     requires current { IsCurrent net.now.arcs.items current.old }
     ensures flow { IsFlow net.now.arcs.items flow.new }
     ensures more { value_of net.now.arcs.items flow.old < value_of net.now.arcs.items flow.new }
 {
-    let steps = trace(net, flow, entries, way);
+    let steps = trace(net, flow, marks, way);
     augment(net, flow, &way[..steps]);
     let mut left = most.saturating_add(PAID).saturating_sub(steps);
     let mut kept = 0;
-    'ways: while let Some(steps) = extend(net, flow, entries, current, way, kept) {
+    'ways: while let Some(steps) = extend(net, flow, marks, current, way, kept) {
         augment(net, flow, &way[..steps]);
         left = left.saturating_add(PAID).saturating_sub(steps);
         if left == 0 {

@@ -1,7 +1,7 @@
 use Rattle.std.proofs.Common.{◌≡◌, false, ap, sym, ◌∙◌}
 use Rattle.std.proofs.Math.Bool.{or-false}
 use Rattle.gu_view.specs.declared.view.Room.{Room}
-use Rattle.gu_flow.specs.Levels.{is_reached}
+use Rattle.gu_flow.specs.Searches.{is_reached}
 use Rattle.gu_flow.specs.Networks.{room_at}
 use Rattle.gu_flow.proofs.CutMembers.{key_cut, none_cut, none_by_key, none_more}
 use Rattle.gu_flow.proofs.RoomPlaces.{own_room}
@@ -11,7 +11,7 @@ use Rattle.gu_flow.proofs.cutting.add_keys.Goals.{then-cuts_key+in_ok-add_key, e
 pub loop-place-preserved : goal.loop-place-preserved
 loop-place-preserved c =
     let view = c.args.view.now in
-    let reached = is_reached c.args.entries.now in
+    let reached = is_reached c.args.marks.now in
     let arcs = c.args.arcs.now in
     let sound = c.rooms-room-items.ensures.sound in
     let rooms = c.rooms-room-items.ensures.rooms in

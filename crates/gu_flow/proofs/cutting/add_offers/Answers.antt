@@ -2,7 +2,7 @@ use Rattle.std.proofs.Common.{◌≡◌, ap, sym, ◌∙◌}
 use Rattle.std.proofs.lemmas.List.{get_or_default}
 use Rattle.gu_view.specs.declared.view.ViewOffer.{ViewOffer}
 use Rattle.gu_flow.specs.CutArcs.{cuts_offers}
-use Rattle.gu_flow.specs.Levels.{is_reached}
+use Rattle.gu_flow.specs.Searches.{is_reached}
 use Rattle.gu_flow.specs.Networks.{no_offer, offer_at}
 use Rattle.gu_flow.proofs.CutMembers.{offer_cut, none_cut}
 use Rattle.gu_flow.proofs.RoomPlaces.{agreement_read}
@@ -12,7 +12,7 @@ use Rattle.gu_flow.proofs.cutting.add_offers.Goals.{then-cuts_offers+in_ok-add_o
 pub loop-number-preserved : goal.loop-number-preserved
 loop-number-preserved c =
     let view = c.args.view.now in
-    let reached = is_reached c.args.entries.now in
+    let reached = is_reached c.args.marks.now in
     let arcs = c.args.arcs.now in
     let sound = c.offers-offer-items.ensures.sound in
     let offers = c.offers-offer-items.ensures.offers in

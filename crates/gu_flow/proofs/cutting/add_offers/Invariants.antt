@@ -1,10 +1,10 @@
 use Rattle.std.proofs.Common.{◌≡◌}
 use Rattle.gu_flow.specs.CutArcs.{AreOffersCut}
-use Rattle.gu_flow.specs.Levels.{is_reached}
+use Rattle.gu_flow.specs.Searches.{is_reached}
 use Rattle.gu_flow.proofs.cutting.add_offers.Given as goal
 
 abbrev pub invariant-loop-number : goal.invariant-loop-number
 invariant-loop-number l = record {
-  offers : AreOffersCut l.view (is_reached l.entries) l.arcs l.cut.offers l.number;
+  offers : AreOffersCut l.view (is_reached l.marks) l.arcs l.cut.offers l.number;
   keys : l.cut.keys ≡ l.fn.cut.keys;
 }

@@ -1,6 +1,6 @@
 use Rattle.std.proofs.Common.{◌∙◌, ap}
 use Rattle.gu_terms.specs.Cuts.{CutLists}
-use Rattle.gu_flow.specs.Levels.{is_reached}
+use Rattle.gu_flow.specs.Searches.{is_reached}
 use Rattle.gu_flow.proofs.CutMembers.{none_at_all}
 use Rattle.gu_flow.proofs.cutting.cut_by.Goals as goal
 use Rattle.gu_flow.proofs.cutting.cut_by.Goals.{then-branch+in_ok-add_offers, else-branch}
@@ -13,6 +13,6 @@ returns c =
       | else-branch w ↦ rw w.cut-is (record {
         keys = added.keys;
         offers = rw (added.offers ∙ ap (λ (cut : CutLists). cut.offers) c.new-cut.ensures)
-            (none_at_all c.args.view.now (is_reached c.args.entries.now) c.args.arcs.now c.requires (added.more w.if-branch.false));
+            (none_at_all c.args.view.now (is_reached c.args.marks.now) c.args.arcs.now c.requires (added.more w.if-branch.false));
       })
     ]

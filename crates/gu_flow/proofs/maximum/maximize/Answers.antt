@@ -1,13 +1,34 @@
-use Rattle.std.proofs.Common.{◌≡◌, refl, ap, ◌∙◌, length, replicate}
-use Rattle.std.proofs.lemmas.List.{length-replicate}
-use Rattle.std.proofs.lemmas.List.Elements.{All-replicate}
-use Rattle.gu_flow.proofs.PushLemmas.{empty_flow}
+use Rattle.std.proofs.Common.{◌-◌, ◌<◌, ◌∙◌, refl, sym, ap, subst, arith, length}
+use Rattle.std.proofs.lemmas.List.{with_items_is}
+use Rattle.std.specs.Vec.{with_items}
+use Rattle.gu_flow.specs.Ends.{capacities}
+use Rattle.gu_flow.specs.Flows.{value_of}
+use Rattle.gu_flow.proofs.LeastSides.{least_side}
+use Rattle.gu_flow.proofs.PushLemmas.{left_less}
 use Rattle.gu_flow.proofs.maximum.maximize.Goals as goal
 
-pub raise-requires : goal.raise-requires
-raise-requires c =
-    let n = length c.arcs.result.now in
-    let none = c.in_ok-flow.ensures.items_if_clones_equal (λ y same. same) in
-    record {
-      flow = rw (c.deref_mut.ensures.value, none) (empty_flow c.args.net.now.arcs.items (replicate n 0) (All-replicate (λ f. f ≡ 0) n 0 refl) (length-replicate n 0 ∙ ap length c.arcs.ensures));
-    }
+pub searches-smaller-then-left-nodes : goal.searches-smaller-then-left-nodes
+searches-smaller-then-left-nodes c =
+    let arcs = c.args.net.now.arcs.items in
+    let flow = c.searches.allotment.flow in
+    let all = c.searches.invariant.free.is_flow.within.all in
+    let b = c.block.ensures in
+    let e = c.in_ok-surge.ensures in
+    let blocked = with_items_is flow c.block.new.flow (omega (arith, b.flow.within.all, all, flow.ok.0)) in
+    subst (λ f. capacities arcs - value_of arcs f < capacities arcs - value_of arcs flow.items) (sym (with_items_is (with_items flow c.block.new.flow) c.surge.new.flow (omega (arith, e.flow.within.all, all, flow.ok.0))))
+    (left_less arcs flow.items c.surge.new.flow e.flow.within
+    (omega (arith, ap (value_of arcs) c.deref_mut.ensures.value, b.more, ap (value_of arcs) (c.deref_mut-then-left-nodes.ensures.value ∙ blocked), e.value)))
+
+pub searches-smaller : goal.searches-smaller
+searches-smaller c =
+    let arcs = c.args.net.now.arcs.items in
+    let flow = c.searches.allotment.flow in
+    let e = c.block.ensures in
+    subst (λ f. capacities arcs - value_of arcs f < capacities arcs - value_of arcs flow.items) (sym (with_items_is flow c.block.new.flow (omega (arith, e.flow.within.all, c.searches.invariant.free.is_flow.within.all, flow.ok.0))))
+    (left_less arcs flow.items c.block.new.flow e.flow.within (omega (arith, ap (value_of arcs) c.deref_mut.ensures.value, e.more)))
+
+pub returns-clause-least : goal.returns-clause-least
+returns-clause-least c =
+    let net = c.args.net.now in
+    let e = c.searches-test.ensures in
+    least_side net.arcs.items (length net.first.items) net.is_network.joins (omega (arith, net.is_network.ends)) c.searches.allotment.flow.items c.seek.new.search c.searches.invariant.free.is_flow e.search (e.out refl) (sym e.found)

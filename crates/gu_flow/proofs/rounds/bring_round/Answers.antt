@@ -5,7 +5,7 @@ use Rattle.std.proofs.lemmas.List.{get_or_default}
 use Rattle.gu_flow.specs.declared.searching.Mark.{Mark}
 use Rattle.gu_flow.specs.Ends.{is_tail, far}
 use Rattle.gu_flow.specs.Floors.{KeepsFloors}
-use Rattle.gu_flow.specs.Searches.{no_mark, depth_at, mark_at}
+use Rattle.gu_flow.specs.Searches.{no_mark, level_at, mark_at}
 use Rattle.gu_flow.proofs.Raising.{head_of, round_ends, round_is_flow, tail_of}
 use Rattle.gu_flow.proofs.rounds.bring_round.Goals as goal
 
@@ -16,7 +16,7 @@ push-requires-clause-room c =
     let marks = c.args.search.now.marks.items in
     let node = c.near-tail.result in
     let mark : c.index.result.now ≡ mark_at marks node = c.index.ensures ∙ get_or_default marks node c.index.result.now no_mark (omega (arith, c.requires.places.marks, c.near-tail.ensures.within)) in
-    let found = subst (λ n. 0 < depth_at marks n) (sym (c.near-tail.ensures.is ∙ tail_of arcs place)) c.requires.ends.1 in
+    let found = subst (λ n. 0 < level_at marks n) (sym (c.near-tail.ensures.is ∙ tail_of arcs place)) c.requires.ends.1 in
     let tail : is_tail (2 * place) ≡ true = eq-eqb ((2 * place) % 2) 0 (omega arith) in
     let half : 2 * place / 2 ≡ place = omega arith in
     rw (tail, half) (omega (arith, c.push_along.ensures.floor place c.requires.place.1 (sym c.requires.ends.0), c.requires.fits, ap (λ (m : Mark). m.lots) mark, c.requires.tree.most_lots node found))

@@ -1,5 +1,5 @@
 use Rattle.std.proofs.Common.{◌<◌, length}
-use Rattle.gu_flow.specs.Searches.{depth_at}
+use Rattle.gu_flow.specs.Searches.{level_at}
 use Rattle.gu_flow.proofs.RoundPushing.{RoundPushing}
 use Rattle.gu_flow.proofs.rounds.push_along.Given as goal
 
@@ -10,4 +10,4 @@ invariant-loop-node l = record {
 }
 
 abbrev pub decreases-loop-node : goal.decreases-loop-node
-decreases-loop-node l = depth_at l.search.marks.items l.node
+decreases-loop-node l = level_at l.search.marks.items l.node

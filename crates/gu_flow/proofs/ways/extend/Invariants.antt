@@ -1,10 +1,10 @@
 use Rattle.std.proofs.Common.{◌+◌, ◌*◌, sum}
-use Rattle.gu_flow.specs.Levels.{level_at}
+use Rattle.gu_flow.specs.Searches.{level_at}
 use Rattle.gu_flow.proofs.Descents.{Descending}
 use Rattle.gu_flow.proofs.ways.extend.Given as goal
 
 abbrev pub invariant-steps : goal.invariant-steps
-invariant-steps l = Descending l.net.arcs.items l.flow l.entries l.current l.way l.steps l.node
+invariant-steps l = Descending l.net.arcs.items l.flow l.marks l.current l.way l.steps l.node
 
 abbrev pub decreases-steps : goal.decreases-steps
-decreases-steps l = 2 * sum l.current + level_at l.entries l.node
+decreases-steps l = 2 * sum l.current + level_at l.marks l.node

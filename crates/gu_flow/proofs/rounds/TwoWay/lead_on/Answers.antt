@@ -4,7 +4,7 @@ use Rattle.gu_flow.specs.declared.searching.Mark.{Mark}
 use Rattle.gu_flow.specs.declared.searching.Search.{Search}
 use Rattle.gu_flow.specs.Ends.{near, far, other_end}
 use Rattle.gu_flow.specs.Rounds.{room_inside}
-use Rattle.gu_flow.specs.Searches.{no_mark, depth_at, mark_at}
+use Rattle.gu_flow.specs.Searches.{no_mark, level_at, mark_at}
 use Rattle.gu_flow.proofs.RoundPushing.{keeps_on, leads_on, LeadsOn}
 use Rattle.gu_flow.proofs.rounds.TwoWay.lead_on.Goals as goal
 
@@ -19,7 +19,7 @@ reach-requires-clause-end c =
     let on : LeadsOn arcs c.args.allotment.now back.marks.items l.node (mark_at back.marks.items l.node).via =
     leads_on arcs c.args.allotment.now back l.node c.requires.under_way.back.tree c.requires.under_way.are.against (λ is. c.loop-node-test.true (is ∙ sym (ap (λ (s : Search). s.from) same))) i.behind in
     let end : c.other_end.result ≡ other_end (mark_at back.marks.items l.node).via = c.other_end.ensures ∙ ap (λ (m : Mark). other_end m.via) mark in
-    rw end (on.end_in, subst (λ n. 0 < depth_at l.self.ahead.marks.items n) (sym on.here) i.reached)
+    rw end (on.end_in, subst (λ n. 0 < level_at l.self.ahead.marks.items n) (sym on.here) i.reached)
 
 pub loop-node-preserved : goal.loop-node-preserved
 loop-node-preserved c =
@@ -44,6 +44,6 @@ loop-node-preserved c =
       keeps = keeps_on c.args.self.now.ahead l.self.ahead c.reach.new.self i.keeps e.keeps;
       same = i.same;
       within = c.near-node.ensures.within;
-      reached = subst (λ n. 0 < depth_at c.reach.new.self.marks.items n) (ap (far arcs) end ∙ on.next ∙ sym next) (e.reached some);
-      behind = subst (λ n. 0 < depth_at back.marks.items n) (sym next) on.before;
+      reached = subst (λ n. 0 < level_at c.reach.new.self.marks.items n) (ap (far arcs) end ∙ on.next ∙ sym next) (e.reached some);
+      behind = subst (λ n. 0 < level_at back.marks.items n) (sym next) on.before;
     }

@@ -4,7 +4,7 @@ use Rattle.std.proofs.lemmas.List.Sums.{count_by-le-length}
 use Rattle.gu_flow.specs.declared.searching.Mark.{Mark}
 use Rattle.gu_flow.specs.Ends.{last_before}
 use Rattle.gu_flow.specs.Rounds.{room_inside}
-use Rattle.gu_flow.specs.Searches.{IsMarkTree, IsSearch}
+use Rattle.gu_flow.specs.Searches.{IsTree, IsSearch}
 use Rattle.gu_flow.proofs.Looking.{search_turns, search_goes_on}
 use Rattle.gu_flow.proofs.searching.Search.look.Goals as goal
 
@@ -39,4 +39,4 @@ returns-clause-search c =
     let next = c.ends_before-self.ensures.is in
     subst (λ b. IsSearch arcs (room_inside arcs a b) now) (sym e.keeps.back)
     (search_goes_on arcs (room_inside arcs a s.back) s c.requires.search c.requires.on (omega (arith, c.if-self-eq0.false)) now c.ends_before-self.result next e.keeps e.position.0 e.position.1
-    (subst (λ b. IsMarkTree arcs (room_inside arcs a b) now.from now.marks.items) e.keeps.back e.tree) e.waits e.reached)
+    (subst (λ b. IsTree arcs (room_inside arcs a b) now.from now.marks.items) e.keeps.back e.tree) e.waits e.reached)
