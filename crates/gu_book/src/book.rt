@@ -7,6 +7,7 @@ ghost use Rattle.gu_terms.specs.Histories.{lots_swept};
 ghost use Rattle.gu_trades.specs.Reports.{report_by};
 ghost use Rattle.gu_offers.specs.Rows.{left_in};
 ghost use Rattle.gu_ref.specs.Reference.{is_group};
+ghost use Rattle.gu_ref.specs.Rules.{IsSound};
 ghost use Rattle.gu_rules.specs.Legal.{IsLegal, MayFollow, StandsLast};
 ghost use Rattle.gu_rules.specs.Answer.{answer, group_of};
 ghost use Rattle.gu_rules.specs.Limits.{limit_rows};
@@ -557,6 +558,7 @@ impl Book {
     pub fn history(&self) -> &History
         ensures history { result.now ≡ self.now.history }
         ensures legal { IsLegal self.now.reference self.now.history }
+        ensures sound { IsSound self.now.reference }
         ensures orderly { IsOrderly self.now.history }
 
         // Over all accounts, as many lots of each instrument are held long as short.

@@ -16,7 +16,8 @@ use Rattle.gu_ref.specs.Accepted.{is_known, is_own, is_twice, is_full, row_fault
 use Rattle.gu_ref.specs.Reference.{is_firm, account_row, agreement_row}
 use Rattle.gu_ref.specs.Growth.{with_row, Passes}
 use Rattle.gu_ref.specs.Listed.{is_between, agreement_for, guarantor_for}
-use Rattle.gu_ref.specs.Rules.{IsSound, IsOnce, IsWithinLimits, same_pair}
+use Rattle.gu_ref.specs.Rows.{has_names}
+use Rattle.gu_ref.specs.Rules.{AreNamed, IsSound, IsOnce, IsWithinLimits, same_pair}
 use Rattle.gu_terms.specs.Same.{same_firm, same_group, same_account, same_agreement}
 use Rattle.gu_ref.specs.Tables.{Tables}
 use Rattle.gu_ref.proofs.FewGuarantors.{few_guarantors}
@@ -32,10 +33,10 @@ tests true false false true a b c d h = cc
 tests true false false false a b c d h = (refl, refl, refl, refl)
 
 -- a row without a fault passes every test
-pub passes-no_fault : (t : Tables) (line : ℕ) (row : Row) → row_fault t line row ≡ None → Passes t row
-passes-no_fault t line row h =
+pub passes-no_fault : (t : Tables) (line : ℕ) (row : Row) → row_fault t line row ≡ None → has_names row ≡ true → Passes t row
+passes-no_fault t line row h names =
     let p = tests (is_known t row) (is_own t row) (is_twice t row) (is_full t row) _ _ _ _ h in
-    record { known = p.0; foreign = p.1; new = p.2; room = p.3 }
+    record { known = p.0; foreign = p.1; new = p.2; room = p.3; names = names }
 
 -- an element of a list is one of a longer list
 any-more : {X : Type 0} (test : X → Bool) (xs ys : List X) → list_any test xs ≡ true → list_any test (xs ++ ys) ≡ true
@@ -145,6 +146,15 @@ all-more p q xs f a = λ k d h. f (slice_index_or xs k d) (a k d h)
 all-push : {X : Type 0} (p : X → Bool) (xs : List X) (x : X) → AllPass p xs → p x ≡ true → AllPass p (xs ++ x ∷ [])
 all-push p xs x a one = All-append (λ y. p y ≡ true) xs (x ∷ []) a (all-one (λ y. p y ≡ true) x one)
 
+-- each name still is one after a row that has names
+named-more : (t : Tables) (new : Row) → AreNamed t → has_names new ≡ true → AreNamed (with_row t new)
+named-more t (row.Firm f) n h = record { firms = all-push (λ x. has_names (row.Firm x)) t.firms f n.firms h; groups = n.groups; instruments = n.instruments; accounts = n.accounts; agreements = n.agreements; guarantors = n.guarantors }
+named-more t (row.Group g) n h = record { firms = n.firms; groups = all-push (λ x. has_names (row.Group x)) t.groups g n.groups h; instruments = n.instruments; accounts = n.accounts; agreements = n.agreements; guarantors = n.guarantors }
+named-more t (row.Instrument i) n h = record { firms = n.firms; groups = n.groups; instruments = all-push (λ x. has_names (row.Instrument x)) t.instruments i n.instruments h; accounts = n.accounts; agreements = n.agreements; guarantors = n.guarantors }
+named-more t (row.Account a) n h = record { firms = n.firms; groups = n.groups; instruments = n.instruments; accounts = all-push (λ x. has_names (row.Account x)) t.accounts a n.accounts h; agreements = n.agreements; guarantors = n.guarantors }
+named-more t (row.Agreement a) n h = record { firms = n.firms; groups = n.groups; instruments = n.instruments; accounts = n.accounts; agreements = all-push (λ x. has_names (row.Agreement x)) t.agreements a n.agreements h; guarantors = n.guarantors }
+named-more t (row.Guarantor g) n h = record { firms = n.firms; groups = n.groups; instruments = n.instruments; accounts = n.accounts; agreements = n.agreements; guarantors = all-push (λ x. has_names (row.Guarantor x)) t.guarantors g n.guarantors h }
+
 -- the rules still hold after a row that passes every test
 pub sound-more : (t : Tables) (new : Row) → IsSound t → Passes t new → IsSound (with_row t new)
 sound-more t (row.Firm f) s p = record {
@@ -156,6 +166,7 @@ sound-more t (row.Firm f) s p = record {
   others = s.others;
   once = once-more t (row.Firm f) s.once p.new;
   within = within-more t (row.Firm f) s.within p.room s.within.guarantors;
+  names = named-more t (row.Firm f) s.names p.names;
 }
 sound-more t (row.Group g) s p = record {
   groups = all-more (λ x. is_known t (row.Instrument x)) (λ x. is_known (with_row t (row.Group g)) (row.Instrument x)) t.instruments (λ x. known-more t (row.Group g) (row.Instrument x)) s.groups;
@@ -166,6 +177,7 @@ sound-more t (row.Group g) s p = record {
   others = s.others;
   once = once-more t (row.Group g) s.once p.new;
   within = within-more t (row.Group g) s.within p.room s.within.guarantors;
+  names = named-more t (row.Group g) s.names p.names;
 }
 sound-more t (row.Instrument i) s p = record {
   groups = all-push (λ x. is_known t (row.Instrument x)) t.instruments i s.groups p.known;
@@ -176,6 +188,7 @@ sound-more t (row.Instrument i) s p = record {
   others = s.others;
   once = once-more t (row.Instrument i) s.once p.new;
   within = within-more t (row.Instrument i) s.within p.room s.within.guarantors;
+  names = named-more t (row.Instrument i) s.names p.names;
 }
 sound-more t (row.Account a) s p = record {
   groups = s.groups;
@@ -186,6 +199,7 @@ sound-more t (row.Account a) s p = record {
   others = s.others;
   once = once-more t (row.Account a) s.once p.new;
   within = within-more t (row.Account a) s.within p.room s.within.guarantors;
+  names = named-more t (row.Account a) s.names p.names;
 }
 sound-more t (row.Agreement a) s p = record {
   groups = s.groups;
@@ -196,6 +210,7 @@ sound-more t (row.Agreement a) s p = record {
   others = s.others;
   once = once-more t (row.Agreement a) s.once p.new;
   within = within-more t (row.Agreement a) s.within p.room s.within.guarantors;
+  names = named-more t (row.Agreement a) s.names p.names;
 }
 sound-more t (row.Guarantor g) s p =
     let once = once-more t (row.Guarantor g) s.once p.new in
@@ -209,6 +224,7 @@ sound-more t (row.Guarantor g) s p =
       others = all-push (λ x. not (is_own t (row.Guarantor x))) t.guarantors g s.others (not-false _ p.foreign);
       once = once;
       within = within-more t (row.Guarantor g) s.within p.room (few_guarantors (with_row t (row.Guarantor g)) once.guaranteed known s.within.firms);
+      names = named-more t (row.Guarantor g) s.names p.names;
     }
 
 -- the rules hold for no rows
@@ -223,6 +239,14 @@ sound-empty = record {
   others = λ k d h. absurd (omega arith);
   once = record { firms = tt; groups = tt; symbols = tt; accounts = tt; agreements = tt; pairs = tt; guaranteed = tt };
   within = record { firms = omega arith; groups = omega arith; instruments = omega arith; accounts = omega arith; agreements = omega arith; guarantors = omega arith };
+  names = record {
+    firms = λ k d h. absurd (omega arith);
+    groups = λ k d h. absurd (omega arith);
+    instruments = λ k d h. absurd (omega arith);
+    accounts = λ k d h. absurd (omega arith);
+    agreements = λ k d h. absurd (omega arith);
+    guarantors = λ k d h. absurd (omega arith);
+  };
 }
 
 -- the rules hold after a push that succeeded, and as before after one that was refused

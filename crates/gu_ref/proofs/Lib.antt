@@ -6,4 +6,5 @@ pub mod KeptGuarantors
 pub mod Lookups
 pub mod OneAnswer
 pub mod ReadSoFar
+pub mod RowNames
 pub mod RowReading

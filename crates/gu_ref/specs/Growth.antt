@@ -3,7 +3,7 @@ use Rattle.std.specs.Prelude.{ℕ, ◌≡◌, true, false, ◌+◌, List, [], �
 use Rattle.gu_ref.specs.declared.row.Row.{Row}
 use Rattle.gu_ref.specs.declared.row.Row.TheVariants as row
 use Rattle.gu_ref.specs.Accepted.{is_known, is_own, is_twice, is_full}
-use Rattle.gu_ref.specs.Rows.{row_of}
+use Rattle.gu_ref.specs.Rows.{has_names, row_of}
 use Rattle.gu_ref.specs.Tables.{Tables}
 
 -- the tables with one more row, added last in its kind
@@ -34,9 +34,10 @@ abbrev pub outcome_of : {T E : Type 0} → Result T E → Option E
 outcome_of (Ok x) = None
 outcome_of (Err e) = Some e
 
--- a row passes every test
+-- a row passes every test, and each name in it has the form of a name
 pub record Passes (t : Tables) (row : Row) : Type 0 where
   pub known : is_known t row ≡ true
   pub foreign : is_own t row ≡ false
   pub new : is_twice t row ≡ false
   pub room : is_full t row ≡ false
+  pub names : has_names row ≡ true

@@ -1,5 +1,5 @@
 -- The row in a record's fields: its kind and its names.
-use Rattle.std.specs.Prelude.{ℕ, List, [], ◌∷◌, codes, Option, Some, None, if◌then◌else◌}
+use Rattle.std.specs.Prelude.{ℕ, Bool, ◌&&◌, List, [], ◌∷◌, codes, Option, Some, None, if◌then◌else◌}
 use Rattle.std.specs.List.{list_all}
 use Rattle.std.specs.Str.{bytes_eq}
 use Rattle.gu_terms.specs.Names.{is_name}
@@ -51,3 +51,12 @@ row_of_names kind _ = None
 abbrev pub row_of : List (List ℕ) → Option Row
 row_of [] = None
 row_of (kind ∷ names) = if list_all is_name names then row_of_names kind names else None
+
+-- each name in a row has the form of a name: one to twelve capital letters, digits and `-`
+abbrev pub has_names : Row → Bool
+has_names (row.Firm f) = is_name f.name
+has_names (row.Group g) = is_name g.name
+has_names (row.Instrument i) = is_name i.symbol.name && is_name i.group.name
+has_names (row.Account a) = is_name a.account.name && is_name a.firm.name
+has_names (row.Agreement a) = is_name a.id.name && is_name a.executing.name && is_name a.account.name
+has_names (row.Guarantor g) = is_name g.guarantor.name && is_name g.firm.name

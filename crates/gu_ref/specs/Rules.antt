@@ -4,6 +4,7 @@ use Rattle.std.specs.List.{AllPass, IsDistinct}
 use Rattle.gu_ref.specs.declared.row.Row.TheVariants as row
 use Rattle.gu_ref.specs.declared.agreements.Agreement.{Agreement}
 use Rattle.gu_ref.specs.Accepted.{is_known, is_own}
+use Rattle.gu_ref.specs.Rows.{has_names}
 use Rattle.gu_terms.specs.Same.{same_firm, same_group, same_symbol, same_account, same_agreement}
 use Rattle.gu_ref.specs.Tables.{Tables}
 
@@ -30,8 +31,17 @@ pub record IsOnce (t : Tables) : Type 0 where
   pub pairs : IsDistinct same_pair t.agreements
   pub guaranteed : IsDistinct (λ a b. same_firm a.firm b.firm) t.guarantors
 
--- the rules: what rows name is declared, no firm has an agreement for its own account or is its own guarantor, and nothing is declared
--- twice or beyond a limit
+-- each name in each row has the form of a name
+pub record AreNamed (t : Tables) : Type 0 where
+  pub firms : AllPass (λ f. has_names (row.Firm f)) t.firms
+  pub groups : AllPass (λ g. has_names (row.Group g)) t.groups
+  pub instruments : AllPass (λ i. has_names (row.Instrument i)) t.instruments
+  pub accounts : AllPass (λ a. has_names (row.Account a)) t.accounts
+  pub agreements : AllPass (λ a. has_names (row.Agreement a)) t.agreements
+  pub guarantors : AllPass (λ g. has_names (row.Guarantor g)) t.guarantors
+
+-- the rules: what rows name is declared, no firm has an agreement for its own account or is its own guarantor, nothing is declared twice or
+-- beyond a limit, and each name has the form of a name
 pub record IsSound (t : Tables) : Type 0 where
   pub groups : AllPass (λ i. is_known t (row.Instrument i)) t.instruments
   pub firms : AllPass (λ a. is_known t (row.Account a)) t.accounts
@@ -41,3 +51,4 @@ pub record IsSound (t : Tables) : Type 0 where
   pub others : AllPass (λ g. not (is_own t (row.Guarantor g))) t.guarantors
   pub once : IsOnce t
   pub within : IsWithinLimits t
+  pub names : AreNamed t

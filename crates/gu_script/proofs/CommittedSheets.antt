@@ -1,16 +1,15 @@
 -- Each committed sweep of a legal history prints a right sheet.
 use Rattle.std.proofs.Common.{◌≡◌, ℕ, zero, suc, ◌<◌, List, [], ◌∷◌, take, slice_get, sym, ◌∙◌, subst, arith, refl}
-use Rattle.std.specs.List.{AllByRecursion}
 use Rattle.std.proofs.lemmas.List.{length-take, take-take}
-use Rattle.std.proofs.lemmas.List.Elements.{All-from_recursion, All-take, recursion_from_All}
 use Rattle.std.proofs.lemmas.Option.{slice_get_within}
 use Rattle.gu_terms.specs.declared.entry.Entry.{Entry}
 use Rattle.gu_terms.specs.declared.entry.Entry.TheVariants.{Swept}
+use Rattle.gu_ref.specs.Rules.{IsSound}
 use Rattle.gu_ref.specs.Tables.{Tables}
 use Rattle.gu_view.proofs.Checked.{ok_from_right}
 use Rattle.gu_rules.specs.Legal.{IsLegal, MayFollow}
 use Rattle.gu_rules.specs.Views.{group_view}
-use Rattle.gu_script.specs.CommittedSheets.{AreTyped, HasLots, PrintRightSheets}
+use Rattle.gu_script.specs.CommittedSheets.{PrintRightSheets}
 use Rattle.gu_text.specs.WrittenSheets.{cut_of, takes_of}
 use Rattle.gu_script.proofs.GroupViews.{few_touches, is_view, named, nested}
 use Rattle.gu_text.proofs.SheetAgain.{written_sheet}
@@ -39,33 +38,19 @@ legal_first reference history k legal = record {
       subst (λ (before : List Entry). MayFollow reference before entry) (sym (take-take j k history (omega (arith, less)))) (legal.each j entry (sym (taken_entry history k j less) ∙ at));
 }
 
-first_each : (P : Entry → Type 0) (history : List Entry) (k : ℕ) → AllByRecursion P history → AllByRecursion P (take k history)
-first_each P history k each = recursion_from_All P (take k history) (All-take P k history (All-from_recursion P history each))
-
-typed_first : (reference : Tables) (history : List Entry) (k : ℕ) → AreTyped reference history → AreTyped reference (take k history)
-typed_first reference history k typed = record {
-  sound = typed.sound;
-  groups = typed.groups;
-  accounts = typed.accounts;
-  agreements = typed.agreements;
-  guarantors = typed.guarantors;
-  lots = first_each HasLots history k typed.lots;
-}
-
 -- ---- the sheet
 
-pub prints_right : (reference : Tables) (history : List Entry) → AreTyped reference history → IsLegal reference history → PrintRightSheets reference history
-prints_right reference history typed legal k sweep at =
+pub prints_right : (reference : Tables) (history : List Entry) → IsSound reference → IsLegal reference history → PrintRightSheets reference history
+prints_right reference history rules legal k sweep at =
     let before = take k history in
     let group = sweep.group in
     let view = group_view reference before group in
     let may = legal.each k (Swept sweep) at in
     let right = may.sweeps.right in
-    let told = typed_first reference history k typed in
     let first = legal_first reference history k legal in
-    let sound = is_view reference before group told first in
-    let writable = right_writable view sweep.takes sweep.cut sweep.lots sound (nested reference before group told first) (named reference before group told first may.known)
-    (few_touches reference before group told first) right in
+    let sound = is_view reference before group rules first in
+    let writable = right_writable view sweep.takes sweep.cut sweep.lots sound (nested reference before group rules first) (named reference before group rules first may.known)
+    (few_touches reference before group rules first) right in
     record {
       sheet = written_sheet view sweep.takes sweep.cut sound writable;
       right = ok_from_right view sound (takes_of view sweep.takes) (cut_of view sweep.cut) sweep.lots (right_again view sweep.takes sweep.cut sweep.lots right);

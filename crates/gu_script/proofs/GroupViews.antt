@@ -1,5 +1,5 @@
 -- The view of a group after a legal history: it has the properties of every view, is nested, and its names and numbers can be written.
-use Rattle.std.proofs.Common.{◌≡◌, ℕ, suc, ◌+◌, ◌*◌, ◌<◌, ◌≤◌, ◌&&◌, ◌++◌, Bool, true, false, not, cond, List, [], ◌∷◌, length, map, filter, nat_lt, Option, Some, None, unwrap_or, refl, sym, ap, ◌∙◌, subst, arith, inl, inr, ◌^◌, length-append}
+use Rattle.std.proofs.Common.{◌≡◌, ℕ, suc, ◌+◌, ◌*◌, ◌<◌, ◌≤◌, ◌&&◌, ◌++◌, Bool, true, false, not, cond, List, [], ◌∷◌, length, map, filter, nat_lt, slice_get, Option, Some, None, unwrap_or, refl, sym, ap, ◌∙◌, subst, arith, inl, inr, ◌^◌, length-append}
 use Rattle.std.specs.Prelude.{IsTrue, if◌then◌else◌}
 use Rattle.std.specs.List.{AllByRecursion, cons_option, filter_map, flat_map, list_all}
 use Rattle.std.specs.Option.{option_and_then, option_map}
@@ -31,7 +31,7 @@ use Rattle.gu_terms.specs.declared.reply.Done.TheVariants.{LimitSet, Offered}
 use Rattle.gu_terms.specs.declared.reply.Reply.TheVariants.{Accepted}
 use Rattle.gu_ref.specs.Listed.{guarantor_for, has_group}
 use Rattle.gu_ref.specs.Reference.{account_row, agreement_row, guarantor_of, is_group}
-use Rattle.gu_ref.specs.Rules.{IsSound}
+use Rattle.gu_ref.specs.Rules.{AreNamed, IsSound}
 use Rattle.gu_ref.specs.Tables.{Tables}
 use Rattle.gu_ref.specs.declared.accounts.Account.{Account}
 use Rattle.gu_ref.specs.declared.agreements.Agreement.{Agreement}
@@ -46,7 +46,7 @@ use Rattle.gu_view.specs.View.{IsNested, IsView, firsts, keys_of}
 use Rattle.gu_view.specs.declared.view.ViewOffer.{ViewOffer}
 use Rattle.gu_view.specs.declared.view.Room.{Room}
 use Rattle.gu_rules.specs.Answer.{done_of, most_limit, state_of, tests_of}
-use Rattle.gu_rules.specs.Legal.{IsLegal, MayFollow}
+use Rattle.gu_rules.specs.Legal.{IsLegal, MayBeEntered, MayFollow}
 use Rattle.gu_rules.specs.Limits.{limit_of, limit_set_by, room_of}
 use Rattle.gu_rules.specs.Offers.{lines_by, offers_of, standing_from, standing_of}
 use Rattle.gu_rules.specs.Orderly.{IsBalanced}
@@ -63,7 +63,6 @@ use Rattle.gu_rules.proofs.Onward.{each_legal}
 use Rattle.gu_rules.proofs.Passing.{none_stands}
 use Rattle.gu_rules.proofs.VersionLemmas.{version-le}
 use Rattle.gu_rules.proofs.ViewLemmas.{HasPath, have_paths, none_bad_offer, none_differs, offers-are, shows_offer}
-use Rattle.gu_script.specs.CommittedSheets.{AreTyped, HasLots}
 use Rattle.gu_text.specs.WrittenSheets.{IsNamed}
 
 -- ---- lots of offers
@@ -74,13 +73,17 @@ line_lots : (firm : FirmId) (report : Id) (group : Group) (lines : List Line) �
 line_lots firm report group [] h = tt
 line_lots firm report group (l ∷ lines) h = (h.0, line_lots firm report group lines h.1)
 
-made_lots : (entry : Entry) → HasLots entry → AllByRecursion (λ (o : GivenUp). IsLots o.lots) (lines_by entry)
-made_lots (Asked (GiveUp it) (Accepted (Offered group first count))) h = line_lots it.firm it.report group it.lines h
+made_lots : (entry : Entry) → MayBeEntered entry → AllByRecursion (λ (o : GivenUp). IsLots o.lots) (lines_by entry)
+made_lots (Asked (GiveUp it) (Accepted (Offered group first count))) h =
+    line_lots it.firm it.report group it.lines (recursion_from_All (λ (l : Line). IsLots l.lots) it.lines h.lots)
 made_lots entry h = tt
 
-offers_lots : (history : List Entry) → AllByRecursion HasLots history → AllByRecursion (λ (o : GivenUp). IsLots o.lots) (offers_of history)
-offers_lots [] h = tt
-offers_lots (entry ∷ history) h = all-append (λ (o : GivenUp). IsLots o.lots) (lines_by entry) (offers_of history) (made_lots entry h.0) (offers_lots history h.1)
+offers_lots : (history : List Entry) → ((k : ℕ) (entry : Entry) → slice_get history k ≡ Some entry → MayBeEntered entry)
+    → AllByRecursion (λ (o : GivenUp). IsLots o.lots) (offers_of history)
+offers_lots [] entered = tt
+offers_lots (entry ∷ history) entered =
+    all-append (λ (o : GivenUp). IsLots o.lots) (lines_by entry) (offers_of history) (made_lots entry (entered 0 entry refl))
+    (offers_lots history (λ k later at. entered (suc k) later at))
 
 -- so the offers after a history are sound
 rows_sound : (history : List Entry) → IsBalanced history → (n : ℕ) (offers : List GivenUp) → AllByRecursion (λ (o : GivenUp). IsLots o.lots) offers
@@ -188,7 +191,7 @@ through_named : (executing : FirmId) (id : AgreementId) (account : AccountId) (c
 through_named executing id account carrying None e i a c g = rw (e, i, a, c) refl
 through_named executing id account carrying (Some firm) e i a c g = rw (e, i, a, c, g firm refl) refl
 
-module _ (reference : Tables) (history : List Entry) (typed : AreTyped reference history) where
+module _ (reference : Tables) (names : AreNamed reference) where
   -- a guarantor has a valid name
   guarantor_named : (firm guarantor : FirmId) → guarantor_of reference firm ≡ Some guarantor → is_name guarantor.name ≡ true
   guarantor_named firm guarantor is = by (guarantor_for reference.guarantors firm) refl is
@@ -198,8 +201,9 @@ module _ (reference : Tables) (history : List Entry) (typed : AreTyped reference
       by (Some g) e h =
           let same : g.guarantor ≡ guarantor = cc in
           subst (λ (f : FirmId). is_name f.name ≡ true) same
-          (all-found (λ (x : Guarantor). is_name x.guarantor.name ≡ true) (λ (x : Guarantor). same_firm x.firm firm) reference.guarantors g
-          (recursion_from_All (λ (x : Guarantor). is_name x.guarantor.name ≡ true) reference.guarantors typed.guarantors) e)
+          (both (is_name g.guarantor.name) (is_name g.firm.name)
+          (all-found (λ (x : Guarantor). (is_name x.guarantor.name && is_name x.firm.name) ≡ true) (λ (x : Guarantor). same_firm x.firm firm) reference.guarantors g
+          (recursion_from_All (λ (x : Guarantor). (is_name x.guarantor.name && is_name x.firm.name) ≡ true) reference.guarantors names.guarantors) e)).0
 
   -- so have the keys on the path of an agreement
   path_named : (id : AgreementId) (path : List LimitKey) → path_of reference id ≡ Some path → list_all (λ k. is_name (name_of_key k)) path ≡ true
@@ -211,12 +215,13 @@ module _ (reference : Tables) (history : List Entry) (typed : AreTyped reference
       of a found (Some c) e h =
           let same : path_through a.executing id a.account c.firm (guarantor_of reference c.firm) ≡ path = cc in
           let mine = all-found (λ (x : Agreement). (is_name x.id.name && is_name x.executing.name && is_name x.account.name) ≡ true) (λ (x : Agreement). same_agreement x.id id) reference.agreements a
-          (recursion_from_All (λ (x : Agreement). (is_name x.id.name && is_name x.executing.name && is_name x.account.name) ≡ true) reference.agreements typed.agreements) found in
+          (recursion_from_All (λ (x : Agreement). (is_name x.id.name && is_name x.executing.name && is_name x.account.name) ≡ true) reference.agreements names.agreements) found in
           let last = both (is_name a.id.name && is_name a.executing.name) (is_name a.account.name) mine in
           let first = both (is_name a.id.name) (is_name a.executing.name) last.0 in
           let own = (bytes_eq-Decides a.id.name id.name).0 (found_passes (λ (x : Agreement). same_agreement x.id id) reference.agreements a found) in
-          let carrying = all-found (λ (x : Account). is_name x.firm.name ≡ true) (λ (x : Account). same_account x.account a.account) reference.accounts c
-          (recursion_from_All (λ (x : Account). is_name x.firm.name ≡ true) reference.accounts typed.accounts) e in
+          let carrier = all-found (λ (x : Account). (is_name x.account.name && is_name x.firm.name) ≡ true) (λ (x : Account). same_account x.account a.account) reference.accounts c
+          (recursion_from_All (λ (x : Account). (is_name x.account.name && is_name x.firm.name) ≡ true) reference.accounts names.accounts) e in
+          let carrying = (both (is_name c.account.name) (is_name c.firm.name) carrier).1 in
           subst (λ (p : List LimitKey). list_all (λ k. is_name (name_of_key k)) p ≡ true) same
           (through_named a.executing id a.account c.firm (guarantor_of reference c.firm) first.1 (ap is_name (sym own) ∙ first.0) last.1 carrying (guarantor_named c.firm))
 
@@ -241,7 +246,7 @@ numbers_shown reference sound rows (n ∷ numbers) h = by (shown_at reference ro
 
 -- ---- the view
 
-module _ (reference : Tables) (history : List Entry) (group : Group) (typed : AreTyped reference history) (legal : IsLegal reference history) where
+module _ (reference : Tables) (history : List Entry) (group : Group) (sound : IsSound reference) (legal : IsLegal reference history) where
   abbrev rows : List Row
   rows = standing_of history
 
@@ -249,13 +254,13 @@ module _ (reference : Tables) (history : List Entry) (group : Group) (typed : Ar
   offers-given = offers-are reference (standing_of history) group
 
   paths_there : AllByRecursion (HasPath reference) (offers_shown reference history group)
-  paths_there = subst (AllByRecursion (HasPath reference)) (sym offers-given) (have_paths reference typed.sound rows (open_numbers rows group))
+  paths_there = subst (AllByRecursion (HasPath reference)) (sym offers-given) (have_paths reference sound rows (open_numbers rows group))
 
   none_bad : bad_offer (offers_shown reference history group) ≡ None
   none_bad =
       let ordered = legal_ordered reference history legal in
       ap bad_offer offers-given
-      ∙ none_bad_offer reference typed.sound rows group (rows_sound history ordered.order.balanced 1 (offers_of history) (offers_lots history typed.lots) ordered.order.within) ordered.shown
+      ∙ none_bad_offer reference sound rows group (rows_sound history ordered.order.balanced 1 (offers_of history) (offers_lots history legal.entered) ordered.order.within) ordered.shown
 
   pub is_view : IsView (group_view reference history group)
   is_view =
@@ -281,13 +286,13 @@ module _ (reference : Tables) (history : List Entry) (group : Group) (typed : Ar
 
   pub named : is_group reference group ≡ true → IsNamed (group_view reference history group)
   named known = record {
-    group = group_named reference.groups group (recursion_from_All (λ (g : Group). is_name g.name ≡ true) reference.groups typed.groups) known;
+    group = group_named reference.groups group (recursion_from_All (λ (g : Group). is_name g.name ≡ true) reference.groups sound.names.groups) known;
     numbers = All-from_recursion (λ (o : ViewOffer). IsOfferNo o.number) (offers_shown reference history group)
         (subst (AllByRecursion (λ (o : ViewOffer). IsOfferNo o.number)) (sym offers-given)
-        (numbers_shown reference typed.sound rows (open_numbers rows group)
+        (numbers_shown reference sound rows (open_numbers rows group)
         (along (λ m. (1 ≤ m) × (m < 1 + length rows)) IsOfferNo (open_numbers rows group)
         (λ m h. record { some = h.0; most = omega (arith, h.1, standing-length history 1 (offers_of history), few_offers_made reference history legal, legal.within) }) (numbers-within group 1 rows))));
     names = All-from_recursion (λ (o : ViewOffer). IsTrue (list_all (λ k. is_name (name_of_key k)) o.path)) (offers_shown reference history group)
         (along (HasPath reference) (λ (o : ViewOffer). list_all (λ k. is_name (name_of_key k)) o.path ≡ true) (offers_shown reference history group)
-        (λ o has. path_named reference history typed o.agreement o.path has) paths_there);
+        (λ o has. path_named reference sound.names o.agreement o.path has) paths_there);
   }

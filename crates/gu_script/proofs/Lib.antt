@@ -1,5 +1,7 @@
 mod CommittedSheets
 mod GroupViews
+pub mod OneChoice
+mod OneSheet
 pub mod ReplayLooks
 pub mod ReplayPieces
 pub mod ReplayRuns

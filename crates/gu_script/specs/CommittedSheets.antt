@@ -1,17 +1,12 @@
 -- Sheets of committed sweeps.
-use Rattle.std.specs.Prelude.{◌≡◌, ℕ, ◌&&◌, List, All, IsTrue, Ok, Some, slice_get, take}
-use Rattle.std.specs.List.{AllByRecursion}
+use Rattle.std.specs.Prelude.{◌≡◌, ℕ, List, Ok, Some, slice_get, take}
 use Rattle.gu_terms.specs.Cuts.{has_number}
 use Rattle.gu_terms.specs.LimitKeys.{has_key}
-use Rattle.gu_terms.specs.Names.{is_name}
-use Rattle.gu_terms.specs.Numbers.{IsLots}
 use Rattle.gu_terms.specs.Takes.{lots_of}
-use Rattle.gu_terms.specs.declared.command.Command.TheVariants.{GiveUp}
 use Rattle.gu_terms.specs.declared.entry.Entry.{Entry}
-use Rattle.gu_terms.specs.declared.entry.Entry.TheVariants.{Asked, Swept}
+use Rattle.gu_terms.specs.declared.entry.Entry.TheVariants.{Swept}
 use Rattle.gu_terms.specs.declared.entry.SweepEntry.{SweepEntry}
 use Rattle.gu_terms.specs.declared.limit_key.LimitKey.{LimitKey}
-use Rattle.gu_ref.specs.Rules.{IsSound}
 use Rattle.gu_ref.specs.Tables.{Tables}
 use Rattle.gu_view.specs.Check.{verdict}
 use Rattle.gu_view.specs.View.{GroupView}
@@ -35,18 +30,3 @@ PrintRightSheets reference history =
     (k : ℕ) (sweep : SweepEntry)
     → slice_get history k ≡ Some (Swept sweep)
     → PrintsRightSheet (group_view reference (take k history) sweep.group) sweep
-
--- if an entry is of a give-up, each of its lines has 1 to 1,000,000 lots
-abbrev pub HasLots : Entry → Type 0
-HasLots (Asked (GiveUp give_up) reply) = AllByRecursion (λ l. IsLots l.lots) give_up.lines
-HasLots entry = Unit {0}
-
--- invariants of the types of references and commands that these tables and lists alone don't have: the reference is sound, its names that
--- sheets print are valid, and the lines of a give-up have 1 to 1,000,000 lots each
-pub record AreTyped (reference : Tables) (history : List Entry) : Type 0 where
-  pub sound : IsSound reference
-  pub groups : All (λ g. IsTrue (is_name g.name)) reference.groups
-  pub accounts : All (λ a. IsTrue (is_name a.firm.name)) reference.accounts
-  pub agreements : All (λ a. IsTrue (is_name a.id.name && is_name a.executing.name && is_name a.account.name)) reference.agreements
-  pub guarantors : All (λ g. IsTrue (is_name g.guarantor.name)) reference.guarantors
-  pub lots : AllByRecursion HasLots history

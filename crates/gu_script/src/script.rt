@@ -198,6 +198,20 @@ impl Script {
         Ok(())
     }
 
+    /// Returns the number of lines done, including silent ones.
+    pub fn count(&self) -> u64
+        ensures { result ≡ self.now.count }
+    {
+        self.count
+    }
+
+    /// Returns the world that the lines so far led to.
+    pub fn world(&self) -> &World
+        ensures { result.now ≡ self.now.course }
+    {
+        &self.world
+    }
+
     /// Returns the world that the lines led to.
     pub fn into_world(self) -> World
         ensures { result ≡ self.course }

@@ -11,6 +11,7 @@ pub mod NumberLemmas
 pub mod PaddedLemmas
 pub mod Placed
 pub mod SameNames
+pub mod SameReports
 pub mod SameValues
 pub mod ShortNumbers
 pub mod Standing

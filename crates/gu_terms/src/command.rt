@@ -33,7 +33,7 @@ pub struct SetLimit {
 }
 
 /// A firm's report of its side of a trade (FIX: Trade Capture Report). Two sides with one match id make a trade.
-#[derive(Clone, Copy, Debug)]
+#[derive(Clone, Copy, Debug, PartialEq)]
 pub struct ReportSide {
     pub firm: FirmId,
     pub id: Id,
@@ -90,34 +90,6 @@ pub enum Command {
     Claim(Claim),
     Refuse(Refuse),
     Reverse(Reverse),
-}
-
-/// Returns whether two reports name the same day, or neither names one.
-fn is_same_day(day: Option<Day>, other: Option<Day>) -> bool
-    ensures { IsTrue result ↔ (day ≡ other) }
-{
-    match (day, other) {
-        (Some(day), Some(day_of_other)) => day.is_same(day_of_other),
-        (None, None) => true,
-        _ => false,
-    }
-}
-
-impl ReportSide {
-    /// Returns whether two reports are the same.
-    fn is_same(&self, other: &ReportSide) -> bool
-        ensures { IsTrue result ↔ (self.now ≡ other.now) }
-    {
-        self.firm == other.firm
-            && self.id == other.id
-            && self.match_id == other.match_id
-            && self.symbol == other.symbol
-            && self.lots == other.lots
-            && self.price == other.price
-            && is_same_day(self.day, other.day)
-            && self.side == other.side
-            && self.account == other.account
-    }
 }
 
 impl GiveUp {
@@ -177,7 +149,7 @@ impl Command {
         match (self, other) {
             (Command::OpenDay(a), Command::OpenDay(b)) => a.day.is_same(b.day),
             (Command::SetLimit(a), Command::SetLimit(b)) => a == b,
-            (Command::ReportSide(a), Command::ReportSide(b)) => a.is_same(b),
+            (Command::ReportSide(a), Command::ReportSide(b)) => a == b,
             (Command::GiveUp(a), Command::GiveUp(b)) => a.is_same(b),
             (Command::Claim(a), Command::Claim(b)) => a == b,
             (Command::Refuse(a), Command::Refuse(b)) => a == b,

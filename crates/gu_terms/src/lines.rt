@@ -1,7 +1,8 @@
 //! The lines of a give-up.
 
-ghost use Rattle.std.specs.Prelude.{◌≡◌, ◌↔◌, ◌≤◌, ◌∷◌, [], length, sum_by, IsTrue, IsSome, IfSome, IfOk};
-ghost use Rattle.gu_terms.specs.Lines.{AreLines, lots_in_all};
+ghost use Rattle.std.specs.Prelude.{◌≡◌, ◌↔◌, ◌≤◌, ◌∷◌, [], All, length, sum_by, IsTrue, IsSome, IfSome, IfOk};
+ghost use Rattle.gu_terms.specs.Lines.{AreFewLines, AreLines, lots_in_all};
+ghost use Rattle.gu_terms.specs.Numbers.{IsLots};
 
 use crate::account::AccountId;
 use crate::bounds::MOST_LINES;
@@ -34,6 +35,15 @@ impl Model for Lines {
     ghost invariant = { λ l. AreLines l.list.items };
 }
 
+/// Shows the prover that each line has 1 to 1,000,000 lots. Does nothing at run time.
+fn line_rules(lines: &[Line])
+    ensures { All (λ l. IsLots l.lots) lines.now }
+{
+    for line in lines {
+        let _ = line.lots.get();
+    }
+}
+
 impl Lines {
     /// Returns these lines, if there are 1 to 16.
     pub fn new(list: Vec<Line>) -> Option<Self>
@@ -43,14 +53,16 @@ impl Lines {
         if list.is_empty() || list.len() > MOST_LINES {
             return None;
         }
+        line_rules(&list);
         Some(Lines::known(list))
     }
 
     /// Returns these lines, of which there are known to be 1 to 16.
     pub fn known(list: Vec<Line>) -> Self
-        requires { AreLines list.items }
+        requires { AreFewLines list.items }
         ensures { result ≡ list.items }
     {
+        line_rules(&list);
         Lines { list }
     }
 
