@@ -227,7 +227,7 @@ fn what_is_no_line_is_bad_and_the_connection_goes_on(rt: HostRuntime) {
     assert_eq!(rt; heard, (1, 1));
 }
 
-/// Connections are cut, and the day is closed once.
+/// Connections are cut, the lead is asked for, and the day is closed once.
 const CLOSING: &str = "\
 > CUT 4
 CUT
@@ -241,11 +241,24 @@ UNKNOWN
 > CUT 0
 UNKNOWN
 .
+> LEAD
+BAD LINE
+.
+@ the day is in a log
+> LEAD
+LEADING
+.
+> LEAD 1
+BAD LINE
+.
 > DAY 20260105
 1 OK
 .
 > CLOSE
 CLOSING
++ LEAD
+LEADING
+.
 + CLOSE
 CLOSING
 .
@@ -295,6 +308,13 @@ BAD LINE
 BAD LINE
 .
 ? CLOSE
+BAD LINE
+.
+? LEAD
+BAD LINE
+.
+@ the day is in a log
+? LEAD
 BAD LINE
 .
 ? SEE 0 G1

@@ -43,6 +43,8 @@ pub fn book_of(alloc: Global) -> Option<Book> {
 pub struct TestOffice {
     firms: [FirmId; 1],
     is_closing: AtomicBool,
+    /// Whether the day is in a log.
+    is_in_log: AtomicBool,
 }
 
 /// The moment at which the connections are shown.
@@ -77,12 +79,18 @@ const CONNECTIONS: [ConnectionStatus; 2] = [
 ];
 
 impl TestOffice {
-    /// Creates the office of an open day.
+    /// Creates the office of an open day, which is in no log.
     pub fn new() -> Option<Self> {
         Some(TestOffice {
             firms: [FirmId::new(b"E1")?],
             is_closing: AtomicBool::new(false),
+            is_in_log: AtomicBool::new(false),
         })
+    }
+
+    /// Puts the day in a log, which the desk leads.
+    pub fn put_in_log(&self) {
+        self.is_in_log.store(true, Ordering::SeqCst);
     }
 }
 
@@ -117,6 +125,10 @@ impl Office for TestOffice {
 
     fn is_closing(&self) -> bool {
         self.is_closing.load(Ordering::SeqCst)
+    }
+
+    fn leads_log(&self) -> bool {
+        self.is_in_log.load(Ordering::SeqCst)
     }
 }
 

@@ -14,6 +14,7 @@ STATUS~ -> yes
 JOURNAL -> yes
 CUT 4 -> yes
 CLOSE -> yes
+LEAD -> yes
 DAY 20260105 -> yes
 LIMIT G1 EXEC E1 10 -> yes
 REPORT E1 R1 M1 B XF6 10 101.5 H1 -> yes
@@ -32,7 +33,7 @@ PROPOSE 0 -> no
 COMMIT 0 -> no
 CUT -> no
 CUT x -> no
-LEAD -> no
+LEAD 1 -> no
 status -> no
  STATUS -> no
 STATUS/ -> no
@@ -104,6 +105,9 @@ STALE 5 6// -> refused STALE 5 6/
 FULL// -> refused FULL/
 MEMORY// -> refused MEMORY/
 NOT LEADING// -> refused NOT LEADING/
+STALE// -> refused STALE/
+STALEST// -> answered STALEST/
+LEADING// -> answered LEADING/
 # NO/1 NO 1 NoDay// -> answered # NO/1 NO 1 NoDay/
 NO 1// -> answered NO 1/
 1 NOT// -> answered 1 NOT/

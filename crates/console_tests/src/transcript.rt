@@ -1,6 +1,6 @@
 //! Transcripts of three operators at one desk. A line after `> ` is one of the first operator, after `+ ` one of the second, and after
 //! `? ` one of a third that only watches. Below each are the lines of its answer, with `.` for the empty one. After `- ` is a line of the
-//! second operator whose answer isn't compared, and `! ` begins the next connection of the first.
+//! second operator whose answer isn't compared, `! ` begins the next connection of the first, and `@ ` puts the day in a log.
 
 ghost use Rattle.std.specs.Prelude.{◌≡◌};
 ghost use Rattle.gu_terms.specs.Histories.{lots_swept};
@@ -49,7 +49,7 @@ pub fn operator_of<'a, E: EntryLedger, S: LotLedger, R: Wait>(
 fn begins_told(line: &str) -> bool {
     matches!(
         line.as_bytes(),
-        [b'>' | b'+' | b'?' | b'-' | b'!', b' ', ..]
+        [b'>' | b'+' | b'?' | b'-' | b'!' | b'@', b' ', ..]
     )
 }
 
@@ -142,6 +142,8 @@ fn follow<E: EntryLedger, S: LotLedger, R: Wait + Abort>(
             assert_eq!(rt; said, Ok(Said::GoesOn), "{line}");
         } else if line.starts_with("! ") {
             first.begin();
+        } else if line.starts_with("@ ") {
+            room.office.put_in_log();
         }
     }
     drop(first.into_seat());

@@ -1,5 +1,5 @@
 //! The two clocks of a desk's machine.
-use gu_etcd::Moment;
+use gu_lease::Moment;
 
 /// The clocks of a machine. They run at a rate of their own, some parts in a thousand away from true time.
 #[derive(Clone, Copy)]

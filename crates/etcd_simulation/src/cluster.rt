@@ -67,6 +67,14 @@ pub struct Numbered {
     pub entry: Vec<u8>,
 }
 
+/// The transaction by which a desk takes the leadership from the desk that was seen to lead, if that one still does, and the number is free.
+#[derive(Clone, Copy, Debug, PartialEq, Eq)]
+pub struct Claim {
+    pub desk: DeskId,
+    pub former: DeskId,
+    pub number: u64,
+}
+
 /// A question that is still on its way.
 #[derive(Drop)]
 struct LateQuestion {
@@ -74,11 +82,19 @@ struct LateQuestion {
     question: Question,
 }
 
-/// The desk that leads, and when its lease ends.
+/// A claim that is still on its way.
+#[derive(Clone, Copy)]
+struct LateClaim {
+    due_ms: u64,
+    claim: Claim,
+}
+
+/// The desk that leads, when its lease ends, and whether it claimed the leadership from another one.
 #[derive(Clone, Copy)]
 struct Leadership {
     desk: DeskId,
     ends_ms: u64,
+    is_claimed: bool,
 }
 
 /// etcd, at a moment of true time.
@@ -90,6 +106,7 @@ pub struct Cluster {
     pub log: Vec<Numbered>,
     leadership: Option<Leadership>,
     late: Vec<LateQuestion>,
+    late_claims: Vec<LateClaim>,
     /// How many late questions were carried out.
     pub arrived: u64,
 }
@@ -103,6 +120,7 @@ impl Cluster {
             log: Vec::new(alloc),
             leadership: None,
             late: Vec::new(alloc),
+            late_claims: Vec::new(alloc),
             arrived: 0,
         }
     }
@@ -112,6 +130,14 @@ impl Cluster {
         match self.leadership {
             Some(leadership) => Some(leadership.desk),
             None => None,
+        }
+    }
+
+    /// Returns whether the desk that leads claimed the leadership from another one.
+    pub fn is_claimed(&self) -> bool {
+        match self.leadership {
+            Some(leadership) => leadership.is_claimed,
+            None => false,
         }
     }
 
@@ -137,6 +163,24 @@ impl Cluster {
                 self.late.push(one)?;
             }
         }
+        let late_claims = mem::replace(&mut self.late_claims, Vec::new(self.alloc));
+        for one in &late_claims {
+            if one.due_ms <= self.now_ms {
+                self.arrived = self.arrived.saturating_add(1);
+                let _ = self.claim(one.claim);
+            } else {
+                self.late_claims.push(*one)?;
+            }
+        }
+        Ok(())
+    }
+
+    /// Has a claim come late.
+    pub fn delay_claim(&mut self, claim: Claim, ms: u64) -> Result<(), AllocError> {
+        self.late_claims.push(LateClaim {
+            due_ms: self.now_ms.saturating_add(ms),
+            claim,
+        })?;
         Ok(())
     }
 
@@ -188,19 +232,35 @@ impl Cluster {
             self.leadership = Some(Leadership {
                 desk,
                 ends_ms: self.now_ms.saturating_add(LEASE_MS),
+                is_claimed: false,
             });
         }
         self.leader() == Some(desk)
     }
 
+    /// Carries out the transaction by which a desk claims the leadership, and returns whether it leads.
+    pub fn claim(&mut self, claim: Claim) -> bool {
+        if self.leader() == Some(claim.former) && self.entry_at(claim.number).is_none() {
+            self.leadership = Some(Leadership {
+                desk: claim.desk,
+                ends_ms: self.now_ms.saturating_add(LEASE_MS),
+                is_claimed: true,
+            });
+        }
+        self.leader() == Some(claim.desk)
+    }
+
     /// Has a desk's lease go on, and returns whether it does.
     pub fn keep_alive(&mut self, desk: DeskId) -> bool {
-        if self.leader() != Some(desk) {
+        let Some(leadership) = self.leadership else {
+            return false;
+        };
+        if leadership.desk != desk {
             return false;
         }
         self.leadership = Some(Leadership {
-            desk,
             ends_ms: self.now_ms.saturating_add(LEASE_MS),
+            ..leadership
         });
         true
     }

@@ -1,7 +1,7 @@
 //! A desk: what it knows of its leadership and of the log.
 use crate::clocks::Clocks;
 use crate::cluster::{DeskId, Seat};
-use gu_etcd::Lease;
+use gu_lease::Lease;
 
 /// How much earlier a desk takes its lease as ended.
 pub const MARGIN_MS: u64 = 500;
@@ -24,6 +24,8 @@ pub struct Desk {
     /// How many batches it has begun to append.
     pub batches: u64,
     pub lease: Option<Lease>,
+    /// The moment of its monotonic clock from which it serves: a desk that claimed the leadership waits, since the former one may answer yet.
+    pub serves_ms: u64,
     /// It has stopped: it appends nothing more and answers nothing more under this name.
     pub is_stopped: bool,
     pub clocks: Clocks,
@@ -39,6 +41,7 @@ impl Desk {
             count: 0,
             batches: 0,
             lease: None,
+            serves_ms: 0,
             is_stopped: true,
             clocks: Clocks {
                 monotonic_ms: 1_000_000,
@@ -59,6 +62,11 @@ impl Desk {
         }
     }
 
+    /// Returns whether it serves by now.
+    pub fn serves(&self) -> bool {
+        !self.is_stopped && self.serves_ms <= self.clocks.monotonic_ms
+    }
+
     /// Asks the desk's gate whether an answer may leave.
     pub fn may_answer(&mut self) -> bool {
         let moment = self.clocks.moment();
@@ -66,6 +74,6 @@ impl Desk {
             Some(lease) => lease.at(moment),
             None => None,
         };
-        self.lease.is_some() && !self.is_stopped
+        self.lease.is_some() && self.serves()
     }
 }

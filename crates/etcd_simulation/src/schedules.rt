@@ -16,7 +16,7 @@ fn next_entry(alloc: Global, id: DeskId, batches: u64) -> Result<Vec<u8>, AllocE
 /// Begins an entry of a desk, which may append it if it hasn't stopped. The entry is `None` if it may not.
 fn begin(world: &mut World, seat: Seat) -> Result<Option<Vec<u8>>, AllocError> {
     let mut desk = world.desk(seat);
-    if desk.is_stopped || desk.count > LAST_NUMBER {
+    if !desk.serves() || desk.count > LAST_NUMBER {
         return Ok(None);
     }
     desk.batches = desk.batches.saturating_add(1);
@@ -35,7 +35,7 @@ fn end(
     match outcome {
         Ok(count) => {
             desk.count = count;
-            world.acknowledge(count, entry)?;
+            world.acknowledge(desk.id, count, entry)?;
         }
         Err(error) => {
             if error == AppendError::Fenced {
@@ -91,6 +91,17 @@ fn is_awake(world: &mut World, seat: Seat) -> bool {
     !desk.is_asleep
 }
 
+/// Has a desk claim the lead, while the other one may append.
+fn claim(world: &mut World, seat: Seat) -> Result<(), AllocError> {
+    let Some(sight) = world.look_at_leader(seat)? else {
+        return Ok(());
+    };
+    if world.draw(3) == 0 {
+        append(world, seat.other())?;
+    }
+    world.claim(seat, sight)
+}
+
 /// Has a desk do something but append, and returns whether it did.
 fn act(world: &mut World, seat: Seat) -> Result<bool, AllocError> {
     match world.draw(12) {
@@ -99,9 +110,8 @@ fn act(world: &mut World, seat: Seat) -> Result<bool, AllocError> {
             let ms = world.draw(4_000);
             world.pass(ms)?;
         }
-        2 | 3 if world.desk(seat).is_stopped || world.desk(seat).lease.is_none() => world.lead(
-            seat,
-        )?,
+        2 if world.desk(seat).is_stopped || world.desk(seat).lease.is_none() => world.lead(seat)?,
+        3 if world.desk(seat).is_stopped || world.desk(seat).lease.is_none() => claim(world, seat)?,
         4 => world.renew(seat)?,
         5 | 6 => world.ask(seat),
         _ => return Ok(false),
@@ -148,6 +158,9 @@ fn add(total: &mut Coverage, one: Coverage) {
     total.refused_answers = total.refused_answers.saturating_add(one.refused_answers);
     total.two_leaders = total.two_leaders.saturating_add(one.two_leaders);
     total.takeovers = total.takeovers.saturating_add(one.takeovers);
+    total.claims = total.claims.saturating_add(one.claims);
+    total.stale_claims = total.stale_claims.saturating_add(one.stale_claims);
+    total.late_answers = total.late_answers.saturating_add(one.late_answers);
 }
 
 #[test]
@@ -163,5 +176,8 @@ fn whatever_comes_in_between_there_is_one_history(rt: HostRuntime) -> Result<(),
     assert!(rt; total.late > 1_000, "{total:?}");
     assert!(rt; total.two_leaders > 1_000, "{total:?}");
     assert!(rt; total.answers > 10_000, "{total:?}");
+    assert!(rt; total.claims > 1_000, "{total:?}");
+    assert!(rt; total.stale_claims > 1_000, "{total:?}");
+    assert!(rt; total.late_answers > 100, "{total:?}");
     Ok(())
 }

@@ -1,7 +1,8 @@
 //! Two desks, an etcd, and what comes between them.
-use crate::cluster::{Cluster, DeskId, LEASE_MS, Question, Seat};
+use crate::cluster::{Claim, Cluster, DeskId, LEASE_MS, Question, Seat};
 use crate::desk::{Desk, MARGIN_MS, Trouble};
-use gu_etcd::{Lease, NodeError, PutAnswer};
+use gu_etcd::{NodeError, PutAnswer};
+use gu_lease::{Lease, Moment};
 use rand_core::utils::NextWord;
 use rand_pcg::Pcg32;
 use std::alloc::{AllocError, Global};
@@ -9,7 +10,7 @@ use std::alloc::{AllocError, Global};
 /// What a schedule may show to be wrong.
 #[derive(Clone, Copy, Debug, PartialEq, Eq)]
 pub enum Fault {
-    /// A desk's gate let an answer leave, though another desk led.
+    /// A desk's gate let an answer leave, though another desk led that didn't claim the lead, or that had let something leave already.
     AnsweredAfterTheFence,
     /// An entry that was acknowledged isn't at its number.
     AcknowledgedAndLost,
@@ -31,6 +32,20 @@ pub struct Coverage {
     /// How often a desk had a lease by its own book, though another desk led.
     pub two_leaders: u64,
     pub takeovers: u64,
+    /// How often a desk claimed the lead from another one.
+    pub claims: u64,
+    /// How often a claim was refused.
+    pub stale_claims: u64,
+    /// How often an answer left after another desk had claimed the lead, which didn't serve yet.
+    pub late_answers: u64,
+}
+
+/// What a desk saw that claims the lead: when it asked, who leads, and how many entries there are.
+#[derive(Clone, Copy)]
+pub struct Sight {
+    asked: Moment,
+    former: DeskId,
+    count: u64,
 }
 
 /// An entry that a desk knows to be kept, at its number.
@@ -49,6 +64,8 @@ pub struct World {
     a: Desk,
     b: Desk,
     acknowledged: Vec<Acknowledged>,
+    /// The last desk, of those that came to lead one after another, that let something leave.
+    speaker: Option<DeskId>,
     pub fault: Option<Fault>,
     pub coverage: Coverage,
 }
@@ -66,6 +83,7 @@ impl World {
             a,
             b,
             acknowledged: Vec::new(alloc),
+            speaker: None,
             fault: None,
             coverage: Coverage::default(),
         }
@@ -149,8 +167,21 @@ impl World {
         Ok(answer)
     }
 
+    /// Notes that a desk lets something leave, if it leads.
+    fn speak(&mut self, desk: DeskId) {
+        if self.cluster.leader() == Some(desk) {
+            self.speaker = Some(desk);
+        }
+    }
+
     /// Notes that a desk knows an entry to be kept.
-    pub fn acknowledge(&mut self, number: u64, entry: Vec<u8>) -> Result<(), AllocError> {
+    pub fn acknowledge(
+        &mut self,
+        desk: DeskId,
+        number: u64,
+        entry: Vec<u8>,
+    ) -> Result<(), AllocError> {
+        self.speak(desk);
         self.coverage.acknowledged = self.coverage.acknowledged.saturating_add(1);
         self.acknowledged.push(Acknowledged { number, entry })?;
         Ok(())
@@ -173,10 +204,92 @@ impl World {
         desk.id = id;
         desk.is_stopped = !leads;
         desk.lease = None;
+        desk.serves_ms = 0;
         if leads {
             self.coverage.takeovers = self.coverage.takeovers.saturating_add(1);
             desk.lease = Some(Lease::new(asked, LEASE_MS, MARGIN_MS));
             desk.count = self.cluster.count();
+        }
+        self.set_desk(desk);
+        Ok(())
+    }
+
+    /// Has a machine look at who leads, and read the log, to claim the lead. If no other desk leads, it takes the lead, and there is nothing to
+    /// claim.
+    pub fn look_at_leader(&mut self, seat: Seat) -> Result<Option<Sight>, AllocError> {
+        let asked = self.desk(seat).clocks.moment();
+        let there = self.draw(300);
+        self.pass(there)?;
+        match self.cluster.leader() {
+            Some(former) if former != self.desk(seat).id => Ok(Some(Sight {
+                asked,
+                former,
+                count: self.cluster.count(),
+            })),
+            Some(_) => Ok(None),
+            None => {
+                self.lead(seat)?;
+                Ok(None)
+            }
+        }
+    }
+
+    /// Carries a claim to etcd, or loses it, or its answer. Returns whether the desk leads by it, if an answer comes.
+    fn carry_claim(&mut self, claim: Claim) -> Result<Option<bool>, AllocError> {
+        match self.draw(8) {
+            0 => Ok(None),
+            1 => {
+                let _ = self.cluster.claim(claim);
+                Ok(None)
+            }
+            2 => {
+                let ms = u64::from(self.draw(6_000));
+                self.cluster.delay_claim(claim, ms)?;
+                Ok(None)
+            }
+            3 => {
+                let ms = u64::from(self.draw(6_000));
+                self.cluster.delay_claim(claim, ms)?;
+                Ok(Some(self.cluster.claim(claim)))
+            }
+            // The answer to the first question got lost.
+            4 => {
+                let _ = self.cluster.claim(claim);
+                Ok(Some(self.cluster.claim(claim)))
+            }
+            _ => Ok(Some(self.cluster.claim(claim))),
+        }
+    }
+
+    /// Has a machine's desk begin anew, under a new name: it claims the lead from the desk that it saw, if that still leads and the log hasn't
+    /// grown. It serves once that desk's lease has ended.
+    pub fn claim(&mut self, seat: Seat, sight: Sight) -> Result<(), AllocError> {
+        let mut desk = self.desk(seat);
+        let there = self.draw(300);
+        self.pass(there)?;
+        let id = DeskId {
+            seat,
+            term: desk.id.term.saturating_add(1),
+        };
+        let claimed = self.carry_claim(Claim {
+            desk: id,
+            former: sight.former,
+            number: sight.count.saturating_add(1),
+        })?;
+        let back = self.draw(300);
+        self.pass(back)?;
+        desk = self.desk(seat);
+        desk.id = id;
+        desk.is_stopped = true;
+        desk.lease = None;
+        if claimed == Some(true) {
+            self.coverage.claims = self.coverage.claims.saturating_add(1);
+            desk.is_stopped = false;
+            desk.lease = Some(Lease::new(sight.asked, LEASE_MS, MARGIN_MS));
+            desk.count = sight.count;
+            desk.serves_ms = desk.clocks.monotonic_ms.saturating_add(LEASE_MS);
+        } else if claimed == Some(false) {
+            self.coverage.stale_claims = self.coverage.stale_claims.saturating_add(1);
         }
         self.set_desk(desk);
         Ok(())
@@ -216,9 +329,13 @@ impl World {
         }
         if desk.may_answer() {
             self.coverage.answers = self.coverage.answers.saturating_add(1);
-            if is_led_by_another {
+            let is_silent = self.speaker != self.cluster.leader();
+            if is_led_by_another && self.cluster.is_claimed() && is_silent {
+                self.coverage.late_answers = self.coverage.late_answers.saturating_add(1);
+            } else if is_led_by_another {
                 self.find(Fault::AnsweredAfterTheFence);
             }
+            self.speak(desk.id);
         } else {
             self.coverage.refused_answers = self.coverage.refused_answers.saturating_add(1);
         }

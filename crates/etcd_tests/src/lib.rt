@@ -1,4 +1,4 @@
-//! Tests of the journal in etcd: texts of requests, answers, leases, and days over a model of etcd.
+//! Tests of the journal in etcd: texts of requests, answers, and days over a model of etcd.
 #![tactic(auto)]
 
 #[cfg(test)]
@@ -11,8 +11,6 @@ mod entries;
 mod etcd;
 #[cfg(test)]
 mod keys;
-#[cfg(test)]
-mod leases;
 #[cfg(test)]
 mod memory;
 #[cfg(test)]

@@ -54,6 +54,9 @@ cut_text = line_of (codes "CUT" ∷ [])
 abbrev pub closing_text : List ℕ
 closing_text = line_of (codes "CLOSING" ∷ [])
 
+abbrev pub leading_text : List ℕ
+leading_text = line_of (codes "LEADING" ∷ [])
+
 -- a command is entered from the seat, and the text is its reply, after the number of the entry
 pub record IsReplied (reference : Tables) (old : SeatState) (command : Command) (text : List ℕ) (new : SeatState) : Type 0 where
   pub number : ℕ
@@ -124,6 +127,10 @@ AnswersSweep reference old group text new = IsSwept reference old group text new
 abbrev pub IsCutText : List ℕ → Type 0
 IsCutText text = (text ≡ cut_text) ⊎ (text ≡ unknown_text)
 
+-- the answer to LEAD at a desk that leads: it leads, or its day is in no log and the line is bad
+abbrev pub IsLeadText : List ℕ → Type 0
+IsLeadText text = (text ≡ leading_text) ⊎ (text ≡ bad_text)
+
 -- JOURNAL is answered by the next stretch of the journal of what the seat sees then; or memory failed, and nothing more is shown
 pub record IsShown (reference : Tables) (old : OperatorState) (text : List ℕ) (new : OperatorState) : Type 0 where
   pub sees : Sees reference old.seat new.seat
@@ -148,6 +155,7 @@ Answers reference old request.Status text new = AnswersStatus reference old.seat
 Answers reference old request.Journal text new = IsShown reference old text new ⊎ IsUnshown reference old text new
 Answers reference old (request.Cut number) text new = IsCutText text × (new ≡ old)
 Answers reference old request.Close text new = (text ≡ closing_text) × (new ≡ old)
+Answers reference old request.Lead text new = IsLeadText text × (new ≡ old)
 
 -- a line that asks for this, or for nothing that may be asked, is answered so
 abbrev pub AnswersAsked : Tables → OperatorState → Option Request → List ℕ → OperatorState → Type 0

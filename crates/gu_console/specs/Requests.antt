@@ -38,6 +38,7 @@ abbrev pub IsPlainWord : List ℕ → Request → Type 0
 IsPlainWord text request.Status = text ≡ codes "STATUS"
 IsPlainWord text request.Journal = text ≡ codes "JOURNAL"
 IsPlainWord text request.Close = text ≡ codes "CLOSE"
+IsPlainWord text request.Lead = text ≡ codes "LEAD"
 IsPlainWord text asked = ⊥
 
 -- a line is one of the console's own, which asks for this

@@ -1,5 +1,5 @@
 -- The journal of a history, stretch by stretch.
-use Rattle.std.specs.Prelude.{◌≡◌, ℕ, ◌+◌, ◌<◌, ◌≤◌, ◌⊎◌, ◌++◌, List, [], ◌∷◌, Option, length, take}
+use Rattle.std.specs.Prelude.{◌≡◌, ℕ, ◌+◌, ◌<◌, ◌≤◌, ◌⊎◌, ◌++◌, List, [], ◌∷◌, Option, None, length, take}
 use Rattle.std.specs.List.{flat_map}
 use Rattle.gu_terms.specs.declared.day.Day.{Day}
 use Rattle.gu_terms.specs.declared.entry.Entry.{Entry}
@@ -10,6 +10,10 @@ use Rattle.gu_script.specs.Journals.{journal_text, open_after, rows_after}
 abbrev pub day_after : Option Day → List Entry → Option Day
 day_after today [] = today
 day_after today (entry ∷ later) = day_after (open_after today entry) later
+
+-- so many entries of a history were shown, and this day is open after them
+abbrev pub HasShown : List Entry → ℕ → Option Day → Type 0
+HasShown history shown today = (shown ≤ length history) × (today ≡ day_after None (take shown history))
 
 -- the lines of entries, where this day is open before them
 abbrev pub lines_after : Option Day → List Entry → List ℕ

@@ -10,7 +10,7 @@ use gu_script::{answer_interest, answer_limits, answer_position};
 use std::alloc::{AllocError, Global};
 
 /// Appends the answer of a book to a question.
-fn append_answer(
+pub fn append_answer(
     book: &Book,
     question: BookQuestion,
     output: &mut Vec<u8>,

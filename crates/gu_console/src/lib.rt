@@ -16,6 +16,7 @@ mod status;
 mod stretch;
 mod sweeping;
 
+pub use book_asked::append_answer;
 pub use client::{Told, is_line, tell};
 pub use console::Console;
 pub use error::TellError;
@@ -24,3 +25,4 @@ pub use office::{Office, Places};
 pub use operator::Operator;
 pub use request::{BookQuestion, Request};
 pub use said::Said;
+pub use stretch::{StretchLines, next_stretch};

@@ -47,7 +47,7 @@ impl LineBuffer {
     }
 
     /// Keeps what has come of a line.
-    fn keep(&mut self, part: &[u8])
+    pub fn keep(&mut self, part: &[u8])
         requires { HasNoLineFeed part.now }
         ensures kept { self.new ≡ take 1026 (self.old ++ part.now) }
         ensures none { HasNoLineFeed (self.old ++ part.now) }
@@ -57,14 +57,14 @@ impl LineBuffer {
     }
 
     /// Returns the line, without a CR at its end.
-    fn line(&self) -> &[u8]
+    pub fn line(&self) -> &[u8]
         ensures { result.now ≡ strip_carriage_return self.now }
     {
         without_return(self.kept.as_slice())
     }
 
     /// Begins the next line.
-    fn begin(&mut self)
+    pub fn begin(&mut self)
         ensures { self.new ≡ [] }
     {
         self.kept.clear();

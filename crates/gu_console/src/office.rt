@@ -37,6 +37,9 @@ pub trait Office {
 
     /// Returns whether the day is being closed.
     fn is_closing(&self) -> bool;
+
+    /// Returns whether the day is in a log, which this desk leads.
+    fn leads_log(&self) -> bool;
 }
 
 /// Returns the moment of an office, or the beginning of 1970 if it can't be had.

@@ -1,7 +1,7 @@
 //! An operator's connection at a desk.
 
 ghost use Rattle.std.specs.Prelude.{◌≡◌, ◌≤◌, [], None, length, take, IfOk, OnErr, OnOk};
-ghost use Rattle.gu_console.specs.Answers.{Answers, AnswersLine, ClosesOnly, GoesOnFrom, IsAnswered, IsCutText, after_answer, bad_text, closing_text, sent_as};
+ghost use Rattle.gu_console.specs.Answers.{Answers, AnswersLine, ClosesOnly, GoesOnFrom, IsAnswered, IsCutText, IsLeadText, after_answer, bad_text, closing_text, sent_as};
 ghost use Rattle.gu_console.specs.Shown.{day_after};
 ghost use Rattle.gu_console.specs.declared.request.Request.TheVariants as request;
 
@@ -206,6 +206,18 @@ impl<'a, E: EntryLedger, S: LotLedger, R: Wait, O: Office, I: Informs> Operator<
         }
     }
 
+    /// Answers LEAD, in a text without bytes: a desk that leads has nothing to take, and one without a log doesn't know the word.
+    fn lead(&self, text: &mut Vec<u8>) -> Result<(), AllocError>
+        requires { text.old.items ≡ [] }
+        ensures { OnOk result (IsLeadText text.new.items) }
+    {
+        if self.console.office.leads_log() {
+            append_last_word(text, b"LEADING")
+        } else {
+            say_bad(text)
+        }
+    }
+
     /// Answers what is asked for, in a text without bytes.
     fn answer_request(&mut self, asked: Request, text: &mut Vec<u8>) -> Result<Said, AllocError>
         requires { text.old.items ≡ [] }
@@ -225,6 +237,7 @@ impl<'a, E: EntryLedger, S: LotLedger, R: Wait, O: Office, I: Informs> Operator<
             Request::Journal => goes_on(self.journal(text)),
             Request::Cut(number) => goes_on(self.cut(number, text)),
             Request::Close => self.close(text),
+            Request::Lead => goes_on(self.lead(text)),
         }
     }
 

@@ -47,6 +47,8 @@ pub enum Request {
     Cut(u64),
     /// Close the day.
     Close,
+    /// Take the lead over the log of the day.
+    Lead,
 }
 
 /// Returns the number that one to twelve digits write.
@@ -67,6 +69,7 @@ fn plain_word_said(line: &[u8]) -> Option<Request>
         b"STATUS" => Some(Request::Status),
         b"JOURNAL" => Some(Request::Journal),
         b"CLOSE" => Some(Request::Close),
+        b"LEAD" => Some(Request::Lead),
         _ => None,
     }
 }

@@ -36,7 +36,8 @@ fn is_denial(line: &[u8]) -> bool {
 /// Returns whether a line says that nothing was done.
 fn is_refusal(line: &[u8]) -> bool {
     match line {
-        b"BAD LINE" | b"UNKNOWN" | b"UNKNOWN GROUP" | b"FULL" | b"MEMORY" | b"NOT LEADING" => true,
+        b"BAD LINE" | b"UNKNOWN" | b"UNKNOWN GROUP" | b"FULL" | b"MEMORY" => true,
+        b"NOT LEADING" | b"STALE" => true,
         [b'S', b'T', b'A', b'L', b'E', b' ', ..] => true,
         _ => is_denial(line),
     }

@@ -2,6 +2,7 @@
 
 ghost use Rattle.std.specs.Prelude.{◌≡◌, ◌↔◌, ◌+◌, ◌-◌, ◌<◌, ◌≤◌, ◌++◌, [], drop, length, min, take, IfOk, IsTrue, OnOk};
 ghost use Rattle.gu_console.specs.Copies.{AreLinesOf};
+ghost use Rattle.gu_console.specs.Shown.{HasShown, IsStretch};
 
 use gu_book::Book;
 use gu_desk::Question;
@@ -77,10 +78,10 @@ impl Question for EntryCopies {
 
 /// The lines of a stretch, how many entries they are of, and the day that is open after these.
 #[derive(Drop)]
-pub(crate) struct StretchLines {
-    pub(crate) text: Vec<u8>,
-    pub(crate) count: usize,
-    pub(crate) today: Option<Day>,
+pub struct StretchLines {
+    pub text: Vec<u8>,
+    pub count: usize,
+    pub today: Option<Day>,
 }
 
 /// Returns whether a stretch of this number of entries, with this text, ends before an entry with these lines.
@@ -121,4 +122,20 @@ pub(crate) fn stretch_of(
         count: entries.len(),
         today: day,
     })
+}
+
+/// Returns the next stretch of the journal of a book of which this number of entries has been shown, after which this day is open.
+pub fn next_stretch(
+    alloc: Global,
+    book: &Book,
+    shown: usize,
+    today: Option<Day>,
+) -> Result<StretchLines, AllocError>
+    ensures stretch { HasShown book.now.history shown today
+        → IfOk result (λ lines. IsStretch book.now.history shown (shown + lines.count) lines.text.items) }
+    ensures shown { HasShown book.now.history shown today → IfOk result (λ lines. HasShown book.now.history (shown + lines.count) lines.today) }
+{
+    let mut copies = EntryCopies::after(alloc, shown);
+    copies.ask(book)?;
+    stretch_of(alloc, today, &copies.entries)
 }

@@ -1,5 +1,6 @@
 pub mod Again
 pub mod Alike
+pub mod Arrived
 pub mod OneChoice
 pub mod OneCut
 pub mod Played

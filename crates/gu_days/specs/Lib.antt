@@ -1,3 +1,4 @@
+pub mod Arriving
 pub mod PlayedBack
 pub mod Resumed
 pub mod SameBooks

@@ -4,5 +4,5 @@ mod Asking
 mod Recalling
 mod Splits
 mod Entries
-mod OwnParts
+pub mod OwnParts
 mod SinkMoments

@@ -124,7 +124,7 @@ after_line (byte ∷ line) batch lacks =
     ∙ after_line line batch lacks.1
 
 -- an entry's batch
-batch_is : (desk batch : List ℕ) → IsName desk → batch_of (entry_of desk batch) ≡ batch
+pub batch_is : (desk batch : List ℕ) → IsName desk → batch_of (entry_of desk batch) ≡ batch
 batch_is desk batch named = ap batch_of (after_head desk batch) ∙ after_line desk batch (name_lacks desk named.each)
 
 -- one entry more is one batch more

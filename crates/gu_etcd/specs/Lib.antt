@@ -6,7 +6,6 @@ pub mod Kept
 pub mod Outcome
 pub mod Keys
 pub mod Requests
-pub mod Lease
 pub mod Answers
 pub mod InMemory
 pub mod Steps

@@ -12,10 +12,13 @@ coded bytes = encode_of standard bytes
 abbrev pub free_text : List ℕ → List ℕ
 free_text key = codes "{\"target\":\"VERSION\",\"key\":\"" ++ (coded key ++ codes "\",\"version\":\"0\"}")
 
+-- a condition: the desk that leads has this name
+abbrev pub leader_text : List ℕ → List ℕ → List ℕ
+leader_text leads leader = codes "{\"target\":\"VALUE\",\"key\":\"" ++ (coded leads ++ (codes "\",\"value\":\"" ++ (coded leader ++ codes "\"}")))
+
 -- two conditions: a key is free, and the desk that leads has this name
 abbrev pub conditions_text : List ℕ → List ℕ → List ℕ → List ℕ
-conditions_text key leads leader =
-    free_text key ++ (codes ",{\"target\":\"VALUE\",\"key\":\"" ++ (coded leads ++ (codes "\",\"value\":\"" ++ (coded leader ++ codes "\"}"))))
+conditions_text key leads leader = free_text key ++ (codes "," ++ leader_text leads leader)
 
 -- an operation: a key gets a value
 abbrev pub value_text : List ℕ → List ℕ → List ℕ
@@ -60,3 +63,16 @@ abbrev pub lead_text : List ℕ → List ℕ → ℕ → List ℕ
 lead_text name leader lease =
     let key = leader_key name in
     transaction_text (free_text key) (leased_text key leader lease) (question_text key)
+
+-- This desk is to lead, as long as its lease goes on, in place of the desk of another name. That one is still to lead, and the number is to be free;
+-- if not, the answer is who leads.
+abbrev pub claim_text : List ℕ → List ℕ → ℕ → List ℕ → ℕ → List ℕ
+claim_text name leader lease former number =
+    let key = leader_key name in
+    transaction_text (conditions_text (batch_key name number) key former) (leased_text key leader lease) (question_text key)
+
+-- Does this desk lead? In either case the answer is who leads too.
+abbrev pub leads_text : List ℕ → List ℕ → List ℕ
+leads_text name leader =
+    let key = leader_key name in
+    transaction_text (leader_text key leader) (question_text key) (question_text key)

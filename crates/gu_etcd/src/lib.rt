@@ -8,7 +8,6 @@ mod gateway;
 mod granting;
 mod keys;
 mod leading;
-mod lease;
 mod log_sink;
 mod memory_node;
 mod name;
@@ -25,7 +24,6 @@ pub use gateway::{Exchange, Gateway};
 pub use granting::{Granted, read_alive, read_granted};
 pub use keys::{batch_key, end_key, leader_key};
 pub use leading::{LeadAnswer, read_lead};
-pub use lease::{Lease, Moment};
 pub use log_sink::{Led, LogSink, a_batch_is_found_whole_or_not_at_all};
 pub use memory_node::{Fate, MemoryNode};
 pub use name::{MAX_NAME, Name, is_name};
@@ -33,7 +31,7 @@ pub use node::{LAST_NUMBER, MAX_ENTRY, Node, NodeError, PutAnswer};
 pub use outcome::TRIES;
 pub use page::{PAGE, Page, read_page};
 pub use requests::{
-    GRANT_PATH, KEEP_ALIVE_PATH, RANGE_PATH, REVOKE_PATH, TXN_PATH, grant_text, keep_alive_text,
-    lead_text, put_text, range_text,
+    GRANT_PATH, KEEP_ALIVE_PATH, RANGE_PATH, REVOKE_PATH, TXN_PATH, claim_text, grant_text,
+    keep_alive_text, lead_text, leads_text, put_text, range_text,
 };
 pub use splitting::{after_prefix, split_at_byte};

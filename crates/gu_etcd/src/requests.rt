@@ -2,12 +2,15 @@
 
 ghost use Rattle.std.specs.Prelude.{◌≡◌, IfOk, string_bytes};
 ghost use Rattle.gu_etcd.specs.Requests.{
+  claim_text,
   coded,
   conditions_text,
   free_text,
   grant_text,
   keep_alive_text,
   lead_text,
+  leader_text,
+  leads_text,
   leased_text,
   put_text,
   question_text,
@@ -46,6 +49,15 @@ fn free_text(alloc: Global, key: &[u8]) -> Result<String, AllocError>
     format!(in alloc; "{{\"target\":\"VERSION\",\"key\":\"{key}\",\"version\":\"0\"}}")
 }
 
+/// Returns the condition that the desk that leads has this name.
+fn leader_text(alloc: Global, leads: &[u8], leader: &[u8]) -> Result<String, AllocError>
+    ensures { IfOk result (λ text. string_bytes text ≡ leader_text leads.now leader.now) }
+{
+    let leads = coded(alloc, leads)?;
+    let leader = coded(alloc, leader)?;
+    format!(in alloc; "{{\"target\":\"VALUE\",\"key\":\"{leads}\",\"value\":\"{leader}\"}}")
+}
+
 /// Returns the conditions that a key is free, and that the desk that leads has this name.
 fn conditions_text(
     alloc: Global,
@@ -56,9 +68,8 @@ fn conditions_text(
     ensures { IfOk result (λ text. string_bytes text ≡ conditions_text key.now leads.now leader.now) }
 {
     let free = free_text(alloc, key)?;
-    let leads = coded(alloc, leads)?;
-    let leader = coded(alloc, leader)?;
-    format!(in alloc; "{free},{{\"target\":\"VALUE\",\"key\":\"{leads}\",\"value\":\"{leader}\"}}")
+    let leader = leader_text(alloc, leads, leader)?;
+    format!(in alloc; "{free},{leader}")
 }
 
 /// Returns the operation that gives a key a value.
@@ -156,4 +167,34 @@ pub fn lead_text(
     let put = leased_text(alloc, &key, leader, lease)?;
     let question = question_text(alloc, &key)?;
     transaction_text(alloc, &free, &put, &question)
+}
+
+/// Returns the transaction by which a desk takes the leadership with its lease from the desk of another name, if that one still leads and
+/// the number is free, and that else asks who leads.
+pub fn claim_text(
+    alloc: Global,
+    name: &[u8],
+    leader: &[u8],
+    lease: u64,
+    former: &[u8],
+    number: u64,
+) -> Result<String, AllocError>
+    ensures { IfOk result (λ text. string_bytes text ≡ claim_text name.now leader.now lease former.now number) }
+{
+    let leads = leader_key(alloc, name)?;
+    let next = batch_key(alloc, name, number)?;
+    let conditions = conditions_text(alloc, &next, &leads, former)?;
+    let put = leased_text(alloc, &leads, leader, lease)?;
+    let question = question_text(alloc, &leads)?;
+    transaction_text(alloc, &conditions, &put, &question)
+}
+
+/// Returns the transaction that is carried out if the desk of this name leads, and that asks who leads.
+pub fn leads_text(alloc: Global, name: &[u8], leader: &[u8]) -> Result<String, AllocError>
+    ensures { IfOk result (λ text. string_bytes text ≡ leads_text name.now leader.now) }
+{
+    let leads = leader_key(alloc, name)?;
+    let condition = leader_text(alloc, &leads, leader)?;
+    let question = question_text(alloc, &leads)?;
+    transaction_text(alloc, &condition, &question, &question)
 }

@@ -2,10 +2,11 @@
 
 ghost use denote.Param.Send.{IsSend, IsSync};
 
+use crate::Candidate;
 use crate::lead::{Lead, Renewal};
-use crate::{Candidate, Clocks};
 use crossbeam_channel::{Receiver, RecvTimeoutError};
 use gu_etcd::Exchange;
+use gu_lease::{BothClocks, Gate};
 use std::alloc::Global;
 use std::rt::Clock;
 use std::sync::Wait;
@@ -16,44 +17,51 @@ use std::time::Duration;
 /// How many milliseconds come between two renewals.
 const RENEWAL_MS: u64 = 500;
 
-/// The lead of a desk, with what renews it.
+/// The lead of a desk, with what renews it, and the gate at which its lease is published.
 #[derive(Drop)]
-pub struct HeldLead<'a, X: Exchange, R> {
+pub struct HeldLead<'a, X: Exchange, C> {
     pub candidate: Candidate<X>,
     pub lead: Lead,
-    pub clocks: Clocks<'a, R>,
+    pub gate: &'a Gate<C>,
 }
 
 /// What is said to the thread that renews a lead.
 #[derive(Drop)]
 enum Word {}
 
-impl<X: Exchange, R: Wait + Clock> HeldLead<'_, X, R> {
-    /// Renews the lead until it ends, or until nobody can say anything more to the thread: then the lead is given back. A renewal without an
-    /// answer is tried again.
-    fn renew_until(self, rt: &R, alloc: Global, words: &Receiver<Word>) {
-        let HeldLead {
-            mut candidate,
-            mut lead,
-            clocks,
-        } = self;
+impl<X: Exchange, C: BothClocks> HeldLead<'_, X, C> {
+    /// Renews the lead once, publishes its lease at the gate, and returns whether it goes on. If no answer comes, its lease is as long as it
+    /// was.
+    fn renew<R: Wait>(&mut self, rt: &R, alloc: Global) -> bool {
+        let Some(now) = self.gate.now() else {
+            return false;
+        };
+        match self.lead.renew(alloc, &mut self.candidate, now) {
+            Ok(Renewal::GoesOn) => self.gate.renew(rt, self.lead.lease),
+            Ok(Renewal::Ended) => false,
+            Err(_) => self.gate.leads(rt),
+        }
+    }
+
+    /// Renews the lead until it ends, or until nobody can say anything more to the thread: then the lead is given back. At the end nothing
+    /// leaves the desk any more.
+    fn renew_until<R: Wait + Clock>(mut self, rt: &R, alloc: Global, words: &Receiver<Word>) {
         for _renewal in rt.forever() {
             match words.recv_timeout(rt, Duration::from_millis(RENEWAL_MS)) {
                 Err(RecvTimeoutError::Timeout) => {}
                 _ => {
+                    self.gate.end(rt);
                     // If this gets no answer, the lease ends by itself.
-                    let _ = candidate.revoke(alloc, lead.number);
+                    let number = self.lead.number;
+                    let _ = self.candidate.revoke(alloc, number);
                     break;
                 }
             }
-            let Some(now) = clocks.now() else {
-                break;
-            };
-            let renewed = lead.renew(alloc, &mut candidate, now);
-            if matches!(renewed, Ok(Renewal::Ended)) {
+            if !self.renew(rt, alloc) {
                 break;
             }
         }
+        self.gate.end(rt);
     }
 }
 
@@ -63,9 +71,10 @@ fn work_beside<
     S,
     R: Threads + Wait + Clock + Sync,
     X: Exchange + Send + 's,
+    C: BothClocks + Send + Sync + 's,
     D,
     F: FnOnce() -> D,
->(scope: &Scope<'s, S>, rt: &'s R, alloc: Global, held: HeldLead<'s, X, R>, work: F) -> D
+>(scope: &Scope<'s, S>, rt: &'s R, alloc: Global, held: HeldLead<'s, X, C>, work: F) -> D
     requires { F.IsAlwaysCallable work }
     ensures { F.post work result }
 {
@@ -82,14 +91,16 @@ fn work_beside<
     done
 }
 
-/// Returns what this work returns. A thread renews the lead meanwhile, and ends with the work; if none can be started, the lead ends with
-/// its lease.
-pub fn lead_while<'a, R: Threads + Wait + Clock + Sync, X: Exchange + Send, D, F: FnOnce() -> D>(
-    rt: &'a R,
-    alloc: Global,
-    held: HeldLead<'a, X, R>,
-    work: F,
-) -> D
+/// Returns what this work returns. A thread renews the lead meanwhile, publishes each renewed lease at the gate, and ends with the work; if
+/// none can be started, the lead ends with its lease.
+pub fn lead_while<
+    'a,
+    R: Threads + Wait + Clock + Sync,
+    X: Exchange + Send,
+    C: BothClocks + Send + Sync,
+    D,
+    F: FnOnce() -> D,
+>(rt: &'a R, alloc: Global, held: HeldLead<'a, X, C>, work: F) -> D
     requires { F.IsAlwaysCallable work }
     ensures { F.post work result }
 {
@@ -97,7 +108,7 @@ pub fn lead_while<'a, R: Threads + Wait + Clock + Sync, X: Exchange + Send, D, F
         thread::scope_env(),
         rt,
         |scope| -> D
-            requires { IsSync R.row × IsSend X.row × F.IsAlwaysCallable work }
+            requires { IsSync R.row × IsSend X.row × IsSend C.row × IsSync C.row × F.IsAlwaysCallable work }
             ensures { F.post work result }
         { work_beside(scope, rt, alloc, held, work) },
     )

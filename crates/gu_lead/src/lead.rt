@@ -1,12 +1,13 @@
 //! The lead over a log, as the desk knows it.
 
 ghost use Rattle.std.specs.Prelude.{◌≡◌, Ok};
-ghost use Rattle.gu_etcd.specs.Lease.{Leads};
+ghost use Rattle.gu_lease.specs.Lease.{Leads};
 ghost use Rattle.gu_lead.specs.Leads.{IsRenewed, lease_from};
 ghost use Rattle.gu_lead.specs.declared.lead.Renewal.TheVariants.{Ended};
 
 use crate::Candidate;
-use gu_etcd::{Exchange, Lease, Moment, NodeError};
+use gu_etcd::{Exchange, NodeError};
+use gu_lease::{Lease, Moment};
 use std::alloc::Global;
 
 /// How many seconds a lease is asked for.
@@ -27,7 +28,7 @@ pub struct Lead {
 pub enum Renewal {
     /// It goes on.
     GoesOn,
-    /// Its lease has ended.
+    /// Its lease has ended, or another desk has claimed the lead.
     Ended,
 }
 
@@ -39,8 +40,9 @@ pub(crate) fn lease_from(asked: Moment, seconds: u64) -> Lease
 }
 
 impl Lead {
-    /// Renews the lead at a moment: asks etcd that its lease goes on, and counts it from this moment on. A lead that has ended by the
-    /// desk's clocks is ended for good, and nothing is asked. If no answer comes, its lease is as long as it was.
+    /// Renews the lead at a moment: asks etcd whether the desk leads, since another one may have claimed the lead, and that its lease goes on,
+    /// which counts from this moment on. A lead that has ended by the desk's clocks is ended for good, and nothing is asked. If no answer
+    /// comes, its lease is as long as it was.
     pub fn renew<X: Exchange>(
         &mut self,
         alloc: Global,
@@ -55,6 +57,9 @@ impl Lead {
             return Ok(Renewal::Ended);
         };
         self.lease = lease;
+        if !candidate.leads(alloc)? {
+            return Ok(Renewal::Ended);
+        }
         match candidate.keep_alive(alloc, self.number)? {
             Some(seconds) => {
                 self.lease = lease_from(now, seconds);

@@ -3,7 +3,7 @@
 
 mod beside;
 mod candidate;
-mod clocks;
+mod claim;
 mod drawing;
 mod lead;
 mod log_text;
@@ -11,8 +11,8 @@ mod taking;
 
 pub use beside::{HeldLead, lead_while};
 pub use candidate::Candidate;
-pub use clocks::Clocks;
+pub use claim::Claim;
 pub use drawing::draw_name;
 pub use lead::{LEASE_SECONDS, Lead, MARGIN_MS, Renewal};
-pub use log_text::{LogError, LogText};
+pub use log_text::{LogError, LogText, page_at};
 pub use taking::{Taking, take_lead};

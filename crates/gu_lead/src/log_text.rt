@@ -37,14 +37,14 @@ fn error_of(error: NodeError) -> LogError {
     }
 }
 
-/// Returns the page of a log that begins at a number, asked for until an answer comes.
-fn page_at<X: Exchange>(
+/// Returns the page of a log that begins at a number, asked for until an answer comes, `TRIES` times at most.
+pub fn page_at<X: Exchange>(
     alloc: Global,
     gateway: &mut Gateway<X>,
     number: u64,
 ) -> Result<Page, LogError>
     requires { number ≤ LAST_NUMBER }
-    ensures { IfOk result (λ page. IsTrue page.has_more → 0 < length page.entries.items) }
+    ensures goes_on { IfOk result (λ page. IsTrue page.has_more → 0 < length page.entries.items) }
 {
     for _attempt in 0..TRIES {
         match gateway.page(alloc, number) {

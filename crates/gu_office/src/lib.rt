@@ -7,4 +7,4 @@ mod listening;
 
 pub use firm_doors::FirmDoors;
 pub use listen_error::ListenError;
-pub use listening::Addresses;
+pub use listening::{Addresses, OperatorSockets};

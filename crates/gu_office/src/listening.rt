@@ -25,9 +25,11 @@ pub struct Addresses<'a, 'f> {
 
 /// The sockets of operators.
 #[derive(Drop)]
-struct OperatorSockets {
-    console: Option<UnixListener>,
-    watch: Option<UnixListener>,
+pub struct OperatorSockets {
+    /// The console, if there is one.
+    pub console: Option<UnixListener>,
+    /// The socket for those who may only look, if there is one.
+    pub watch: Option<UnixListener>,
 }
 
 /// Returns a socket at a path, if one is named.
@@ -117,20 +119,37 @@ impl<'a, 'f> Addresses<'a, 'f> {
         }
     }
 
-    /// Listens at the socket for those who may only look, and then for firms, beside the console.
-    fn listen_beside<R: Files + Net<Listener = TcpListener, Stream = TcpStream>>(
+    /// Listens at the console, and then at the socket for those who may only look. If one of them can't be opened, none stays.
+    pub fn listen_for_operators<R: Files + Net>(
+        &self,
+        rt: &R,
+    ) -> Result<OperatorSockets, ListenError<'a>> {
+        let console = match socket_at(rt, self.console) {
+            Ok(console) => console,
+            Err(error) => return Err(error),
+        };
+        match socket_at(rt, self.watch) {
+            Ok(watch) => Ok(OperatorSockets { console, watch }),
+            Err(error) => {
+                drop(console);
+                remove(rt, self.console);
+                Err(error)
+            }
+        }
+    }
+
+    /// Listens at the doors of firms and then at the port, beside these sockets of operators. If one of them can't be opened, the sockets
+    /// already made are removed, those of operators too. Otherwise they stay, even after the day: a dead one is replaced by the next desk.
+    pub fn listen_beside<R: Files + Net<Listener = TcpListener, Stream = TcpStream>>(
         &self,
         rt: &R,
         alloc: Global,
-        console: Option<UnixListener>,
+        operators: OperatorSockets,
     ) -> Result<Front<Doorway>, ListenError<'a>> {
-        let watch = match socket_at(rt, self.watch) {
-            Ok(watch) => watch,
-            Err(error) => return Err(error),
-        };
-        let front = self.listen_for_firms(rt, alloc, OperatorSockets { console, watch });
+        let front = self.listen_for_firms(rt, alloc, operators);
         if front.is_err() {
             remove(rt, self.watch);
+            remove(rt, self.console);
         }
         front
     }
@@ -143,14 +162,10 @@ impl<'a, 'f> Addresses<'a, 'f> {
         rt: &R,
         alloc: Global,
     ) -> Result<Front<Doorway>, ListenError<'a>> {
-        let console = match socket_at(rt, self.console) {
-            Ok(console) => console,
+        let operators = match self.listen_for_operators(rt) {
+            Ok(operators) => operators,
             Err(error) => return Err(error),
         };
-        let front = self.listen_beside(rt, alloc, console);
-        if front.is_err() {
-            remove(rt, self.console);
-        }
-        front
+        self.listen_beside(rt, alloc, operators)
     }
 }

@@ -11,33 +11,39 @@ use crate::files::{digested_reference_at, secrets_at, world_after};
 use crate::heading::Heading;
 use crate::journal_ending::end_journal;
 use crate::journal_file::{FileLog, empty_journal_at, fault_at, has_day_at, journal_at};
-use crate::journal_log::{Led, LogPlace, begin_in_log, found_log, gateway_to, is_opened, take_log};
+use crate::journal_log::{
+    Led, LogPlace, TcpExchange, begin_in_log, found_log, gateway_to, is_opened, take_log,
+};
 use crate::journal_name::JournalName;
 use crate::journal_opening::{
     BegunFile, BegunJournal, FoundDay, Resumed, ResumedDay, begin_journal, resume_journal,
-    resume_text_of,
+    resume_played, resume_text_of,
 };
 use crate::journal_place::JournalSink;
+use crate::journal_standby::{follow_fault, stand_by};
 use crate::locking::Locks;
 use crate::seeding::seed_from;
-use crate::serving::{Begun, begin_log, listen, serve};
+use crate::serving::{Begun, begin_log, listen, listen_for_operators, serve};
 use gu_book::Book;
-use gu_etcd::{Exchange, Gateway, Name};
+use gu_etcd::{Appender, Exchange, Gateway, LogSink, Name};
 use gu_journal::Sink;
-use gu_lead::lead_while;
+use gu_lead::{Candidate, HeldLead, LEASE_SECONDS, Lead, lead_while};
+use gu_lease::{Clocks, Gate};
 use gu_log::{Event, EventLog, LogOutput, Logged, Unwaiting, run_logged};
+use gu_lookout::Lookout;
+use gu_office::OperatorSockets;
 use gu_ref::Reference;
 use gu_script::RefusedLines;
 use gu_secrets::Secrets;
 use gu_server::{DayEnd, DayJournal, Front, Served};
 use gu_sockets::Doorway;
+use gu_standby::Follower;
 use gu_streams::{StreamError, send};
 use gu_terms::{FirmId, History, Seed};
 use gu_words::{Journal, Serving, Status};
 use gu_world::World;
 use jiff::Timestamp;
 use std::alloc::Global;
-use std::io;
 use std::io::{ErrorKind, Write};
 use std::net::{Net, TcpListener, TcpStream};
 use std::os::fd::AsRawFd;
@@ -45,7 +51,8 @@ use std::random::RandomSource;
 use std::rt::{Clock, Files};
 use std::sync::Wait;
 use std::thread::Threads;
-use std::time::{SystemTime, UNIX_EPOCH};
+use std::time::{Duration, SystemTime, UNIX_EPOCH};
+use std::{io, thread};
 
 /// A day that is ready to be served.
 struct Ready<'a, F, K: Sink> {
@@ -168,6 +175,7 @@ fn journal_to_resume<'a, R: Files>(
             Journal {
                 path,
                 resumes: true,
+                ..
             },
         ) if has_day_at(rt, path)? => Ok(Some(path)),
         _ => Ok(None),
@@ -263,7 +271,7 @@ fn made_ready_in_log<'a, F, R: Eprint + Files + Alloc<A = Global>, K: JournalSin
         drop(text);
         return begun_in_log(rt, serving, path, sink, begins);
     }
-    if !journal.resumes {
+    if !journal.resumes && !journal.stands_by {
         return Err(fault_at(path, JournalFault::NotEmpty));
     }
     if !is_opened(&found.text) {
@@ -388,18 +396,19 @@ pub fn end_day<'a, R: Print + Wait + Clock + Alloc<A = Global>, K: JournalSink>(
     }
 }
 
-/// Listens at the operators' sockets, at the firms' doors and at the port, and gives a new journal its name. If that fails, a new journal
-/// is removed.
+/// Listens at the operators' sockets, unless they are open, at the firms' doors and at the port, and gives a new journal its name. If that
+/// fails, a new journal is removed.
 fn opened<'a, R: Files + Net<Listener = TcpListener, Stream = TcpStream> + Alloc<A = Global>, F>(
     rt: &R,
     serving: &Serving<'a>,
     firms: &[FirmId],
+    operators: Option<OperatorSockets>,
     name: Option<&JournalName<'a, F>>,
 ) -> Result<Front<Doorway>, Fault<'a>> {
     let Some(name) = name else {
-        return listen(rt, serving, firms);
+        return listen(rt, serving, firms, operators);
     };
-    let opened = match listen(rt, serving, firms) {
+    let opened = match listen(rt, serving, firms, operators) {
         Ok(front) => match name.give(rt) {
             Ok(()) => Ok(front),
             Err(fault) => {
@@ -474,6 +483,14 @@ pub struct Screen<T, E> {
     pub stderr: E,
 }
 
+/// What firms and operators of a day meet with: the secrets of firms, if they have any, and the sockets of operators, if they are open
+/// already.
+#[derive(Drop)]
+struct Meeting {
+    secrets: Option<Secrets>,
+    operators: Option<OperatorSockets>,
+}
+
 /// Serves firms on this machine, from a day that is ready to its last line.
 fn serve_ready<
     'a,
@@ -492,18 +509,20 @@ fn serve_ready<
 >(
     rt: &R,
     serving: &Serving<'a>,
-    terminal: Option<T>,
-    writer: Option<Unwaiting<E>>,
+    gate: &Gate<Clocks<'_, R>>,
+    output: (Option<T>, Option<Unwaiting<E>>),
     ready: Ready<'a, R::File, K>,
-    secrets: Option<Secrets>,
+    meeting: Meeting,
 ) -> Result<Status, Faults<'a>>
 where
     R::File: Locks + Send,
     K::Place: Send,
 {
+    let (terminal, writer) = output;
+    let Meeting { secrets, operators } = meeting;
     let (name, begun) = ready.into_parts(secrets);
     let firms = begun.world.book().reference().firms();
-    let front = match opened(rt, serving, firms, name.as_ref()) {
+    let front = match opened(rt, serving, firms, operators, name.as_ref()) {
         Ok(front) => front,
         Err(fault) => {
             drop(begun);
@@ -516,7 +535,7 @@ where
     };
     let Some(writer) = writer else {
         let log = EventLog::silent();
-        let served = serve(rt, begun, serving, front, &log, terminal);
+        let served = serve(rt, begun, serving, front, gate, &log, terminal);
         return end_served(rt, served, path, &log);
     };
     drop(terminal);
@@ -529,7 +548,7 @@ where
         }
     };
     let Logged { done, output } = run_logged(rt, rt.alloc(), &log, output, || {
-        serve(rt, begun, serving, front, &log, None::<Vec<u8>>)
+        serve(rt, begun, serving, front, gate, &log, None::<Vec<u8>>)
     });
     let ended = end_served(rt, done, path, &log);
     if let Some(output) = output {
@@ -565,7 +584,12 @@ where
     let writer = log_writer(rt, serving, stderr)?;
     let (begins, secrets) = read_files(rt, serving)?;
     let ready = made_ready(rt, serving, begins)?;
-    serve_ready(rt, serving, terminal, writer, ready, secrets)
+    let gate = Gate::open();
+    let meeting = Meeting {
+        secrets,
+        operators: None,
+    };
+    serve_ready(rt, serving, &gate, (terminal, writer), ready, meeting)
 }
 
 /// Returns the journal that a server names, or one without a name.
@@ -573,40 +597,159 @@ fn journal_named<'a>(serving: &Serving<'a>) -> Journal<'a> {
     serving.journal.unwrap_or(Journal {
         path: "",
         resumes: false,
+        stands_by: false,
     })
 }
 
-/// Serves firms from the day that was found in a log, or that begins there, to its last line.
-fn serve_found<
+/// What a desk that leads a log knows about it.
+#[derive(Drop)]
+enum LogStart {
+    /// It is still to be read.
+    Unread(Begins),
+    /// It was followed, and all of it was played.
+    Followed(Follower, Heading),
+}
+
+/// What a desk that leads a log serves from.
+#[derive(Drop)]
+pub struct LedDay<X: Exchange, T, E> {
+    candidate: Candidate<X>,
+    lead: Lead,
+    desk: Name,
+    gateway: Gateway<X>,
+    start: LogStart,
+    /// Whether the lead was claimed from another desk.
+    is_claimed: bool,
+    meeting: Meeting,
+    output: (Option<T>, Option<Unwaiting<E>>),
+}
+
+/// The gate of a desk that leads by a lease.
+pub type LeaseGate<'a, R> = Gate<Clocks<'a, R>>;
+
+/// What a desk serves from that leads a log over TCP.
+pub type TcpLedDay<'a, R, T, E> = LedDay<TcpExchange<'a, R>, T, E>;
+
+/// A desk that leads, what it knows about its log, and the sockets of operators, if they are open; or none, if the log is that of an ended day
+/// or an operator ended the desk.
+type Claimed<'a, R> = Option<(Led<'a, R>, LogStart, Option<OperatorSockets>)>;
+
+/// Stands by until the desk leads: by the lease of the desk that leads, or as an operator wishes. Operators are attended to from before the log
+/// is read. In an empty log the day begins with the files as they are then.
+fn stood_by<'a, R: Files + Clock + RandomSource + Net + Wait + Alloc<A = Global>>(
+    rt: &'a R,
+    serving: &Serving<'a>,
+    log: LogPlace<'a>,
+    begins: Begins,
+) -> Result<Claimed<'a, R>, Fault<'a>> {
+    let Begins {
+        seed,
+        reference,
+        heading,
+    } = begins;
+    let OperatorSockets { console, watch } = listen_for_operators(rt, serving)?;
+    let Ok(mut lookout) = Lookout::new(rt, rt.alloc(), console, watch) else {
+        return Err(Fault::from(StreamError::Read));
+    };
+    let mut follower = Follower::new(rt.alloc(), reference, seed);
+    let led = stand_by(rt, log, &mut follower, &mut lookout);
+    let (console, watch) = lookout.end();
+    let Some(led) = led? else {
+        return Ok(None);
+    };
+    let operators = Some(OperatorSockets { console, watch });
+    if follower.count() > 0 {
+        let start = LogStart::Followed(follower, heading);
+        return Ok(Some((led, start, operators)));
+    }
+    drop(follower);
+    let (begins, secrets) = read_files(rt, serving)?;
+    drop(secrets);
+    Ok(Some((led, LogStart::Unread(begins), operators)))
+}
+
+/// Takes the lead over a log: at once, or, for a desk that stands by, when it has come to lead.
+fn claimed<'a, R: Eprint + Files + Clock + RandomSource + Net + Wait + Alloc<A = Global>>(
+    rt: &'a R,
+    serving: &Serving<'a>,
+    log: LogPlace<'a>,
+    begins: Begins,
+) -> Result<Claimed<'a, R>, Fault<'a>> {
+    if log.journal.stands_by {
+        return stood_by(rt, serving, log, begins);
+    }
+    let led = take_log(rt, log)?;
+    Ok(Some((led, LogStart::Unread(begins), None)))
+}
+
+/// Makes a day ready up to the lead over its log: reads its files, takes the lead, and returns the gate of its lease; or nothing, if a
+/// standby finds the day ended, or an operator ends it.
+pub fn lead_day<
     'a,
-    R: Print
-        + Eprint
-        + Files
-        + Clock
-        + Net<Listener = TcpListener, Stream = TcpStream>
-        + Threads
-        + Wait
-        + Sync
-        + Alloc<A = Global>,
+    R: Eprint + Files + Clock + RandomSource + Net + Wait + Alloc<A = Global>,
     T: Write + Send + Drop,
     E: Write + AsRawFd + Send + Drop,
-    K: JournalSink + Send,
 >(
-    rt: &R,
+    rt: &'a R,
     serving: &Serving<'a>,
-    journal: Journal<'a>,
-    found: FoundDay<K>,
-    files: (Begins, Option<Secrets>),
-    output: (Option<T>, Option<Unwaiting<E>>),
-) -> Result<Status, Faults<'a>>
-where
-    R::File: Locks + Send,
-    K::Place: Send,
-{
-    let (begins, secrets) = files;
-    let (terminal, writer) = output;
-    let ready = made_ready_in_log(rt, serving, journal, found, begins)?;
-    serve_ready(rt, serving, terminal, writer, ready, secrets)
+    log: LogPlace<'a>,
+    screen: Screen<T, E>,
+) -> Result<Option<(LeaseGate<'a, R>, TcpLedDay<'a, R, T, E>)>, Faults<'a>> {
+    let Screen {
+        terminal,
+        is_typed: _,
+        stderr,
+    } = screen;
+    let writer = log_writer(rt, serving, stderr)?;
+    let (begins, secrets) = read_files(rt, serving)?;
+    let Some((led, start, operators)) = claimed(rt, serving, log, begins)? else {
+        return Ok(None);
+    };
+    let Led {
+        candidate,
+        lead,
+        clocks,
+        desk,
+        is_claimed,
+    } = led;
+    let gateway = gateway_to(rt, log, &desk)?;
+    let day = LedDay {
+        candidate,
+        lead,
+        desk,
+        gateway,
+        start,
+        is_claimed,
+        meeting: Meeting { secrets, operators },
+        output: (terminal, writer),
+    };
+    Ok(Some((Gate::of_lease(clocks, lead.lease), day)))
+}
+
+/// Goes on with a day that was followed, in the log of a gateway that the desk of this name leads now.
+fn followed_day<'a, F, X: Exchange>(
+    alloc: Global,
+    path: &'a str,
+    desk: (Gateway<X>, Name),
+    follower: Follower,
+    heading: &Heading,
+) -> Result<Ready<'a, F, LogSink<Gateway<X>>>, Fault<'a>> {
+    let (gateway, desk) = desk;
+    if !is_opened(follower.text()) {
+        return Err(fault_at(path, JournalFault::Unopened));
+    }
+    let is_of_it = heading.is_of(alloc, follower.text());
+    if !is_of_it.map_err(StreamError::from)? {
+        return Err(fault_at(path, JournalFault::Reference));
+    }
+    let sink = LogSink::new(alloc, Appender::new(gateway, follower.count()), desk);
+    let day = match follower.end() {
+        Ok(day) => day,
+        Err(error) => return Err(follow_fault(path, error)),
+    };
+    let resumed = resume_played(alloc, path, sink, day, heading)?;
+    let ResumedDay { world, journal } = resumed;
+    Ok(named(path, world, journal))
 }
 
 /// Serves firms from the day that the log of a gateway has, or that begins there, to its last line. The desk of this name leads the log.
@@ -627,28 +770,43 @@ fn serve_log<
 >(
     rt: &R,
     serving: &Serving<'a>,
-    gateway: Gateway<X>,
-    desk: Name,
-    files: (Begins, Option<Secrets>),
+    gate: &Gate<Clocks<'_, R>>,
+    desk: (Gateway<X>, Name),
+    begins: (LogStart, Meeting),
     output: (Option<T>, Option<Unwaiting<E>>),
 ) -> Result<Status, Faults<'a>>
 where
     R::File: Locks + Send,
 {
+    let alloc = rt.alloc();
     let journal = journal_named(serving);
-    let found = found_log(rt.alloc(), journal.path, gateway, desk)?;
-    serve_found(rt, serving, journal, found, files, output)
+    let (start, meeting) = begins;
+    let ready = match start {
+        LogStart::Unread(begins) => {
+            let (gateway, desk) = desk;
+            let found = found_log(alloc, journal.path, gateway, desk)?;
+            made_ready_in_log(rt, serving, journal, found, begins)?
+        }
+        LogStart::Followed(follower, heading) => {
+            followed_day(alloc, journal.path, desk, follower, &heading)?
+        }
+    };
+    serve_ready(rt, serving, gate, output, ready, meeting)
+}
+
+/// Waits until no answer can leave the desk any more from which the lead was claimed: until its lease has ended.
+fn await_former<R: Clock>(rt: &R) {
+    thread::sleep(rt, Duration::from_secs(LEASE_SECONDS));
 }
 
 /// Serves firms as `run_serve` does, with the journal of the day in a log of etcd, which this desk leads from before it reads it until the
-/// end of the day.
-pub fn run_serve_in_log<
+/// end of the day. Nothing leaves after its lease has ended, nor before that of a desk from which it claimed the lead.
+pub fn serve_led<
     'a,
     R: Print
         + Eprint
         + Files
         + Clock
-        + RandomSource
         + Net<Listener = TcpListener, Stream = TcpStream>
         + Threads
         + Wait
@@ -656,25 +814,35 @@ pub fn run_serve_in_log<
         + Alloc<A = Global>,
     T: Write + Send + Drop,
     E: Write + AsRawFd + Send + Drop,
+    X: Exchange + Send,
 >(
     rt: &'a R,
     serving: &'a Serving<'a>,
-    log: LogPlace<'a>,
-    screen: Screen<T, E>,
+    gate: &'a LeaseGate<'a, R>,
+    day: LedDay<X, T, E>,
 ) -> Result<Status, Faults<'a>>
 where
     R::File: Locks + Send,
 {
-    let Screen {
-        terminal,
-        is_typed: _,
-        stderr,
-    } = screen;
-    let writer = log_writer(rt, serving, stderr)?;
-    let files = read_files(rt, serving)?;
-    let Led { lead, desk } = take_log(rt, log)?;
-    let gateway = gateway_to(rt, log, &desk)?;
-    lead_while(rt, rt.alloc(), lead, || {
-        serve_log(rt, serving, gateway, desk, files, (terminal, writer))
+    let LedDay {
+        candidate,
+        lead,
+        desk,
+        gateway,
+        start,
+        is_claimed,
+        meeting,
+        output,
+    } = day;
+    let held = HeldLead {
+        candidate,
+        lead,
+        gate,
+    };
+    lead_while(rt, rt.alloc(), held, || {
+        if is_claimed {
+            await_former(rt);
+        }
+        serve_log(rt, serving, gate, (gateway, desk), (start, meeting), output)
     })
 }

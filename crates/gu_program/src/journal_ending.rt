@@ -1,6 +1,6 @@
 //! The end of a day's journal.
 
-use crate::error::RunError;
+use crate::error::{JournalFault, RunError};
 use crate::fault::Fault;
 use crate::journal_place::{JournalSink, error_of};
 use gu_server::{JournalEnd, LostBy, LostJournal};
@@ -12,6 +12,7 @@ fn lost<'a, K: JournalSink>(path: &'a str, journal: LostJournal<K::Place>) -> Fa
     match by {
         LostBy::Memory => Fault::lost(path, None, RunError::from(StreamError::Memory), kept),
         LostBy::Length => Fault::lost(path, None, RunError::from(StreamError::Write), kept),
+        LostBy::Lease => Fault::lost(path, None, RunError::Journal(JournalFault::Fenced), kept),
         LostBy::Place(stopped) => {
             let cause = K::cause(stopped.place());
             let fault = Fault::lost(path, cause, error_of(stopped.error()), kept);

@@ -14,7 +14,8 @@ use gu_etcd::{Appender, Exchange, Gateway, LogSink, Name, NodeError};
 use gu_exchange::{Address, AddressError, HttpExchange, TcpConnector};
 use gu_journal::{Sink, SinkError, is_batch};
 use gu_keeping::keep_opening;
-use gu_lead::{Candidate, Clocks, HeldLead, LogError, LogText, Taking, draw_name, take_lead};
+use gu_lead::{Candidate, Lead, LogError, LogText, Taking, draw_name, take_lead};
+use gu_lease::{BothClocks, Clocks};
 use gu_server::DayJournal;
 use gu_streams::StreamError;
 use gu_terms::History;
@@ -28,7 +29,7 @@ use std::time::Duration;
 use std::{io, thread};
 
 /// How many milliseconds a start tries to reach an etcd that doesn't answer.
-const PATIENCE_MS: u64 = 30_000;
+pub const PATIENCE_MS: u64 = 30_000;
 
 /// How many milliseconds come between two tries.
 const PAUSE_MS: u64 = 500;
@@ -45,9 +46,6 @@ const CLOSED_BATCH: &str = "# CLOSED\n";
 /// The exchange with an etcd, over TCP.
 pub type TcpExchange<'a, R> = HttpExchange<TcpConnector<'a, R>>;
 
-/// The lead over a log in an etcd that is reached over TCP.
-pub type TcpLead<'a, R> = HeldLead<'a, TcpExchange<'a, R>, R>;
-
 /// The log of a journal.
 #[derive(Clone, Copy)]
 pub struct LogPlace<'a> {
@@ -60,7 +58,7 @@ pub struct LogPlace<'a> {
 const SCHEME: &str = "etcd://";
 
 /// Returns the journal of a server and the address of its log, if it is kept in one. A word that begins as an address and is none is
-/// refused.
+/// refused, and so is a file for which a desk is to stand by.
 pub fn log_named<'a>(
     alloc: Global,
     serving: &Serving<'a>,
@@ -69,6 +67,9 @@ pub fn log_named<'a>(
         return Ok(None);
     };
     if !journal.path.starts_with(SCHEME) {
+        if journal.stands_by {
+            return Err(address_refusal(alloc)?);
+        }
         return Ok(None);
     }
     match Address::parse(alloc, journal.path.as_bytes()) {
@@ -78,11 +79,15 @@ pub fn log_named<'a>(
     }
 }
 
-/// A desk that leads a log, and the name under which it does.
+/// A desk that leads a log, the name under which it does, and the clocks by which its lease counts.
 #[derive(Drop)]
 pub struct Led<'a, R: Net + Clock> {
-    pub lead: TcpLead<'a, R>,
+    pub candidate: Candidate<TcpExchange<'a, R>>,
+    pub lead: Lead,
+    pub clocks: Clocks<'a, R>,
     pub desk: Name,
+    /// Whether it claimed the lead from another desk, which may let answers leave until its own lease has ended.
+    pub is_claimed: bool,
 }
 
 impl<X: Exchange> JournalSink for LogSink<Gateway<X>> {
@@ -118,7 +123,7 @@ fn exchange_with<'a, R: Net + Clock>(rt: &'a R, address: &'a Address) -> TcpExch
 }
 
 /// Returns a candidate for the lead over a log, and its name.
-fn candidate_for<'a, R: Net + Clock + RandomSource + Alloc<A = Global>>(
+pub fn candidate_for<'a, R: Net + Clock + RandomSource + Alloc<A = Global>>(
     rt: &'a R,
     address: &'a Address,
 ) -> Result<(Candidate<TcpExchange<'a, R>>, Name), Fault<'a>> {
@@ -144,7 +149,7 @@ fn say_is_led<R: Eprint>(rt: &R, path: &str, is_said: &mut bool) {
 }
 
 /// Returns how many milliseconds the clocks have gone on, or no end of them if they fail.
-fn passed_ms<R: Clock>(clocks: &Clocks<'_, R>) -> u64 {
+pub fn passed_ms<R: Clock>(clocks: &Clocks<'_, R>) -> u64 {
     match clocks.now() {
         Some(now) => now.monotonic_ms,
         None => u64::MAX,
@@ -184,18 +189,19 @@ pub fn take_log<'a, R: Eprint + Net + Clock + RandomSource + Wait + Alloc<A = Gl
         let (mut candidate, desk) = candidate_for(rt, log.address)?;
         match take_lead(rt.alloc(), &mut candidate, &clocks) {
             Ok(Taking::Leads(lead)) => {
-                let lead = HeldLead {
+                return Ok(Led {
                     candidate,
                     lead,
                     clocks,
-                };
-                return Ok(Led { lead, desk });
+                    desk,
+                    is_claimed: false,
+                });
             }
-            Ok(Taking::IsLed) if log.journal.resumes => {
+            Ok(Taking::IsLed(_)) if log.journal.resumes => {
                 say_is_led(rt, log.journal.path, &mut is_said);
                 heard_ms = passed_ms(&clocks);
             }
-            Ok(Taking::IsLed) => return Err(led_fault(rt, log, desk)),
+            Ok(Taking::IsLed(_)) => return Err(led_fault(rt, log, desk)),
             Err(NodeError::Memory) => return Err(Fault::from(StreamError::Memory)),
             Err(NodeError::Unanswered) => {
                 if passed_ms(&clocks).saturating_sub(heard_ms) >= PATIENCE_MS {

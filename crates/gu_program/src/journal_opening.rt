@@ -10,7 +10,7 @@ use crate::journal_file::{FileLog, FoundFile, fault_at, opened_at, refused};
 use crate::journal_name::{JournalName, NewFile};
 use crate::journal_place::{JournalSink, unkept_fault, with_comments};
 use crate::locking::Locks;
-use gu_days::play_day;
+use gu_days::{PlayedDay, play_day};
 use gu_journal::{DeviceError, FileDevice, Log, OpenError, Opened, STEP, Sink};
 use gu_keeping::{Chain, DigestFault, check_digests, keep_opening, resume_text};
 use gu_ref::Reference;
@@ -187,6 +187,20 @@ pub fn resume_text_of<'a, K: JournalSink>(
         return Err(fault_at(path, JournalFault::Reference));
     }
     let world = world_of_text(alloc, path, reference, seed, &text)?;
+    resume_played(alloc, path, sink, PlayedDay { world, text }, heading)
+}
+
+/// Goes on with a day whose journal's text was played: compares the text's digests, and appends comments with the time and the digest.
+pub fn resume_played<'a, K: JournalSink>(
+    alloc: Global,
+    path: &'a str,
+    sink: K,
+    day: PlayedDay,
+    heading: &Heading,
+) -> Result<ResumedDay<K>, Fault<'a>>
+    ensures { IfOk result (λ resumed. IsChainOf resumed.journal.chain resumed.world.state.book.history) }
+{
+    let PlayedDay { world, text } = day;
     let chain = checked_chain(alloc, path, &text, world.book().history())?;
     drop(text);
     let comments = heading.resumed_text(alloc).map_err(StreamError::from)?;

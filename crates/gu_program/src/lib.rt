@@ -16,6 +16,7 @@ mod journal_log;
 mod journal_name;
 mod journal_opening;
 mod journal_place;
+mod journal_standby;
 mod locking;
 mod progress;
 mod replaying;

@@ -1,7 +1,7 @@
 //! Runs of the program: what joins its words, files and streams with its engines.
 
 use crate::checking::check;
-use crate::day::{Screen, run_serve, run_serve_in_log};
+use crate::day::{Screen, lead_day, run_serve, serve_led};
 use crate::error::{ConsoleFault, RunError};
 use crate::fault::{Fault, Faults, Place};
 use crate::files::{reference_at, world_after};
@@ -173,6 +173,36 @@ fn answered<'a, R: Print + Eprint>(rt: &R, error: &Error) -> Result<Status, Faul
     }
 }
 
+/// Serves firms, with the journal of the day in a log that this desk takes the lead over; a standby that finds the day ended, or that an
+/// operator ends, is done. Faults are printed on standard error: they name places in words that the log's address and the gate outlive.
+fn run_day_in_log<
+    R: Print
+        + Eprint
+        + Files
+        + Clock
+        + RandomSource
+        + Net<Listener = TcpListener, Stream = TcpStream>
+        + Threads
+        + Wait
+        + Sync
+        + Alloc<A = Global>,
+    T: Write + Send + Drop,
+    E: Write + AsRawFd + Send + Drop,
+>(rt: &R, serving: &Serving<'_>, log: LogPlace<'_>, screen: Screen<T, E>) -> Status
+where
+    R::File: Locks + Send,
+{
+    let is_at_terminal = screen.terminal.is_some();
+    match lead_day(rt, serving, log, screen) {
+        Ok(Some((gate, day))) => {
+            let ended = serve_led(rt, serving, &gate, day);
+            status_after(rt, ended, is_at_terminal)
+        }
+        Ok(None) => Status::Done,
+        Err(faults) => status_after(rt, Err(faults), is_at_terminal),
+    }
+}
+
 /// Serves firms, with the journal of the day in a file or in a log, if it has one.
 fn run_day<
     'a,
@@ -195,14 +225,11 @@ where
     match log_named(rt.alloc(), serving) {
         Ok(None) => run_serve(rt, serving, screen),
         Ok(Some((journal, address))) => {
-            let is_at_terminal = screen.terminal.is_some();
             let log = LogPlace {
                 journal,
                 address: &address,
             };
-            // The faults name places in words that the address outlives, so they are printed here.
-            let ended = run_serve_in_log(rt, serving, log, screen);
-            Ok(status_after(rt, ended, is_at_terminal))
+            Ok(run_day_in_log(rt, serving, log, screen))
         }
         Err(error) => {
             drop(screen);

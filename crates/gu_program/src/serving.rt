@@ -7,8 +7,9 @@ ghost use Rattle.gu_keeping.specs.Chains.{IsChainOf};
 use crate::error::{ConsoleFault, DoorsFault, RunError};
 use crate::fault::{Fault, Place};
 use gu_journal::Sink;
+use gu_lease::{Clocks, Gate};
 use gu_log::{Beginning, EventLog, Listener, LogReader};
-use gu_office::{Addresses, FirmDoors, ListenError};
+use gu_office::{Addresses, FirmDoors, ListenError, OperatorSockets};
 use gu_secrets::Secrets;
 use gu_server::{DayJournal, Front, Opening, Served, Service, serve_day};
 use gu_sockets::{Doorway, ListenFault};
@@ -155,13 +156,30 @@ fn fault_of<'a>(serving: &Serving<'a>, error: &ListenError<'a>) -> Fault<'a> {
     }
 }
 
-/// Listens at the operators' sockets, at the firms' doors and at the port, given the firms of the reference.
+/// Listens at the operators' sockets.
+pub fn listen_for_operators<'a, R: Files + Net>(
+    rt: &R,
+    serving: &Serving<'a>,
+) -> Result<OperatorSockets, Fault<'a>> {
+    match addresses_of(serving, &[]).listen_for_operators(rt) {
+        Ok(sockets) => Ok(sockets),
+        Err(error) => Err(fault_of(serving, &error)),
+    }
+}
+
+/// Listens at the firms' doors and at the port, beside the operators' sockets, given the firms of the reference. Those sockets are opened
+/// first if they aren't open yet.
 pub fn listen<'a, R: Files + Net<Listener = TcpListener, Stream = TcpStream> + Alloc<A = Global>>(
     rt: &R,
     serving: &Serving<'a>,
     firms: &[FirmId],
+    operators: Option<OperatorSockets>,
 ) -> Result<Front<Doorway>, Fault<'a>> {
-    match addresses_of(serving, firms).listen(rt, rt.alloc()) {
+    let operators = match operators {
+        Some(operators) => operators,
+        None => listen_for_operators(rt, serving)?,
+    };
+    match addresses_of(serving, firms).listen_beside(rt, rt.alloc(), operators) {
         Ok(front) => Ok(front),
         Err(error) => Err(fault_of(serving, &error)),
     }
@@ -238,7 +256,8 @@ pub fn begin_log<R: Clock>(
     Ok(())
 }
 
-/// Serves the connections that come in, beginning with a world, whose receipts are audited too. Events are noted in the log.
+/// Serves the connections that come in, beginning with a world, whose receipts are audited too. Nothing leaves while the gate is closed.
+/// Events are noted in the log.
 pub fn serve<
     R: Net + Threads + Wait + Clock + Eprint + Sync + Alloc<A = Global>,
     T: Write + Send + Drop,
@@ -248,6 +267,7 @@ pub fn serve<
     begun: Begun<K>,
     serving: &Serving<'_>,
     front: Front<Doorway>,
+    gate: &Gate<Clocks<'_, R>>,
     log: &EventLog,
     terminal: Option<T>,
 ) -> Result<Served<K>, StreamError>
@@ -257,5 +277,5 @@ where
     let alloc = rt.alloc();
     let service = service_of(rt, serving);
     let opening = opening_of(alloc, begun, service, serving)?;
-    serve_day::<Brand, Brand, R, T, Doorway, K>(rt, alloc, opening, front, log, terminal)
+    serve_day::<Brand, Brand, R, T, Doorway, K>(rt, alloc, opening, front, gate, log, terminal)
 }

@@ -24,6 +24,7 @@ use gu_desk::{BlankAnnals, Desk, EntryLedger, Front as Beginning, LotLedger, Sea
 use gu_houses::{OpenOrders, Quota, SeatReceipts, Shares, Tally};
 use gu_journal::Sink;
 use gu_keeping::{Chain, Keeper};
+use gu_lease::{Clocks, Gate};
 use gu_log::EventLog;
 use gu_posts::Posts;
 use gu_secrets::Secrets;
@@ -153,6 +154,25 @@ fn shares_of(alloc: Global, book: &Book, percent: u16) -> Result<Option<Shares>,
     }
 }
 
+/// The firms of a day, the share that each may have, and the orders of sweeps that wait.
+#[derive(Drop)]
+struct Roster {
+    firms: Vec<FirmId>,
+    shares: Option<Shares>,
+    open_orders: OpenOrders,
+}
+
+/// Returns the roster of a book, no firm of which has more than this share.
+fn roster_of(alloc: Global, book: &Book, share: u16) -> Result<Roster, AllocError>
+    ensures { IfOk result (λ roster. roster.firms.items ≡ book.now.reference.firms) }
+{
+    Ok(Roster {
+        firms: Vec::from_slice(alloc, book.reference().firms())?,
+        shares: shares_of(alloc, book, share)?,
+        open_orders: OpenOrders::new(alloc, book.reference().groups())?,
+    })
+}
+
 /// The journal's thread as it is set up: where entries are reported, and what writes them.
 #[derive(Drop)]
 struct Pen<E: EntryLedger, K: Sink> {
@@ -212,6 +232,53 @@ fn with_receipts<E: EntryLedger, S: LotLedger>(
         keeping.push(SeatReceipts::new(alloc, seat))?;
     }
     Ok(keeping)
+}
+
+/// A desk as it opens: its seats, what writes its journal, and what closes it.
+#[derive(Drop)]
+struct OpenDesk<E: EntryLedger, S: LotLedger, K: Sink> {
+    desk: Desk<E, S>,
+    seats: Vec<SeatReceipts<E, S>>,
+    pen: Pen<E, K>,
+    ending: Ending<E, S>,
+}
+
+/// Returns the desk with which a day begins.
+fn open_desk<E: EntryLedger, S: LotLedger, R: Wait, K: Sink + Drop>(
+    rt: &R,
+    alloc: Global,
+    opening: Opening<K>,
+) -> Result<OpenDesk<E, S, K>, AllocError>
+    requires reference { opening.book.reference ≡ E.reference }
+    requires history { (opening.annals.name ≡ E.history) × (opening.book.history ≡ E.opening) × (lots_swept opening.book.history ≡ S.opening) }
+    requires blanks { (opening.entries.name ≡ E.name) × (opening.swept.name ≡ S.name) × (opening.entries.parts ≡ E.parts) × (opening.swept.parts ≡ S.parts) }
+    ensures { IfOk result (λ made. made.ending.receipts ≡ opening.receipts.items) }
+{
+    let Opening {
+        book,
+        annals,
+        receipts,
+        journal,
+        service,
+        secrets,
+        every: _,
+        share: _,
+        write_wait_ms: _,
+        entries,
+        swept,
+    } = opening;
+    drop(secrets);
+    let (desk, mut seats) = opened::<E, S>(alloc, book, annals, service.seats(), entries, swept)?;
+    let front = front_of(rt, &desk, &mut seats);
+    let pen = pen_of(alloc, front, journal)?;
+    let seats = with_receipts(alloc, seats)?;
+    let ending = Ending::new(alloc, seats.len(), receipts)?;
+    Ok(OpenDesk {
+        desk,
+        seats,
+        pen,
+        ending,
+    })
 }
 
 /// A poller for each worker's connections, and the bells that wake the workers.
@@ -277,12 +344,26 @@ pub struct Front<D> {
     pub bell: PollBell,
 }
 
-/// Opens a desk over a book, serves the connections that come in, and closes the desk after the last one. The port and the firms' doors are
-/// closed once the last connection was accepted or an operator closes the day. If connections can't be accepted, standard error or the log
-/// says so at once, and the desk tries again whenever one has ended or, on a day that goes on until it is closed, soon after. Progress is
-/// printed at a terminal, if there is one. A day with a journal shows nothing before the journal has it, and ends if the journal can't be
-/// written. Events are noted in the log.
-pub fn serve_day<
+/// What a day is served with, beside its desk.
+#[derive(Drop)]
+struct Ground<'a, 'c, R> {
+    firms: &'a [FirmId],
+    secrets: Option<&'a Secrets>,
+    shares: Option<&'a Shares>,
+    firm_places: &'a FirmPlaces<'a, R>,
+    posts: &'a Posts<PollBell>,
+    gate: &'a Gate<Clocks<'c, R>>,
+    open_orders: &'a OpenOrders,
+    tally: &'a Tally,
+    log: &'a EventLog,
+    service: Service,
+    every: u64,
+    write_wait_ms: u64,
+}
+
+/// Serves the connections that come in at an open desk, and closes the desk after the last one.
+fn hold_day<
+    'a,
     E: EntryLedger + Send + Sync,
     S: LotLedger + Send + Sync,
     R: Net + Threads + Wait + Clock + Eprint + Sync,
@@ -290,79 +371,65 @@ pub fn serve_day<
     D: LetsIn + Drop,
     K: Sink + Send + Drop,
 >(
-    rt: &R,
+    rt: &'a R,
     alloc: Global,
-    opening: Opening<K>,
-    front: Front<D>,
-    log: &EventLog,
+    ground: Ground<'a, '_, R>,
+    desk: OpenDesk<E, S, K>,
+    door: D,
+    pollers: Vec<SocketPoller>,
     terminal: Option<T>,
 ) -> Result<Served<K>, StreamError>
 where
     K::Place: Send,
-    requires reference { opening.book.reference ≡ E.reference }
-    requires history { (opening.annals.name ≡ E.history) × (opening.book.history ≡ E.opening) × (lots_swept opening.book.history ≡ S.opening) }
-    requires blanks { (opening.entries.name ≡ E.name) × (opening.swept.name ≡ S.name) × (opening.entries.parts ≡ E.parts) × (opening.swept.parts ≡ S.parts) }
+    requires { ground.firms.now ≡ E.reference.firms }
     ensures reference { IfOk result (λ r. r.closed.book.reference ≡ E.reference) }
-
     ensures lots { IfOk result (λ r. S.opening ≤ lots_swept r.closed.book.history) }
-
-    // The opening's history goes on. There are as many receipts as entries since, each of one of these; in all as many as entries, if so then.
-    ensures receipts { IfOk result (λ r. AddsReceipts E.opening opening.receipts.items r.closed.book.history r.closed.receipts) }
-    ensures count { length opening.receipts.items ≡ length E.opening → IfOk result (λ r. length r.closed.receipts ≡ length r.closed.book.history) }
+    ensures receipts { IfOk result (λ r. AddsReceipts E.opening desk.ending.receipts r.closed.book.history r.closed.receipts) }
+    ensures count { length desk.ending.receipts ≡ length E.opening → IfOk result (λ r. length r.closed.receipts ≡ length r.closed.book.history) }
 {
-    let Opening {
-        book,
-        annals,
-        receipts,
-        journal,
-        service,
+    let Ground {
+        firms,
         secrets,
-        every,
-        share,
-        write_wait_ms,
-        entries,
-        swept,
-    } = opening;
-    let shares = shares_of(alloc, &book, share)?;
-    let open_orders = OpenOrders::new(alloc, book.reference().groups())?;
-    let firms = Vec::from_slice(alloc, book.reference().firms())?;
-    let tally = Tally::new();
-    let hearers = Hearers {
-        rt,
-        tally: &tally,
+        shares,
+        firm_places,
+        posts,
+        gate,
+        open_orders,
+        tally,
         log,
-    };
-    let firm_places = FirmPlaces::new(alloc, firms.as_slice(), hearers, service)?;
-    let Watches { pollers, bells } = watches_of(rt, alloc, service.workers)?;
-    let Front { door, bell } = front;
-    let kept = kept_at_first(&journal, book.history().len());
-    let posts = Posts::new(alloc, bells, service.places(), bell, kept)?;
+        service,
+        every,
+        write_wait_ms,
+    } = ground;
+    let OpenDesk {
+        desk,
+        seats,
+        pen,
+        ending,
+    } = desk;
+    let Pen { news, writing } = pen;
     let kept_bell = KeptBell::new();
     let is_over = AtomicBool::new(false);
     let closers = Mutex::new(Vec::new(alloc));
-    let (desk, mut seats) = opened::<E, S>(alloc, book, annals, service.seats(), entries, swept)?;
-    let front = front_of(rt, &desk, &mut seats);
-    let Pen { news, writing } = pen_of(alloc, front, journal)?;
-    let informer = Informer::new(rt, &posts, news, log);
+    let informer = Informer::new(rt, posts, news, log);
     let operator_informer = OperatorInformer {
         informer: &informer,
     };
-    let seats = with_receipts(alloc, seats)?;
-    let ending = Ending::new(alloc, seats.len(), receipts)?;
     let floor = Floor {
         rt,
         alloc,
         desk: &desk,
-        firms: firms.as_slice(),
-        secrets: secrets.as_ref(),
-        shares: shares.as_ref(),
-        firm_places: &firm_places,
-        posts: &posts,
+        firms,
+        secrets,
+        shares,
+        firm_places,
+        posts,
+        gate,
         informer: &informer,
         operator_informer: &operator_informer,
         kept_bell: &kept_bell,
-        open_orders: &open_orders,
-        tally: &tally,
+        open_orders,
+        tally,
         log,
         service,
         every,
@@ -384,4 +451,76 @@ where
         closers: Closers::new(closers.into_inner()),
         journal,
     })
+}
+
+/// Opens a desk over a book, serves the connections that come in, and closes the desk after the last one. The port and the firms' doors are
+/// closed once the last connection was accepted or an operator closes the day. If connections can't be accepted, standard error or the log
+/// says so at once, and the desk tries again whenever one has ended or, on a day that goes on until it is closed, soon after. Progress is
+/// printed at a terminal, if there is one. A day with a journal shows nothing before the journal has it, and ends if the journal can't be
+/// written. While the gate of its lease is closed nothing leaves, and a day with a journal ends. Events are noted in the log.
+pub fn serve_day<
+    'a,
+    E: EntryLedger + Send + Sync,
+    S: LotLedger + Send + Sync,
+    R: Net + Threads + Wait + Clock + Eprint + Sync,
+    T: Write + Send + Drop,
+    D: LetsIn + Drop,
+    K: Sink + Send + Drop,
+>(
+    rt: &'a R,
+    alloc: Global,
+    opening: Opening<K>,
+    front: Front<D>,
+    gate: &'a Gate<Clocks<'_, R>>,
+    log: &'a EventLog,
+    terminal: Option<T>,
+) -> Result<Served<K>, StreamError>
+where
+    K::Place: Send,
+    requires reference { opening.book.reference ≡ E.reference }
+    requires history { (opening.annals.name ≡ E.history) × (opening.book.history ≡ E.opening) × (lots_swept opening.book.history ≡ S.opening) }
+    requires blanks { (opening.entries.name ≡ E.name) × (opening.swept.name ≡ S.name) × (opening.entries.parts ≡ E.parts) × (opening.swept.parts ≡ S.parts) }
+    ensures reference { IfOk result (λ r. r.closed.book.reference ≡ E.reference) }
+
+    ensures lots { IfOk result (λ r. S.opening ≤ lots_swept r.closed.book.history) }
+
+    // The opening's history goes on. There are as many receipts as entries since, each of one of these; in all as many as entries, if so then.
+    ensures receipts { IfOk result (λ r. AddsReceipts E.opening opening.receipts.items r.closed.book.history r.closed.receipts) }
+    ensures count { length opening.receipts.items ≡ length E.opening → IfOk result (λ r. length r.closed.receipts ≡ length r.closed.book.history) }
+{
+    let mut opening = opening;
+    let Roster {
+        firms,
+        shares,
+        open_orders,
+    } = roster_of(alloc, &opening.book, opening.share)?;
+    let secrets = opening.secrets.take();
+    let (service, every, write_wait_ms) = (opening.service, opening.every, opening.write_wait_ms);
+    let tally = Tally::new();
+    let hearers = Hearers {
+        rt,
+        tally: &tally,
+        log,
+    };
+    let firm_places = FirmPlaces::new(alloc, firms.as_slice(), hearers, service)?;
+    let Watches { pollers, bells } = watches_of(rt, alloc, service.workers)?;
+    let Front { door, bell } = front;
+    let kept = kept_at_first(&opening.journal, opening.book.history().len());
+    let posts = Posts::new(alloc, bells, service.places(), bell, kept)?;
+    let desk = open_desk::<E, S, R, K>(rt, alloc, opening)?;
+    let ground = Ground {
+        firms: firms.as_slice(),
+        secrets: secrets.as_ref(),
+        shares: shares.as_ref(),
+        firm_places: &firm_places,
+        posts: &posts,
+        gate,
+        open_orders: &open_orders,
+        tally: &tally,
+        log,
+        service,
+        every,
+        write_wait_ms,
+    };
+    hold_day(rt, alloc, ground, desk, door, pollers, terminal)
 }

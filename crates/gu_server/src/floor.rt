@@ -9,6 +9,7 @@ use crate::kept_bell::KeptBell;
 use crate::service::Service;
 use gu_desk::{Desk, EntryLedger, LotLedger};
 use gu_houses::{OpenOrders, Shares, Tally};
+use gu_lease::{Clocks, Gate};
 use gu_log::{Event, EventLog};
 use gu_posts::Posts;
 use gu_secrets::Secrets;
@@ -37,6 +38,8 @@ pub struct Floor<'a, E: EntryLedger, S: LotLedger, R> {
     pub firm_places: &'a FirmPlaces<'a, R>,
     /// The workers' posts.
     pub posts: &'a Posts<PollBell>,
+    /// The gate of the desk: nothing leaves without its permit.
+    pub gate: &'a Gate<Clocks<'a, R>>,
     /// What informs the workers of entries.
     pub informer: &'a Informer<'a, R>,
     /// What informs them of operators' entries.
@@ -62,7 +65,7 @@ pub struct Floor<'a, E: EntryLedger, S: LotLedger, R> {
 
 impl<'a, E: EntryLedger, S: LotLedger, R> Floor<'a, E, S, R> {
     /// Returns what the workers share: exactly the firms of the desk's reference may log on.
-    pub fn shared(&self) -> Shared<'a, FirmPlaces<'a, R>, PollBell>
+    pub fn shared(&self) -> Shared<'a, FirmPlaces<'a, R>, PollBell, Clocks<'a, R>>
         ensures firms { result.firms.now ≡ E.reference.firms }
         ensures secrets { option_map (λ secrets. secrets.now) result.secrets ≡ option_map (λ secrets. secrets.now) self.now.secrets }
     {
@@ -72,6 +75,7 @@ impl<'a, E: EntryLedger, S: LotLedger, R> Floor<'a, E, S, R> {
             looks: !self.log.is_silent(),
             admission: self.firm_places,
             posts: self.posts,
+            gate: self.gate,
         }
     }
 

@@ -11,6 +11,8 @@ pub enum LostBy<P> {
     Memory,
     /// The lines of an entry were no valid batch; nothing was written after what is kept.
     Length,
+    /// The lease by which the desk led has ended; nothing was written after what is kept.
+    Lease,
     /// Its place failed, or is another writer's: the last batch may be found in it, or a beginning of that batch.
     Place(Stopped<P, SinkError>),
 }

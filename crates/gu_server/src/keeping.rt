@@ -3,7 +3,7 @@
 use crate::floor::Floor;
 use crate::journal_end::{LostBy, LostJournal};
 use crate::origins::Origins;
-use crossbeam_channel::Receiver;
+use crossbeam_channel::{Receiver, RecvTimeoutError};
 use gu_desk::{EntryLedger, LotLedger, Origin};
 use gu_engine::{Clock as MomentClock, SystemClock};
 use gu_journal::Sink;
@@ -12,12 +12,16 @@ use gu_log::Event;
 use std::alloc::{AllocError, Global};
 use std::rt::Clock;
 use std::sync::{Wait, WaitMethods};
+use std::time::Duration;
 
 /// How many entries a batch may have.
 const MOST_AT_ONCE: usize = 1_024;
 
 /// If an entry is kept more than this many milliseconds after it was made, the log says so.
 const LONG_MS: u64 = 1_000;
+
+/// How many milliseconds pass at most before a desk that needs a lease sees that it has ended.
+const LOOK_MS: u64 = 250;
 
 /// News for the thread that writes the journal.
 #[derive(Drop)]
@@ -26,6 +30,21 @@ pub enum News {
     Made { number: u64, origin: Origin },
     /// No more entries are made.
     Over,
+}
+
+/// Returns the next news. A desk that needs a lease waits for a time only.
+fn next_of<R: Wait + Clock>(
+    rt: &R,
+    news: &Receiver<News>,
+    needs_lease: bool,
+) -> Result<News, RecvTimeoutError> {
+    if needs_lease {
+        return news.recv_timeout(rt, Duration::from_millis(LOOK_MS));
+    }
+    match news.recv(rt) {
+        Ok(first) => Ok(first),
+        Err(_) => Err(RecvTimeoutError::Disconnected),
+    }
 }
 
 /// What the thread that writes the journal knows about entries that aren't kept yet.
@@ -56,11 +75,17 @@ impl Unwritten {
         }
     }
 
-    /// Waits for news, and notes what there is.
-    fn wait<R: Wait>(&mut self, rt: &R, news: &Receiver<News>) -> Result<(), AllocError> {
-        match news.recv(rt) {
+    /// Waits for news, and notes what there is. A desk that needs a lease waits no longer than it may go without a look at it.
+    fn wait<R: Wait + Clock>(
+        &mut self,
+        rt: &R,
+        news: &Receiver<News>,
+        needs_lease: bool,
+    ) -> Result<(), AllocError> {
+        match next_of(rt, news, needs_lease) {
             Ok(first) => self.note(first)?,
-            Err(_) => self.is_over = true,
+            Err(RecvTimeoutError::Timeout) => {}
+            Err(RecvTimeoutError::Disconnected) => self.is_over = true,
         }
         for more in news.try_iter(rt).take(MOST_AT_ONCE) {
             self.note(more)?;
@@ -112,25 +137,6 @@ fn keep_known<E: EntryLedger, S: LotLedger, R: Wait + Clock, K: Sink>(
     Ok(keeper)
 }
 
-/// Keeps each entry of the day, until no more are made.
-fn keep_day<E: EntryLedger, S: LotLedger, R: Wait + Clock, K: Sink>(
-    floor: &Floor<'_, E, S, R>,
-    mut keeper: Keeper<E, K>,
-    news: &Receiver<News>,
-) -> Result<Keeper<E, K>, Unkept<Keeper<E, K>, K::Place>> {
-    let mut unwritten = Unwritten::after(floor.alloc, keeper.count());
-    for _news in floor.rt.forever() {
-        if unwritten.wait(floor.rt, news).is_err() {
-            return Err(Unkept::Memory(keeper));
-        }
-        keeper = keep_known(floor, keeper, &mut unwritten)?;
-        if unwritten.is_over {
-            break;
-        }
-    }
-    Ok(keeper)
-}
-
 /// Returns why the journal couldn't go on.
 fn lost_by<E: EntryLedger, K: Sink + Drop>(
     unkept: Unkept<Keeper<E, K>, K::Place>,
@@ -148,6 +154,46 @@ fn lost_by<E: EntryLedger, K: Sink + Drop>(
     }
 }
 
+/// Returns whether entries may be written: the desk needs no lease, or leads by it now.
+fn may_write<E: EntryLedger, S: LotLedger, R: Wait + Clock>(
+    floor: &Floor<'_, E, S, R>,
+    needs_lease: bool,
+) -> bool {
+    !needs_lease || floor.gate.leads(floor.rt)
+}
+
+/// Keeps each entry of the day, until no more are made or the lease of the desk has ended.
+fn keep_day<E: EntryLedger, S: LotLedger, R: Wait + Clock, K: Sink + Drop>(
+    floor: &Floor<'_, E, S, R>,
+    mut keeper: Keeper<E, K>,
+    news: &Receiver<News>,
+) -> Result<Keeper<E, K>, LostBy<K::Place>> {
+    let needs_lease = floor.gate.needs_lease();
+    let mut unwritten = Unwritten::after(floor.alloc, keeper.count());
+    let mut leads = may_write(floor, needs_lease);
+    for _news in floor.rt.forever() {
+        if !leads {
+            drop(keeper);
+            return Err(LostBy::Lease);
+        }
+        if unwritten.wait(floor.rt, news, needs_lease).is_err() {
+            drop(keeper);
+            return Err(LostBy::Memory);
+        }
+        leads = may_write(floor, needs_lease);
+        if leads {
+            keeper = match keep_known(floor, keeper, &mut unwritten) {
+                Ok(keeper) => keeper,
+                Err(unkept) => return Err(lost_by(unkept)),
+            };
+            if unwritten.is_over {
+                break;
+            }
+        }
+    }
+    Ok(keeper)
+}
+
 /// What the thread that writes the journal hands back: the keeper, if it kept every entry.
 pub type Kept<E, K> = Result<Keeper<E, K>, LostJournal<<K as Sink>::Place>>;
 
@@ -162,14 +208,11 @@ pub fn keep_all<E: EntryLedger, S: LotLedger, R: Wait + Clock, K: Sink + Drop>(
     drop(news);
     match ended {
         Ok(keeper) => Ok(keeper),
-        Err(unkept) => {
+        Err(by) => {
             floor.lose_journal();
             let kept = floor.posts.kept();
             floor.note(Event::JournalLost { kept });
-            Err(LostJournal {
-                kept,
-                by: lost_by(unkept),
-            })
+            Err(LostJournal { kept, by })
         }
     }
 }

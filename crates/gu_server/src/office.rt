@@ -47,4 +47,8 @@ impl<E: EntryLedger, S: LotLedger, R: Wait + rt::Clock> Office for Floor<'_, E, 
     fn is_closing(&self) -> bool {
         self.posts.is_closing()
     }
+
+    fn leads_log(&self) -> bool {
+        self.gate.needs_lease()
+    }
 }

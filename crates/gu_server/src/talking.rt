@@ -4,6 +4,7 @@ use crate::floor::Floor;
 use gu_console::{LineBuffer, Office, Operator, Said, serve_lines};
 use gu_desk::{EntryLedger, LotLedger};
 use gu_houses::Informs;
+use gu_lease::Permit;
 use gu_text::split_at_line_feed;
 use std::io;
 use std::io::{ErrorKind, Read, Write};
@@ -43,11 +44,18 @@ fn have_passed<R: Clock>(rt: &R, since: Instant, seconds: u64) -> bool {
     }
 }
 
-/// Writes a text within ten seconds and before the day is over, and returns whether all of it went out.
+/// Writes as much of a text as a stream takes, once, by a permit of the desk's gate.
+fn write(mut stream: &UnixStream, text: &[u8], _permit: Permit) -> io::Result<usize> {
+    stream.write(text)
+}
+
+/// Writes a text that shows this many entries at most, within ten seconds, before the day is over and while the desk leads. Returns whether
+/// all of it went out.
 fn send<E: EntryLedger, S: LotLedger, R: Wait + Clock>(
     floor: &Floor<'_, E, S, R>,
-    mut stream: &UnixStream,
+    stream: &UnixStream,
     text: &[u8],
+    seen: u64,
 ) -> bool {
     let Ok(since) = Instant::now(floor.rt) else {
         return false;
@@ -57,7 +65,10 @@ fn send<E: EntryLedger, S: LotLedger, R: Wait + Clock>(
         if rest.is_empty() {
             return true;
         }
-        match stream.write(rest) {
+        let Some(permit) = floor.gate.ask(floor.rt, seen) else {
+            return false;
+        };
+        match write(stream, rest, permit) {
             Ok(0) => return false,
             Ok(count) => rest = rest.get(count..).unwrap_or(&[]),
             Err(error) if !is_pause(&error) => return false,
@@ -93,7 +104,7 @@ impl Exchange<'_> {
         floor: &Floor<'_, E, S, R>,
         seen: u64,
     ) -> bool {
-        let is_sent = floor.await_kept(seen) && send(floor, self.stream, &self.output);
+        let is_sent = floor.await_kept(seen) && send(floor, self.stream, &self.output, seen);
         self.output.clear();
         is_sent
     }

@@ -3,6 +3,7 @@
 ghost use Rattle.std.specs.Prelude.{◌≡◌, ◌↔◌, ◌≤◌, ◌<◌, false, true, if◌then◌else◌, drop, length, take, IfOk, IsTrue, OnOk, Some, ℕ};
 ghost use Rattle.std.specs.Fmt.{option_append};
 ghost use Rattle.std.specs.List.{All};
+ghost use Rattle.gu_lease.specs.Permits.{MayLeave};
 ghost use Rattle.gu_talks.specs.Marks.{MarksAll};
 ghost use Rattle.gu_talks.specs.Sources.{left_ahead};
 ghost use Rattle.gu_talks.specs.Turns.{TurnsOn, TurnsOnce, spot};
@@ -14,6 +15,7 @@ use crate::poller::{EndsWriting, Ready};
 use crate::source::{Ahead, Source};
 use crate::visit_clock::VisitClock;
 use gu_engine::{Answerer, Backlog, Connection, Conversation, House, Turned};
+use gu_lease::Permit;
 use gu_streams::{CountedReads, LONGEST_READ, NonBlocking, StreamError};
 use gu_terms::{FirmId, Moment};
 use std::alloc::Global;
@@ -28,7 +30,8 @@ const MOST_HELD: usize = 65_536;
 /// The buffer that a turn reads into.
 pub type TurnBuffer = [u8; LONGEST_READ];
 
-/// The exchange of a connection between its visits. Answers leave only by `send`, and none before it is marked.
+/// The exchange of a connection between its visits. Answers leave only by `send`, which takes a permit of the desk's gate, and none before it
+/// is marked.
 pub struct Talk<I, O> {
     conversation: Conversation,
     source: Source<I>,
@@ -200,8 +203,17 @@ impl<I: Read + Drop, O: Write + Drop> Talk<I, O> {
         self.marks.mark(self.backlog.held(), number);
     }
 
+    /// Sends by a permit of the desk's gate: as much of what is held as its stream takes and as may go while the permit's number of entries
+    /// is kept.
+    pub fn send(&mut self, permit: Permit) -> Result<(), StreamError>
+        ensures sends { OnOk result (Sends O.contents permit.kept self.old self.new) }
+        ensures led { MayLeave permit.lease }
+    {
+        self.send_kept(permit.kept())
+    }
+
     /// Sends as much of what is held as its stream takes and as may go while this many entries are kept, and frees empty buffers.
-    pub fn send(&mut self, kept: u64) -> Result<(), StreamError>
+    fn send_kept(&mut self, kept: u64) -> Result<(), StreamError>
         ensures { OnOk result (Sends O.contents kept self.old self.new) }
     {
         let before = self.backlog.held();

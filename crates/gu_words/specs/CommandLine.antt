@@ -73,11 +73,12 @@ operated_app is_until_closed =
     with_rule (with_rule (with_rule (with_rule (counted_app (most_connections is_until_closed)) (path_rule (codes "console")))
     (path_rule (codes "watch"))) (flag_rule (codes "until-closed"))) workers_rule
 
--- the command `serve`: with these, the folder of the firms' doors, the file of their secrets, a log, and the share of a firm
+-- the command `serve`: with these, the folder of the firms' doors, the file of their secrets, a log, the share of a firm, and a desk that
+-- stands by
 abbrev pub serve_shape : Bool → Shape
 serve_shape is_until_closed =
-    (with_rule (with_rule (with_rule (with_rule (operated_app is_until_closed) (path_rule (codes "doors"))) (path_rule (codes "secrets"))) (flag_rule (codes "log")))
-    share_rule).top
+    (with_rule (with_rule (with_rule (with_rule (with_rule (operated_app is_until_closed) (path_rule (codes "doors"))) (path_rule (codes "secrets")))
+    (flag_rule (codes "log"))) share_rule) (flag_rule (codes "standby"))).top
 
 -- the command `tell`, which takes the path of a socket, and lines
 abbrev pub tell_shape : Shape

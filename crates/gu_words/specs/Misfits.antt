@@ -1,5 +1,5 @@
 -- Words of `serve` that don't go together, and why words are refused.
-use Rattle.std.specs.Prelude.{◌&&◌, ℕ, Bool, false, not, is_some, List, [], ◌∷◌, codes, Option, Some, None, if◌then◌else◌, nat_lt}
+use Rattle.std.specs.Prelude.{◌&&◌, ◌||◌, ℕ, Bool, false, not, is_some, List, [], ◌∷◌, codes, Option, Some, None, if◌then◌else◌, nat_lt}
 use Rattle.std.specs.Option.{option_map_or}
 use Rattle.std.specs.Str.{bytes_eq}
 use Rattle.clap.specs.Kinds.{or_else}
@@ -50,7 +50,7 @@ has_bad_port rows = option_map_or (λ word. not (is_port word)) (port_word rows)
 
 -- why the words of a server don't go together: the word for its port isn't one; one that runs until it is closed has no console to
 -- which it can be; one that doesn't has a number of workers, or more than 32 connections; the console and the watch are one socket; a day
--- that goes on has no journal; there is neither a port nor a door; or there are both, but no secrets
+-- that goes on, or for which a desk stands by, has no journal; there is neither a port nor a door; or there are both, but no secrets
 abbrev pub misfit_in : List Row → Option Misfit
 misfit_in rows =
     if has_bad_port rows then Some NotAPort
@@ -58,7 +58,7 @@ misfit_in rows =
     else if not (is_until_closed rows) && has rows (codes "W") then Some NotUntilClosed
     else if not (is_until_closed rows) && nat_lt 32 (number_of (word_in rows (codes "N"))) then Some ManyConnections
     else if is_one_path (first_of (codes "console") rows) (first_of (codes "watch") rows) then Some OnePath
-    else if is_set rows (codes "resume") && not (has rows (codes "journal")) then Some NoJournal
+    else if (is_set rows (codes "resume") || is_set rows (codes "standby")) && not (has rows (codes "journal")) then Some NoJournal
     else if not (has_port rows) && not (has rows (codes "doors")) then Some NoDoors
     else if has_port rows && (has rows (codes "doors") && not (has rows (codes "secrets"))) then Some NoSecrets
     else None

@@ -23,10 +23,11 @@ pub data Lasting : Type 0 where
   Counts : (connections : ℕ) (console : Option Text) → Lasting
   GoesOn : (console : Text) (places : ℕ) (workers : Option ℕ) → Lasting
 
--- the file to which a server's day is written: its path, and whether a day that is already in it is resumed
+-- the file to which a server's day is written: its path, whether a day that is already in it is resumed, and whether the desk stands by
 pub record Keeping : Type 0 where
   pub path : Text
   pub resumes : Bool
+  pub stands_by : Bool
 
 -- what words may ask for: trade capture, the check of a sheet, one session of a firm on the reference of a file, perhaps after a script,
 -- a script on such a reference, a server on such a reference, lines for a server, or a secret for a firm. A server has perhaps a port, a
@@ -49,7 +50,7 @@ text_of = option_map (λ word. word.now)
 
 -- the file to which a server's day is written, if it is
 abbrev pub keeping_of : Option Journal → Option Keeping
-keeping_of = option_map (λ journal. record { path = journal.path.now; resumes = journal.resumes })
+keeping_of = option_map (λ journal. record { path = journal.path.now; resumes = journal.resumes; stands_by = journal.stands_by })
 
 -- how long a server goes on
 abbrev pub lasting_of : Span → Lasting
@@ -115,7 +116,7 @@ lasting_by rows =
 
 -- the file to which the day is written, if it is
 abbrev pub keeping_by : List Row → Option Keeping
-keeping_by rows = option_map (λ path. record { path = path; resumes = is_set rows (codes "resume") }) (first_of (codes "journal") rows)
+keeping_by rows = option_map (λ path. record { path = path; resumes = is_set rows (codes "resume"); stands_by = is_set rows (codes "standby") }) (first_of (codes "journal") rows)
 
 -- what `serve` asks for
 abbrev pub served_by : List Row → Wanted

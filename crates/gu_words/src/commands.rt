@@ -48,7 +48,7 @@ const RESUME: &str =
 
 /// The help text for a console.
 const CONSOLE: &str =
-    "The path of a socket that answers operators: lines of a script, STATUS, JOURNAL, CUT and CLOSE";
+    "The path of a socket that answers operators: lines of a script, STATUS, JOURNAL, CUT, CLOSE and LEAD";
 
 /// The help text for a watch.
 const WATCH: &str =
@@ -73,6 +73,10 @@ const LOG: &str =
 /// The help text for a firm's share.
 const SHARE: &str =
     "The percentage that the sessions of one firm may make of the entries for which there is room when it begins, and of a group's open offers, 1 to 100";
+
+/// The help text for a standby.
+const STANDBY: &str =
+    "Follows the log of --journal and plays it; listens once this desk leads: when the lease of the one that leads has ended, or at LEAD on its console";
 
 /// The help text for secrets.
 const SECRETS: &str =
@@ -267,7 +271,9 @@ pub fn serve_command<'a>(alloc: Global, is_until_closed: bool) -> Result<Command
         "100",
         SHARE,
     );
-    logged.arg(share)
+    let shared = logged.arg(share)?;
+    let standby = flag(alloc, "standby", STANDBY);
+    shared.arg(standby)
 }
 
 /// Returns a command that takes only a port, and only as a number.

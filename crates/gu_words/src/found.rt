@@ -1,6 +1,6 @@
 //! What was found in the words of a command that clap accepted.
 
-ghost use Rattle.std.specs.Prelude.{◌≡◌, ◌≤◌, [], IfOk, IfSome, codes, map, nat_lt, option_map, unwrap_or};
+ghost use Rattle.std.specs.Prelude.{◌≡◌, ◌≤◌, ◌||◌, [], IfOk, IfSome, codes, map, nat_lt, option_map, unwrap_or};
 ghost use Rattle.clap.specs.Words.{IsUnsignedIn, all_of, first_of, found_of, rows_of};
 ghost use Rattle.gu_words.specs.Misfits.{has, has_bad_port, is_one_path, misfit_in, port_of};
 ghost use Rattle.gu_words.specs.ProgramWords.{HasCounts, is_set, keeping_by, keeping_of, lasting_by, lasting_of, number_of, port_word, served_by, text_of, wanted_of, word_in};
@@ -95,6 +95,20 @@ fn has_one_path(found: &ArgMatches<'_>) -> bool
     }
 }
 
+/// Returns whether the desk stands by for another one.
+fn stands_by(found: &ArgMatches<'_>) -> bool
+    ensures { result ≡ is_set (rows_of (found_of found.now)) (codes "standby") }
+{
+    is_set(found, "standby")
+}
+
+/// Returns whether the day goes on that a journal has.
+fn goes_on(found: &ArgMatches<'_>) -> bool
+    ensures { result ≡ (is_set (rows_of (found_of found.now)) (codes "resume") || is_set (rows_of (found_of found.now)) (codes "standby")) }
+{
+    is_set(found, "resume") || stands_by(found)
+}
+
 /// Returns why the words of `serve` don't go together, if they don't.
 pub fn misfit_in(found: &ArgMatches<'_>) -> Option<Misfit>
     ensures { IsUnsignedIn 1 1024 (word_in (rows_of (found_of found.now)) (codes "N")) → result ≡ misfit_in (rows_of (found_of found.now)) }
@@ -111,7 +125,7 @@ pub fn misfit_in(found: &ArgMatches<'_>) -> Option<Misfit>
         Some(Misfit::ManyConnections)
     } else if has_one_path(found) {
         Some(Misfit::OnePath)
-    } else if is_set(found, "resume") && !has(found, "journal") {
+    } else if goes_on(found) && !has(found, "journal") {
         Some(Misfit::NoJournal)
     } else if !has_port && !has(found, "doors") {
         Some(Misfit::NoDoors)
@@ -162,6 +176,7 @@ fn journal_in<'a>(found: &ArgMatches<'a>) -> Option<Journal<'a>>
         Some(path) => Some(Journal {
             path,
             resumes: is_set(found, "resume"),
+            stands_by: stands_by(found),
         }),
         None => None,
     }

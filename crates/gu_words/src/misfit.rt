@@ -18,7 +18,7 @@ pub enum Misfit {
     ManyConnections,
     /// The console and the watch are one socket.
     OnePath,
-    /// A day is to be resumed, but no journal is named.
+    /// A day is to be resumed, or a desk is to stand by, but no journal is named.
     NoJournal,
     /// There is neither a port nor a door.
     NoDoors,

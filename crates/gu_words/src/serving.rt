@@ -44,6 +44,8 @@ pub struct Journal<'a> {
     pub path: &'a str,
     /// Whether a day that is already there is resumed.
     pub resumes: bool,
+    /// Whether the desk follows a log until it leads. A day that is there is resumed then, too.
+    pub stands_by: bool,
 }
 
 /// What a server is started with. Each number is within its range.

@@ -3,6 +3,8 @@ use Rattle.std.specs.Prelude.{◌≡◌, ◌⊎◌, ℕ, Bool, true, false, List
 use Rattle.gu_engine.specs.Houses.{HouseRules}
 use Rattle.gu_engine.specs.Turned.{is_last}
 use Rattle.gu_engine.specs.declared.turned.Turned.{Turned}
+use Rattle.gu_lease.specs.Permits.{MayLeave}
+use Rattle.gu_lease.specs.declared.permit.Permit.{Permit}
 use Rattle.gu_talks.specs.Visits.{ClosesTalk, Sends, StaysAsItIs, Visits}
 use Rattle.gu_talks.specs.declared.talk.Talk.{Talk}
 use Rattle.gu_workers.specs.Stages.{is_leaving}
@@ -37,3 +39,8 @@ pub record SendsPlace {I O : Type 0} (contents : O → Option (List ℕ)) (kept 
   pub backlog : new.talk.backlog ≡ sent.backlog
   pub marks : new.talk.marks ≡ sent.marks
   pub card : new.card ≡ old.card
+
+-- What a connection holds goes out by a permit that was given while the desk led, or needed no lease, and that says how many entries are kept.
+-- Without such a permit nothing goes out, and the connection is as it was.
+abbrev pub LeavesByPermit : {I O : Type 0} → (O → Option (List ℕ)) → ℕ → Place I O → Place I O → Type 0
+LeavesByPermit contents kept old new = (new ≡ old) ⊎ ((permit : Permit) × MayLeave permit.lease × (permit.kept ≡ kept) × SendsPlace contents kept old new)

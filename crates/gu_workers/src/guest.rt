@@ -6,6 +6,7 @@ use crate::card::Card;
 use crate::knocker::Knocker;
 use crate::place::Place;
 use crate::stage::Deadline;
+use gu_lease::Permit;
 use gu_talks::{EndsWriting, Ready};
 use std::io::{Read, Write};
 
@@ -58,10 +59,10 @@ impl<I: Read + Drop, O: Write + EndsWriting + Drop> Guest<I, O> {
         }
     }
 
-    /// Sends as much of what is held as its stream takes and as may go now that this many entries are kept. No more entries will be kept.
-    pub fn send_last(&mut self, kept: u64) {
+    /// Sends by a permit of the desk's gate as much of what is held as its stream takes and as may go. No more entries will be kept.
+    pub fn send_last(&mut self, permit: Permit) {
         if let Guest::Talks(place) = self {
-            let _ = place.talk.send(kept);
+            let _ = place.talk.send(permit);
         }
     }
 }

@@ -1,6 +1,7 @@
 //! A connection at its place in a worker: its exchange, its stage, and what waits.
 
 ghost use Rattle.std.specs.Prelude.{◌≡◌, ◌≤◌, true, false, length, IfOk};
+ghost use Rattle.gu_lease.specs.Permits.{MayLeave};
 ghost use Rattle.gu_talks.specs.Marks.{MarksAll};
 ghost use Rattle.gu_workers.specs.Admitting.{inside};
 
@@ -10,6 +11,7 @@ use crate::card::Card;
 use crate::stage::{Deadline, HANG_UP_MS, LOGOUT_MS, Stage};
 use crate::timer::Now;
 use gu_engine::{House, Turned};
+use gu_lease::Permit;
 use gu_log::EndCause;
 use gu_posts::ConnectionStatus;
 use gu_streams::StreamError;
@@ -252,13 +254,15 @@ impl<I: Read + Drop, O: Write + EndsWriting + Drop> Place<I, O> {
         }
     }
 
-    /// Sends as much of what is held as its stream takes and as may go while this many entries are kept. If its session is over and all has
-    /// gone out, it ends its half of the stream.
-    pub fn send(mut self, kept: u64, now: &Now) -> Result<Self, StreamError>
-        ensures sends { IfOk result (λ sent. SendsPlace O.contents kept self sent) }
+    /// Sends by a permit of the desk's gate: as much of what is held as its stream takes and as may go while the permit's number of entries
+    /// is kept. If its session is over and all has gone out, it ends its half of the stream.
+    pub fn send(mut self, permit: Permit, now: &Now) -> Result<Self, StreamError>
+        ensures sends { IfOk result (λ sent. SendsPlace O.contents permit.kept self sent) }
+        ensures led { MayLeave permit.lease }
     {
         let before = self.talk.bytes_out();
-        self.talk.send(kept)?;
+        let kept = permit.kept();
+        self.talk.send(permit)?;
         self.held_since = self.waits_since(kept, before, now);
         match self.stage {
             Stage::GoingOut { wait_ms } if self.talk.held() == 0 => {
@@ -291,14 +295,12 @@ impl<I: Read + Drop, O: Write + EndsWriting + Drop> Place<I, O> {
         }
     }
 
-    /// Goes on with the end of a connection whose session is over.
-    pub fn leave(mut self, buffer: &mut TurnBuffer, kept: u64, now: &Now) -> Result<Self, EndCause>
+    /// Drops what comes after all has gone out. It ends once its peer has ended or failed.
+    pub fn drain(mut self, buffer: &mut TurnBuffer) -> Result<Self, EndCause>
         ensures conversation { IfOk result (λ left. left.talk.conversation ≡ self.talk.conversation) }
+        ensures unsent { IfOk result (λ left. left.talk.writer ≡ self.talk.writer) }
         ensures card { IfOk result (λ left. left.card ≡ self.card) }
     {
-        if !matches!(self.stage, Stage::HangingUp { .. }) {
-            return self.send(kept, now).map_err(cause_of);
-        }
         if self.talk.drain(buffer) {
             return Err(EndCause::Done);
         }

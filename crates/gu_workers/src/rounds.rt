@@ -8,6 +8,7 @@ use crate::timer::{Now, Timer};
 use crate::worker::{Round, Worker};
 use crossbeam_channel::TryRecvError;
 use gu_engine::House;
+use gu_lease::BothClocks;
 use gu_log::{EndCause, Refusal};
 use gu_notices::FirmPlace;
 use gu_posts::{Bell, bit_of};
@@ -26,7 +27,8 @@ impl<
     H: House + AnswersMany + Drop,
     A: Admission,
     B: Bell,
-> Worker<'_, P, T, H, A, B> {
+    C: BothClocks,
+> Worker<'_, P, T, H, A, B, C> {
     /// Makes one round: waits once, notes what has happened, sends what was held back and may go now, visits each connection that wants it
     /// once, and takes those that have come. Once no more entries will be kept, it sends what may go, and is over.
     pub fn round<R: Wait>(&mut self, rt: &R) -> Result<Round, WorkerError> {
@@ -41,8 +43,8 @@ impl<
         self.note_cuts()?;
         self.note_closing(&now)?;
         self.note_due(&now)?;
-        self.note_kept(&now)?;
-        self.visit_all(&now)?;
+        self.note_kept(rt, &now)?;
+        self.visit_all(rt, &now)?;
         self.take_calls(rt, &now)?;
         if self.has_all_calls && self.slots.is_empty() {
             return Ok(Round::Over);
@@ -83,12 +85,17 @@ impl<
         }
     }
 
-    /// Sends what may go of each connection, once, and ends them all: no more entries will be kept, so nothing more is answered.
+    /// Sends what may go of each connection, once, if the desk leads, and ends them all: no more entries will be kept, so nothing more is
+    /// answered.
     fn stop<R: Wait>(&mut self, rt: &R) {
         let kept = self.shared.posts.kept();
+        let gate = self.shared.gate;
         for at in 0..self.slots.len() {
+            let Some(permit) = gate.ask(rt, kept) else {
+                break;
+            };
             if let Some(guest) = self.slots.get_mut(at) {
-                guest.send_last(kept);
+                guest.send_last(permit);
             }
         }
         self.end_all(rt);
@@ -255,7 +262,7 @@ impl<
     }
 
     /// Sends what connections have held back, if more entries are kept than before.
-    fn note_kept(&mut self, now: &Now) -> Result<(), AllocError> {
+    fn note_kept<R: Wait>(&mut self, rt: &R, now: &Now) -> Result<(), AllocError> {
         let kept = self.shared.posts.kept();
         if kept == self.kept {
             return Ok(());
@@ -263,17 +270,17 @@ impl<
         self.kept = kept;
         for _place in 0..self.slots.begin_releases() {
             if let Some((at, guest)) = self.slots.next_release() {
-                self.release(at, guest, now)?;
+                self.release(rt, at, guest, now)?;
             }
         }
         Ok(())
     }
 
     /// Visits each connection that is listed, once.
-    fn visit_all(&mut self, now: &Now) -> Result<(), AllocError> {
+    fn visit_all<R: Wait>(&mut self, rt: &R, now: &Now) -> Result<(), AllocError> {
         for _visit in 0..self.slots.begin_visits() {
             if let Some((at, guest)) = self.slots.next_visit() {
-                self.visit(at, guest, now)?;
+                self.visit(rt, at, guest, now)?;
             }
         }
         Ok(())

@@ -1,12 +1,13 @@
 //! What the workers of a server share.
 
+use gu_lease::Gate;
 use gu_posts::Posts;
 use gu_secrets::Secrets;
 use gu_terms::FirmId;
 use std::alloc::AllocError;
 
 /// What the workers of a server share.
-pub struct Shared<'a, A, B> {
+pub struct Shared<'a, A, B, C> {
     /// The firms of the reference, each of which may log on.
     pub firms: &'a [FirmId],
     /// The secrets that firms need to log on, if there are any.
@@ -17,12 +18,14 @@ pub struct Shared<'a, A, B> {
     pub admission: &'a A,
     /// The workers' posts, by which others reach them.
     pub posts: &'a Posts<B>,
+    /// The gate of the desk: nothing leaves without its permit.
+    pub gate: &'a Gate<C>,
 }
 
-impl<A, B> Clone for Shared<'_, A, B> {
+impl<A, B, C> Clone for Shared<'_, A, B, C> {
     fn clone(&self) -> Result<Self, AllocError> {
         Ok(*self)
     }
 }
 
-impl<A, B> Copy for Shared<'_, A, B> {}
+impl<A, B, C> Copy for Shared<'_, A, B, C> {}

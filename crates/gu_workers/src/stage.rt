@@ -54,6 +54,11 @@ impl Stage {
         matches!(self, Stage::GoingOut { .. } | Stage::HangingUp { .. })
     }
 
+    /// Returns whether all has gone out.
+    pub fn is_hanging_up(self) -> bool {
+        matches!(self, Stage::HangingUp { .. })
+    }
+
     /// Returns the stage after a turn: unchanged, unless it was the last turn of the session.
     pub fn after(self, turned: Turned) -> Self
         ensures last { is_last turned ≡ true → is_leaving result ≡ true }

@@ -5,6 +5,7 @@ ghost use Rattle.std.specs.Option.{option_map};
 ghost use Rattle.std.specs.Fmt.{option_append};
 ghost use Rattle.gu_talks.specs.Visits.{IsNewTalk};
 ghost use Rattle.gu_workers.specs.Guests.{BeginsAt};
+ghost use Rattle.gu_workers.specs.Places.{LeavesByPermit};
 ghost use Rattle.gu_workers.specs.Knockers.{firms_at, firms_let_in};
 
 use crate::admission::Admission;
@@ -23,6 +24,7 @@ use crate::timer::{Now, Timer};
 use crossbeam_channel::Receiver;
 use gu_engine::House;
 use gu_knocks::Guard;
+use gu_lease::BothClocks;
 use gu_log::{EndCause, Refusal};
 use gu_notices::FirmPlace;
 use gu_posts::{Bell, Call, ConnectionStatus};
@@ -30,6 +32,7 @@ use gu_streams::{LONGEST_READ, MOST_READS, StreamError};
 use gu_talks::{Halves, Poller, Ready, Talk, TurnBuffer};
 use gu_terms::FirmId;
 use std::alloc::{AllocError, Global};
+use std::sync::Wait;
 
 /// How many connections are noted as ready at once, as a rule.
 const MOST_READY: usize = 256;
@@ -70,9 +73,9 @@ pub enum Round {
 
 /// A worker, which turns many connections. It opens nothing and starts nothing: what it reads, writes and waits for is what its poller
 /// gives.
-pub struct Worker<'a, P: Poller, T, H, A, B> {
+pub struct Worker<'a, P: Poller, T, H, A, B, C> {
     pub(crate) alloc: Global,
-    pub(crate) shared: Shared<'a, A, B>,
+    pub(crate) shared: Shared<'a, A, B, C>,
     pub(crate) settings: WorkerSettings,
     pub(crate) poller: P,
     pub(crate) timer: T,
@@ -94,7 +97,7 @@ pub struct Worker<'a, P: Poller, T, H, A, B> {
     pub(crate) kept: u64,
 }
 
-impl<'a, P: Poller + Drop, T: Drop, H: Drop, A, B> Drop for Worker<'a, P, T, H, A, B> {
+impl<'a, P: Poller + Drop, T: Drop, H: Drop, A, B, C> Drop for Worker<'a, P, T, H, A, B, C> {
     fn drop(self) {
         let Worker {
             alloc: _,
@@ -130,11 +133,12 @@ impl<
     H: House + AnswersMany + Drop,
     A: Admission,
     B: Bell,
-> Worker<'a, P, T, H, A, B> {
+    C: BothClocks,
+> Worker<'a, P, T, H, A, B, C> {
     /// Creates a worker whose places are free. Where an allocation fails, the house comes back.
     pub fn new(
         alloc: Global,
-        shared: Shared<'a, A, B>,
+        shared: Shared<'a, A, B, C>,
         settings: WorkerSettings,
         tools: WorkerTools<P, T, H>,
     ) -> Result<Self, H>
@@ -251,9 +255,36 @@ impl<
         went
     }
 
-    /// Makes a visit: the session goes on, and what is held goes out.
-    fn go_on(
+    /// Sends what a connection holds and may go, by a permit that the gate gives now. If the desk doesn't lead, nothing leaves.
+    fn send<R: Wait>(&self, rt: &R, place: PlaceOf<P>, now: &Now) -> Result<PlaceOf<P>, EndCause>
+        ensures { IfOk result (LeavesByPermit P.Outgoing.contents self.now.kept place) }
+    {
+        let Some(permit) = self.shared.gate.ask(rt, self.kept) else {
+            return Ok(place);
+        };
+        match place.send(permit, now) {
+            Ok(sent) => Ok(sent),
+            Err(error) => Err(cause_of(error)),
+        }
+    }
+
+    /// Goes on with the end of a connection whose session is over.
+    fn leave<R: Wait>(
         &mut self,
+        rt: &R,
+        place: PlaceOf<P>,
+        now: &Now,
+    ) -> Result<PlaceOf<P>, EndCause> {
+        if place.stage.is_hanging_up() {
+            return place.drain(&mut self.buffer);
+        }
+        self.send(rt, place, now)
+    }
+
+    /// Makes a visit: the session goes on, and what is held goes out.
+    fn go_on<R: Wait>(
+        &mut self,
+        rt: &R,
         place: PlaceOf<P>,
         card: &mut Card,
         now: &Now,
@@ -262,7 +293,7 @@ impl<
             return Err(cause);
         }
         if place.stage.is_leaving() {
-            return place.leave(&mut self.buffer, self.kept, now);
+            return self.leave(rt, place, now);
         }
         let was_admitted = card.firm.is_some();
         let mut place = match self.turn(place, card, now) {
@@ -277,12 +308,13 @@ impl<
             place.tell(self.shared.posts.number(FirmPlace::of(&firm)));
         }
         place.mark(self.house.seen());
-        place.send(self.kept, now).map_err(cause_of)
+        self.send(rt, place, now)
     }
 
     /// Sends what a connection has held back and may go now, and puts it back at its place.
-    pub(crate) fn release(
+    pub(crate) fn release<R: Wait>(
         &mut self,
+        rt: &R,
         at: usize,
         guest: GuestOf<P>,
         now: &Now,
@@ -292,29 +324,36 @@ impl<
             Guest::Knocks(knocker) => return self.keep_knocker(at, knocker),
         };
         let card = place.card;
-        match place.send(self.kept, now) {
+        match self.send(rt, place, now) {
             Ok(place) => self.keep(at, place, card, now),
-            Err(error) => self.end(at, card, cause_of(error)),
+            Err(cause) => self.end(at, card, cause),
         }
     }
 
     /// Visits a connection, and puts it back at its place unless it has ended.
-    pub(crate) fn visit(
+    pub(crate) fn visit<R: Wait>(
         &mut self,
+        rt: &R,
         at: usize,
         guest: GuestOf<P>,
         now: &Now,
     ) -> Result<(), AllocError> {
         match guest {
-            Guest::Talks(place) => self.visit_place(at, place, now),
-            Guest::Knocks(knocker) => self.visit_knocker(at, knocker, now),
+            Guest::Talks(place) => self.visit_place(rt, at, place, now),
+            Guest::Knocks(knocker) => self.visit_knocker(rt, at, knocker, now),
         }
     }
 
     /// Visits a connection that has a session.
-    fn visit_place(&mut self, at: usize, place: PlaceOf<P>, now: &Now) -> Result<(), AllocError> {
+    fn visit_place<R: Wait>(
+        &mut self,
+        rt: &R,
+        at: usize,
+        place: PlaceOf<P>,
+        now: &Now,
+    ) -> Result<(), AllocError> {
         let mut card = place.card;
-        let went = self.go_on(place, &mut card, now);
+        let went = self.go_on(rt, place, &mut card, now);
         match went {
             Ok(place) => self.keep(at, place, card, now),
             Err(cause) => self.end(at, card, cause),
@@ -322,8 +361,9 @@ impl<
     }
 
     /// Visits a connection whose firm isn't known yet. Once the day is closing, nobody is let in.
-    fn visit_knocker(
+    fn visit_knocker<R: Wait>(
         &mut self,
+        rt: &R,
         at: usize,
         knocker: KnockerOf<P>,
         now: &Now,
@@ -344,7 +384,7 @@ impl<
                 admission.refuse(card.number, shown.firm, shown.fault);
                 self.keep_knocker(at, knocker)
             }
-            Ok(Knocked::Enters(let_in)) => self.enter(at, let_in, now),
+            Ok(Knocked::Enters(let_in)) => self.enter(rt, at, let_in, now),
             Err(cause) => self.end(at, card, cause),
         }
     }
@@ -381,10 +421,16 @@ impl<
     }
 
     /// Begins the session of a connection that is let in, and visits it.
-    fn enter(&mut self, at: usize, let_in: LetInOf<P>, now: &Now) -> Result<(), AllocError> {
+    fn enter<R: Wait>(
+        &mut self,
+        rt: &R,
+        at: usize,
+        let_in: LetInOf<P>,
+        now: &Now,
+    ) -> Result<(), AllocError> {
         let card = let_in.card;
         match self.seat(let_in, now) {
-            Ok(place) => self.visit_place(at, place, now),
+            Ok(place) => self.visit_place(rt, at, place, now),
             Err(cause) => self.end(at, card, cause),
         }
     }

@@ -1,7 +1,9 @@
 //! Renewing the lead.
 use crate::etcd::{Turn, candidate};
-use gu_etcd::{KEEP_ALIVE_PATH, Lease, Moment, NodeError};
+use crate::takings::{IS_LED_BY_B, LEADS};
+use gu_etcd::{KEEP_ALIVE_PATH, NodeError, TXN_PATH};
 use gu_lead::{Lead, Renewal};
+use gu_lease::{Lease, Moment};
 use std::test::Fail;
 
 /// A moment at which both clocks have gone on since the lease was asked for.
@@ -20,6 +22,19 @@ fn lead() -> Lead {
         lease: Lease::new(after(0), 3_000, 500),
     }
 }
+
+/// The question whether desk-A leads, by the value of the key DAY/leader.
+const LEADS_STILL: Turn = Turn {
+    endpoint: 0,
+    path: TXN_PATH,
+    says: "{\"compare\":[{\"target\":\"VALUE\",\"key\":\"REFZL2xlYWRlcg==\",\"value\":\"ZGVzay1B\"}],\"success\":[{\"request_range\":{\"key\":\"REFZL2xlYWRlcg==\"}}],",
+    answer: LEADS,
+};
+
+/// The answer that no desk leads.
+const NOBODY_LEADS: Option<&str> = Some(
+    "{\"header\":{\"revision\":\"8\"},\"responses\":[{\"response_range\":{\"header\":{\"revision\":\"8\"}}}]}",
+);
 
 /// The question whether lease 9 goes on.
 const ASKED: Turn = Turn {
@@ -42,20 +57,26 @@ const ROWS: &[(&str, u32, &[Turn], Result<Renewal, NodeError>, u32)] = &[
     (
         "it goes on",
         500,
-        &[Turn {
-            answer: GOES_ON,
-            ..ASKED
-        }],
+        &[
+            LEADS_STILL,
+            Turn {
+                answer: GOES_ON,
+                ..ASKED
+            },
+        ],
         Ok(Renewal::GoesOn),
         500,
     ),
     (
         "in the last millisecond of it",
         2_499,
-        &[Turn {
-            answer: GOES_ON,
-            ..ASKED
-        }],
+        &[
+            LEADS_STILL,
+            Turn {
+                answer: GOES_ON,
+                ..ASKED
+            },
+        ],
         Ok(Renewal::GoesOn),
         2_499,
     ),
@@ -69,18 +90,51 @@ const ROWS: &[(&str, u32, &[Turn], Result<Renewal, NodeError>, u32)] = &[
     (
         "etcd has ended it",
         500,
-        &[Turn {
-            answer: HAS_ENDED,
-            ..ASKED
-        }],
+        &[
+            LEADS_STILL,
+            Turn {
+                answer: HAS_ENDED,
+                ..ASKED
+            },
+        ],
         Ok(Renewal::Ended),
         0,
     ),
     (
         "without an answer it is as long as it was",
         500,
-        &[ASKED],
+        &[LEADS_STILL, ASKED],
         Err(NodeError::Unanswered),
+        0,
+    ),
+    (
+        "without an answer to the first question too",
+        500,
+        &[Turn {
+            answer: None,
+            ..LEADS_STILL
+        }],
+        Err(NodeError::Unanswered),
+        0,
+    ),
+    (
+        "another desk has claimed it",
+        500,
+        &[Turn {
+            answer: IS_LED_BY_B,
+            ..LEADS_STILL
+        }],
+        Ok(Renewal::Ended),
+        0,
+    ),
+    (
+        "another desk has claimed it, and leads no more",
+        500,
+        &[Turn {
+            answer: NOBODY_LEADS,
+            ..LEADS_STILL
+        }],
+        Ok(Renewal::Ended),
         0,
     ),
 ];
@@ -122,7 +176,12 @@ fn a_lead_that_a_clock_ended_is_ended_for_good(rt: HostRuntime) -> Result<(), Fa
 #[test]
 fn an_unanswered_renewal_goes_to_the_next_endpoint(rt: HostRuntime) -> Result<(), Fail> {
     let turns = [
+        LEADS_STILL,
         ASKED,
+        Turn {
+            endpoint: 1,
+            ..LEADS_STILL
+        },
         Turn {
             endpoint: 1,
             answer: GOES_ON,

@@ -1,7 +1,8 @@
 //! Taking the lead.
 use crate::etcd::{Turn, candidate};
 use gu_etcd::{GRANT_PATH, NodeError, TXN_PATH};
-use gu_lead::{Clocks, Lead, Taking, take_lead};
+use gu_lead::{Lead, Taking, take_lead};
+use gu_lease::Clocks;
 use std::test::Fail;
 
 /// A lease is asked for and granted.
@@ -21,17 +22,17 @@ const ASKED: Turn = Turn {
 };
 
 /// The answer that the desk leads.
-const LEADS: Option<&str> = Some(
+pub const LEADS: Option<&str> = Some(
     "{\"header\":{\"revision\":\"8\"},\"succeeded\":true,\"responses\":[{\"response_put\":{\"header\":{\"revision\":\"8\"}}}]}",
 );
 
 /// The answer that desk-A leads.
-const IS_LED_BY_A: Option<&str> = Some(
+pub const IS_LED_BY_A: Option<&str> = Some(
     "{\"header\":{\"revision\":\"8\"},\"responses\":[{\"response_range\":{\"header\":{\"revision\":\"8\"},\"kvs\":[{\"key\":\"REFZL2xlYWRlcg==\",\"create_revision\":\"8\",\"mod_revision\":\"8\",\"version\":\"1\",\"value\":\"ZGVzay1B\",\"lease\":\"7587862094870418962\"}],\"count\":\"1\"}}]}",
 );
 
 /// The answer that desk-B leads.
-const IS_LED_BY_B: Option<&str> = Some(
+pub const IS_LED_BY_B: Option<&str> = Some(
     "{\"header\":{\"revision\":\"8\"},\"responses\":[{\"response_range\":{\"header\":{\"revision\":\"8\"},\"kvs\":[{\"key\":\"REFZL2xlYWRlcg==\",\"create_revision\":\"6\",\"mod_revision\":\"6\",\"version\":\"1\",\"value\":\"ZGVzay1C\",\"lease\":\"5\"}],\"count\":\"1\"}}]}",
 );
 
@@ -90,7 +91,7 @@ const ROWS: &[(&str, &[Turn], Option<bool>)] = &[
         Some(false),
     ),
     (
-        "an answer that can't be read, after which the same endpoint is asked",
+        "an answer that can't be read, after which the next endpoint is asked",
         &[
             GRANTED,
             Turn {
@@ -98,6 +99,7 @@ const ROWS: &[(&str, &[Turn], Option<bool>)] = &[
                 ..ASKED
             },
             Turn {
+                endpoint: 1,
                 answer: LEADS,
                 ..ASKED
             },
@@ -105,19 +107,67 @@ const ROWS: &[(&str, &[Turn], Option<bool>)] = &[
         Some(true),
     ),
     (
-        "no lease",
-        &[Turn {
-            answer: None,
-            ..GRANTED
-        }],
+        "a first endpoint that is down, and a second one that answers no etcd's answer",
+        &[
+            Turn {
+                answer: None,
+                ..GRANTED
+            },
+            Turn {
+                endpoint: 1,
+                answer: Some("hello"),
+                ..GRANTED
+            },
+            Turn {
+                endpoint: 2,
+                ..GRANTED
+            },
+            Turn {
+                endpoint: 2,
+                answer: LEADS,
+                ..ASKED
+            },
+        ],
+        Some(true),
+    ),
+    (
+        "no lease, at any endpoint",
+        &[
+            Turn {
+                answer: None,
+                ..GRANTED
+            },
+            Turn {
+                endpoint: 1,
+                answer: None,
+                ..GRANTED
+            },
+            Turn {
+                endpoint: 2,
+                answer: None,
+                ..GRANTED
+            },
+        ],
         None,
     ),
     (
-        "a lease without an end",
-        &[Turn {
-            answer: Some("{\"header\":{},\"ID\":\"7\"}"),
-            ..GRANTED
-        }],
+        "a lease without an end, at each endpoint",
+        &[
+            Turn {
+                answer: Some("{\"header\":{},\"ID\":\"7\"}"),
+                ..GRANTED
+            },
+            Turn {
+                endpoint: 1,
+                answer: Some("{\"header\":{},\"ID\":\"7\"}"),
+                ..GRANTED
+            },
+            Turn {
+                endpoint: 2,
+                answer: Some("{\"header\":{},\"ID\":\"7\"}"),
+                ..GRANTED
+            },
+        ],
         None,
     ),
 ];
@@ -134,7 +184,11 @@ fn a_desk_leads_if_no_other_one_does(rt: HostRuntime) -> Result<(), Fail> {
                 assert_eq!(rt; (lease.length_ms, lease.margin_ms), (3_000, 500), "{what}");
                 assert_eq!(rt; lease.asked, lease.seen, "{what}");
             }
-            Ok(Taking::IsLed) => assert_eq!(rt; *leads, Some(false), "{what}"),
+            Ok(Taking::IsLed(claim)) => {
+                assert_eq!(rt; *leads, Some(false), "{what}");
+                assert_eq!(rt; claim.lead.number, 7_587_862_094_870_418_962, "{what}");
+                assert!(rt; claim.former.as_slice() == b"desk-B".as_slice(), "{what}");
+            }
             Err(error) => {
                 assert_eq!(rt; *leads, None, "{what}");
                 assert_eq!(rt; error, NodeError::Unanswered, "{what}");

@@ -97,6 +97,7 @@ giveup serve house - --doors hall < x -> 1 house ; ; giveup: doors: NotMade/give
 giveup serve house - < x -> 2 ; ; error: the following required arguments were not provided:/  --doors <FOLDER>//Usage: giveup serve [OPTIONS] <REF> <PORT>//For more information, try '--help'./
 giveup secret E1 < x -> 0 ; E1,07070707070707070707070707070707,40e450030d0b857819fc046187cddb246c4842f9a8c23810b93201ebc4e28520/; 554=07070707070707070707070707070707/
 giveup serve house 9878 --journal etcd://10.0.0.1:2379/DAY < x -> 2 ; ; error: invalid value for '--journal <FILE>': a log is etcd://HOST:PORT[,HOST:PORT..]/NAME, with hosts of this machine//Usage: giveup serve [OPTIONS] <REF> <PORT>//For more information, try '--help'./
+giveup serve house 9878 --journal log --standby < x -> 2 ; ; error: invalid value for '--journal <FILE>': a log is etcd://HOST:PORT[,HOST:PORT..]/NAME, with hosts of this machine//Usage: giveup serve [OPTIONS] <REF> <PORT>//For more information, try '--help'./
 giveup secret e1 < x -> 2 ; ; error: invalid value for '<FIRM>': a firm is 1 to 12 of A-Z, 0-9 and -//Usage: giveup secret <FIRM>//For more information, try '--help'./
 giveup serve house 0 < x -> 2 ; ; error: invalid value '0' for '<PORT>': 0 is not in 1..=65535//For more information, try '--help'./
 ";

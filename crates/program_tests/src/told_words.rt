@@ -168,7 +168,7 @@ fn serving_text(alloc: Global, serving: Serving<'_>) -> Result<String, AllocErro
     let port = port_text(alloc, port)?;
     let script = script.unwrap_or("no script");
     let (journal, goes_on) = match journal {
-        Some(Journal { path, resumes }) => (path, if resumes { " resumed" } else { "" }),
+        Some(journal) => (journal.path, going_on(journal)),
         None => ("no journal", ""),
     };
     let watch = watch.unwrap_or("no watch");
@@ -180,6 +180,17 @@ fn serving_text(alloc: Global, serving: Serving<'_>) -> Result<String, AllocErro
     format!(in alloc;
         "serve {reference} {port}, {script}, {journal}{goes_on}, {span}, {watch}, {every}{doors}{secrets}{logged}{shares}"
     )
+}
+
+/// Returns how a day goes on that its journal has already.
+fn going_on(journal: Journal<'_>) -> &'static str {
+    if journal.stands_by {
+        " followed"
+    } else if journal.resumes {
+        " resumed"
+    } else {
+        ""
+    }
 }
 
 /// Returns the lines for a desk, as words.

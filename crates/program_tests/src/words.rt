@@ -21,6 +21,8 @@ giveup serve house.csv 9878 --script day -> serve house.csv 9878, day, no journa
 giveup serve house.csv 9878 --journal log -> serve house.csv 9878, no script, log, 8 in all, no console, no watch, 16
 giveup serve house.csv 9878 --journal=log --script day -> serve house.csv 9878, day, log, 8 in all, no console, no watch, 16
 giveup serve house.csv 9878 --journal log --resume -> serve house.csv 9878, no script, log resumed, 8 in all, no console, no watch, 16
+giveup serve house.csv 9878 --journal etcd://localhost:2379/DAY --standby -> serve house.csv 9878, no script, etcd://localhost:2379/DAY followed, 8 in all, no console, no watch, 16
+giveup serve house.csv 9878 --standby --resume --journal etcd://localhost:2379/DAY --script day -> serve house.csv 9878, day, etcd://localhost:2379/DAY followed, 8 in all, no console, no watch, 16
 giveup serve --resume house.csv 9878 --script day --journal=log -> serve house.csv 9878, day, log resumed, 8 in all, no console, no watch, 16
 giveup serve house.csv 9878 --connections 1 -> serve house.csv 9878, no script, no journal, 1 in all, no console, no watch, 16
 giveup serve house.csv 9878 --connections 32 -> serve house.csv 9878, no script, no journal, 32 in all, no console, no watch, 16
@@ -96,6 +98,7 @@ giveup fix E1 house.csv E2 -> UnknownArgument 2
 giveup fix E1 house.csv --resume -> UnknownArgument 2
 giveup replay house.csv --journal log -> UnknownArgument 2
 giveup serve house.csv 9878 --resume -> MissingRequiredArgument 2
+giveup serve house.csv 9878 --standby -> MissingRequiredArgument 2
 giveup serve house.csv 9878 --journal log --resume=yes -> TooManyValues 2
 giveup fix -> MissingRequiredArgument 2
 giveup fix E1 -> MissingRequiredArgument 2

@@ -141,6 +141,14 @@ fn come_later<R: Net<Listener = TcpListener, Stream = TcpStream> + Abort + Wait 
     go_through(rt, second, &GIVES_UP)
 }
 
+/// Says a Logon at a desk whose lease has ended, and isn't answered. Whether the desk still takes what the firm says is up to the moment.
+fn log_on_in_vain(rt: &impl Abort, mut client: Client) {
+    let _ = client.send("E1", "in A 1 98=0|108=30|1137=9|\n");
+    if let Ok(came) = client.end("E1", Ending::Waits) {
+        assert_eq!(rt; came, 0);
+    }
+}
+
 /// Gives up one lot of a firm's report, and reads that the lot was swept. Its offer has this number, as has its give-up.
 fn give_up_one(rt: &impl Abort, alloc: Global, client: &mut Client, number: u64) -> io::Result<()> {
     let sent = number.saturating_add(1);
@@ -203,6 +211,8 @@ pub enum Doing {
     Acts(&'static [Act]),
     /// One gives up lots while an operator sweeps.
     GivesUpBesideSweeps,
+    /// One that was there first says a Logon at a desk whose lease has ended.
+    ComesAfterTheLease,
 }
 
 impl Doing {
@@ -212,6 +222,11 @@ impl Doing {
             Doing::LogsOnTooLate | Doing::DoesNotRead => 10,
             _ => 0,
         }
+    }
+
+    /// Returns whether the desk needs a lease and has none any more.
+    pub fn is_after_the_lease(self) -> bool {
+        matches!(self, Doing::ComesAfterTheLease)
     }
 
     /// Returns the percentage that the sessions of one firm make at most.
@@ -263,6 +278,10 @@ pub fn do_all<R: Net<Listener = TcpListener, Stream = TcpStream> + Abort + Wait 
     match first {
         Some(first) => match doing {
             Doing::ComesLater => come_later(rt, alloc, port, first, said),
+            Doing::ComesAfterTheLease => {
+                log_on_in_vain(rt, first);
+                Ok(())
+            }
             _ => go_through(rt, first, &GIVES_UP),
         },
         None => match doing {
@@ -272,8 +291,11 @@ pub fn do_all<R: Net<Listener = TcpListener, Stream = TcpStream> + Abort + Wait 
             Doing::SendsMuch => send_much(rt, alloc, port),
             Doing::LogsOnTooLate => connect(rt, alloc, port, &SAYS_NOTHING),
             Doing::DoesNotRead => ask_and_read_nothing(rt, alloc, port),
-            Doing::Waits | Doing::ComesLater | Doing::Acts(_) | Doing::GivesUpBesideSweeps =>
-                wait_for_the_offer(rt, alloc, port),
+            Doing::Waits
+            | Doing::ComesLater
+            | Doing::Acts(_)
+            | Doing::GivesUpBesideSweeps
+            | Doing::ComesAfterTheLease => wait_for_the_offer(rt, alloc, port),
         },
     }
 }

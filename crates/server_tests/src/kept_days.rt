@@ -2,11 +2,11 @@
 
 ghost use Rattle.gu_keeping.specs.Chains.{IsChainOf};
 
-use crate::clients::{Ending, Visit};
+use crate::clients::{Client, Ending, Visit};
 use crate::doings::Doing;
 use crate::frail_device::FrailDevice;
 use crate::opening::{A_TRADE, book_after};
-use crate::served::{Begun, Outside, Row, Span, Told, check_end, served_from};
+use crate::served::{Begun, Outside, Row, Span, Told, check_end, port_of, served_from};
 use crate::visits::{GIVES_UP, IS_OFFERED, LOGON_OF_A_TRADE};
 use gu_journal::Log;
 use gu_keeping::keep_opening;
@@ -64,6 +64,15 @@ const IS_NOT_ANSWERED: Visit = Visit {
 const UNANSWERED: Row = Row {
     begin: A_TRADE,
     doing: Doing::Visits(&[IS_NOT_ANSWERED]),
+    span: Span::Connections(2),
+    every: 0,
+    end: "",
+};
+
+/// A day of a desk whose lease has ended.
+const AFTER_THE_LEASE: Row = Row {
+    begin: A_TRADE,
+    doing: Doing::ComesAfterTheLease,
     span: Span::Connections(2),
     every: 0,
     end: "",
@@ -210,5 +219,34 @@ fn what_a_failed_journal_lacks_is_shown_to_nobody(rt: HostRuntime) -> Result<(),
         assert_eq!(rt; lost.kept, 7);
         assert!(rt; matches!(&lost.by, LostBy::Place(_)));
     }
+    Ok(())
+}
+
+#[test]
+fn a_desk_whose_lease_has_ended_answers_nothing_and_ends(rt: HostRuntime) -> Result<(), Fail> {
+    let alloc = rt.alloc();
+    let begun = begun_on(&rt, alloc, &AFTER_THE_LEASE, 10_000);
+    let said = Mutex::new(Vec::new(alloc));
+    let (log, reader) = EventLog::new(alloc)?;
+    let told = Told {
+        said: &said,
+        log: &log,
+    };
+    let mut outside = outside(&rt)?;
+    outside.first = Some(Client::open(&rt, alloc, port_of(&outside.listener))?);
+    let served = served_from(&rt, alloc, outside, &AFTER_THE_LEASE, begun, told);
+    log.end(&rt);
+    check_lost(&rt, alloc, &log, reader);
+    let Served {
+        closed,
+        closers,
+        journal,
+    } = served;
+    drop(closers);
+    assert_eq!(rt; closed.book.history().len(), 7);
+    drop(closed);
+    let lost = lost(journal).expect(&rt, "a lost journal");
+    assert_eq!(rt; lost.kept, 7);
+    assert!(rt; matches!(&lost.by, LostBy::Lease));
     Ok(())
 }

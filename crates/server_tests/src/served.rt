@@ -14,6 +14,7 @@ use crate::opening::book_after;
 use gu_book::Book;
 use gu_desk::{EntryLedger, LotLedger};
 use gu_journal::{Log, Memory, Sink};
+use gu_lease::{BothClocks, Clocks, Gate, Lease};
 use gu_log::EventLog;
 use gu_server::{Closed, Closers, DayJournal, Front, Opening, Served, Service, serve_day};
 use gu_sockets::{Doorway, Listeners};
@@ -137,6 +138,20 @@ pub struct Told<'s, 'l> {
     pub log: &'l EventLog,
 }
 
+/// Returns the gate of a desk that needs no lease, or of one whose lease has ended.
+fn gate_of<'a, R: Clock>(
+    rt: &impl Abort,
+    machine: &'a Machine<'a, R>,
+    is_ended: bool,
+) -> Gate<Clocks<'a, Machine<'a, R>>> {
+    if !is_ended {
+        return Gate::open();
+    }
+    let clocks = Clocks::new(machine).expect(rt, "clocks");
+    let now = clocks.now().expect(rt, "a moment");
+    Gate::of_lease(clocks, Lease::new(now, 0, 0))
+}
+
 /// Returns the end of a day, while this is done beside it.
 fn day<
     E: EntryLedger + Send + Sync,
@@ -161,6 +176,7 @@ where
 {
     let Told { said, log } = told;
     let machine = Machine::new(rt, doing.leap(), said);
+    let gate = gate_of(rt, &machine, doing.is_after_the_lease());
     let Ends { front, there } = ends_of(rt, alloc, outside);
     let (served, done) = thread::join(
         rt,
@@ -171,7 +187,7 @@ where
                 × IsSync R.row × IsSend E.row × IsSync E.row × IsSend S.row × IsSync S.row × IsSend K.row × IsSend K.Place.row }
         {
             serve_day::<E, S, Machine<'_, R>, Vec<u8>, TestDoor, K>(
-                &machine, alloc, opening, front, log, None,
+                &machine, alloc, opening, front, &gate, log, None,
             )
         },
         || do_all(rt, alloc, there, doing, said),

@@ -2,11 +2,13 @@
 
 use crate::book_house::{BookHouse, SharedBook};
 use crate::books::book_after;
+use crate::dials::{Dials, gate};
 use crate::hosts::Host;
 use crate::switchboard::{Switchboard, Waits};
 use crate::watches::{Hands, Ring, Watch};
 use crate::wires::{Line, Wire};
 use gu_houses::OverBook;
+use gu_lease::Gate;
 use gu_posts::{CallSender, Posts, calls};
 use gu_script::ScriptError;
 use gu_secrets::Secrets;
@@ -49,13 +51,14 @@ pub struct Floor {
     pub host: Host,
     pub book: SharedBook,
     pub posts: Posts<Ring>,
+    pub gate: Gate<Dials>,
     firms: Vec<FirmId>,
     secrets: Option<Secrets>,
     looks: bool,
 }
 
 /// A worker of a test.
-pub type Hand<'a> = Worker<'a, Switchboard<'a>, Watch<'a>, BookHouse<'a>, Host, Ring>;
+pub type Hand<'a> = Worker<'a, Switchboard<'a>, Watch<'a>, BookHouse<'a>, Host, Ring, Dials>;
 
 /// The sender of connections to a worker of a test.
 pub type Callers<'a> = CallSender<'a, Line<'a>, Ring>;
@@ -117,6 +120,7 @@ impl Floor {
             host: Host::new(),
             book: SharedBook::new(house),
             posts: Posts::new(alloc, bells, setting.places, Ring::new(), setting.kept)?,
+            gate: gate(),
             firms,
             secrets,
             looks: setting.looks,
@@ -153,6 +157,7 @@ impl Floor {
             looks: self.looks,
             admission: &self.host,
             posts: &self.posts,
+            gate: &self.gate,
         };
         match Worker::new(alloc, shared, settings, tools) {
             Ok(worker) => Ok((worker, callers)),

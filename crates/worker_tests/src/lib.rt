@@ -1,4 +1,4 @@
-//! Tests of workers over memory: places, notices at once, what is held back, deadlines, cuts and the close.
+//! Tests of workers over memory: places, notices at once, what is held back, the gate, deadlines, cuts and the close.
 #![tactic(auto)]
 
 #[cfg(test)]
@@ -14,6 +14,8 @@ mod closings;
 #[cfg(test)]
 mod crowds;
 #[cfg(test)]
+mod dials;
+#[cfg(test)]
 mod failures;
 #[cfg(test)]
 mod fairness;
@@ -21,6 +23,8 @@ mod fairness;
 mod floors;
 #[cfg(test)]
 mod fullness;
+#[cfg(test)]
+mod gates;
 #[cfg(test)]
 mod hosts;
 #[cfg(test)]

@@ -21,6 +21,8 @@
 //! - `cut 2`, `miss 3`, `close`: the connection is cut; there is none to be cut; the day is closed
 //! - `besides LINE`: it is entered as soon as a firm was given notices
 //! - `keep 4`, `stop`: four entries are kept; no more will be
+//! - `lease 2499 0`: this many milliseconds have gone by since the lease was asked for, by its monotonic clock and the system's; it lasts for
+//!   3 s, with a margin of 500 ms
 //! - `refuse E1`, `most 2`: E1 has no place from now on; firms have two places at most
 //! - `wrong Secret E1`: the last first message that was refused was wrong in this way, and named E1, or no firm that may come in there
 //! - `away Full`, `ended Cut`: why the last connection without a place had none, and why the last one ended
@@ -29,7 +31,8 @@
 //! - `counted 2`: the most give-ups that a connection has counted
 //! - `asked 2`: the connection whose command or question came last
 //! - `last`, `over`: no more connections come; the last round was the last of its worker
-//! - `fault poller`, `fault clock`, `fault house`: it fails from now on; a house that fails has no notices
+//! - `fault poller`, `fault clock`, `fault house`, `fault lease`: it, or a clock of the lease, fails from now on; a house that fails has no
+//!   notices
 //! - `run`, `run poller`, `run clock`: worker 0 makes rounds until it is over, or can't go on and says why; a wait in which nothing
 //!   happens takes its time
 //!
@@ -248,9 +251,22 @@ fn post_step<R: Abort>(rt: &R, play: &Play<'_>, word: &str, text: &str) {
     }
 }
 
-/// Makes the poller, the clock or the house fail from now on.
+/// Sets the clocks of the lease.
+fn set_lease(play: &Play<'_>, text: &str) {
+    let (monotonic, system) = parts(text, ' ');
+    if let Some(dials) = play.floor.gate.clocks() {
+        dials.set(number(monotonic), number(system));
+    }
+}
+
+/// Makes the poller, the clock, the house or the clocks of the lease fail from now on.
 fn set_fault(play: &Play<'_>, text: &str) {
     match text {
+        "lease" => {
+            if let Some(dials) = play.floor.gate.clocks() {
+                dials.fail();
+            }
+        }
         "poller" => play.floor.waits.has_failed.set(true),
         "clock" => play.floor.hands.has_failed.set(true),
         _ => play.floor.book.has_failed.set(true),
@@ -320,6 +336,7 @@ fn floor_step<R: Wait + Abort>(rt: &R, play: &mut Play<'_>, word: &str, text: &s
         "close" => play.floor.posts.close(),
         "keep" => play.floor.posts.keep(number(text) as u64),
         "stop" => play.floor.posts.stop(),
+        "lease" => set_lease(play, text),
         "most" => play.floor.host.most.set(number(text) as u64),
         "refuse" => play.floor.host.refused.set(FirmId::new(text.as_bytes())),
         "entries" => assert_eq!(rt;

@@ -1,22 +1,10 @@
-use Rattle.std.proofs.Common.{◌∙◌, All, IfSome, List, ap, subst, sym}
-use Rattle.gu_terms.specs.declared.entry.Entry.{Entry}
-use Rattle.gu_ref.specs.Tables.{Tables}
-use Rattle.gu_desk.specs.Seats.{IsNew, SeatState}
-use Rattle.gu_keeping.specs.Chains.{IsChainOf}
+use Rattle.std.proofs.Common.{IfOk, List, subst}
+use Rattle.gu_terms.specs.declared.receipt.Receipt.{Receipt}
+use Rattle.gu_server.specs.Receipts.{AddsReceipts}
 use Rattle.gu_server.proofs.day.serve_day.Goals as goal
 
-pub invariant_of-floor : goal.invariant_of-floor
-invariant_of-floor g c = record {
-  all_firms = c.as_slice-2.ensures.value ∙ c.in_ok-firms.ensures.items ∙ c.firms.ensures
-      ∙ ap (λ (t : Tables). t.firms) (c.reference-2.ensures ∙ c.requires.reference);
-}
-
--- the journal has the entries with which the desk's history begins
-pub pen_of-requires-clause-chain : goal.pen_of-requires-clause-chain
-pen_of-requires-clause-chain g c =
-    subst (λ (h : List Entry). IfSome c.args.opening.journal (λ j. IsChainOf j.chain h)) c.requires.history.1 c.args.opening.journaled
-
--- the seats are as the desk made them
-pub with_receipts-requires : goal.with_receipts-requires
-with_receipts-requires g c =
-    subst (λ (seats : List SeatState). All (IsNew g.E.EntryLedger.opening) seats) (sym c.front_of-front.ensures.seats) c.in_ok-desk.ensures
+-- the receipts at the desk's end come after those that the day began with
+pub returns-clause-receipts : goal.returns-clause-receipts
+returns-clause-receipts g c =
+    subst (λ (before : List Receipt). IfOk c.hold_day.result (λ r. AddsReceipts g.E.EntryLedger.opening before r.closed.book.history r.closed.receipts))
+    c.in_ok-desk.ensures c.hold_day.ensures.receipts

@@ -17,4 +17,7 @@ returns c =
     let logged : App = with_rule with_secrets (flag_rule (codes "log")) in
     let log_made : app_of c.in_ok-logged.logged ≡ logged = word_added c.in_ok-with_secrets.with_secrets c.in_ok-logged.logged c.flag-log.result with_secrets (flag_rule (codes "log")) c.in_ok-logged.ensures c.flag-log.ensures.local is_log secrets_made in
     let is_share : rule_of c.number_option-share.result ≡ share_rule = search rules in
-    last_word_added c.arg-4.result c.in_ok-logged.logged c.number_option-share.result logged share_rule log_made c.number_option-share.ensures.local is_share c.arg-4.ensures
+    let shared : App = with_rule logged share_rule in
+    let share_made : app_of c.in_ok-shared.shared ≡ shared = word_added c.in_ok-logged.logged c.in_ok-shared.shared c.number_option-share.result logged share_rule c.in_ok-shared.ensures c.number_option-share.ensures.local is_share log_made in
+    let is_standby : rule_of c.flag-standby.result ≡ flag_rule (codes "standby") = search rules in
+    last_word_added c.arg-5.result c.in_ok-shared.shared c.flag-standby.result shared (flag_rule (codes "standby")) share_made c.flag-standby.ensures.local is_standby c.arg-5.ensures

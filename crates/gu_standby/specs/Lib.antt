@@ -1,0 +1,3 @@
+pub mod Errors
+pub mod Following
+pub mod Leading
