@@ -3,6 +3,7 @@
 
 mod checking;
 mod day;
+mod day_end;
 mod digesting;
 mod error;
 mod fault;
@@ -17,8 +18,10 @@ mod journal_name;
 mod journal_opening;
 mod journal_place;
 mod journal_standby;
+mod led_day;
 mod locking;
 mod progress;
+mod ready;
 mod replaying;
 mod running;
 mod sample;
@@ -27,7 +30,8 @@ mod serving;
 mod telling;
 
 pub use checking::check;
-pub use day::{Screen, end_day};
+pub use day::Screen;
+pub use day_end::end_day;
 pub use error::{ConsoleFault, DoorsFault, JournalFault, RunError, SecretsError};
 pub use fault::Faults;
 pub use fixing::fix;

@@ -1,13 +1,14 @@
 //! Runs of the program: what joins its words, files and streams with its engines.
 
 use crate::checking::check;
-use crate::day::{Screen, lead_day, run_serve, serve_led};
+use crate::day::{Screen, run_serve};
 use crate::error::{ConsoleFault, RunError};
 use crate::fault::{Fault, Faults, Place};
 use crate::files::{reference_at, world_after};
 use crate::fixing::fix;
 use crate::issuing::run_secret;
 use crate::journal_log::{LogPlace, log_named};
+use crate::led_day::{lead_day, serve_led};
 use crate::locking::Locks;
 use crate::progress::Told;
 use crate::replaying::replay;

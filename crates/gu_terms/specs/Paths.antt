@@ -18,6 +18,12 @@ abbrev pub path_through : FirmId → AgreementId → AccountId → FirmId → Op
 path_through executing agreement account carrying guarantor =
     Exec executing ∷ Agr agreement ∷ Acct account ∷ Carry carrying ∷ guarantor_key guarantor
 
+-- these are the keys of a path
+abbrev pub ArePathKeys : List LimitKey → Type 0
+ArePathKeys keys =
+    (executing : FirmId) × (agreement : AgreementId) × (account : AccountId) × (carrying : FirmId) × (guarantor : Option FirmId)
+    × (keys ≡ path_through executing agreement account carrying guarantor)
+
 -- ---- how a path is stored
 
 -- the stored keys

@@ -1,11 +1,11 @@
 //! The limit keys that apply to an offer.
 
-ghost use Rattle.std.specs.Prelude.{◌≡◌, ◌↔◌, ◌≤◌, length, IsSome, IfSome};
+ghost use Rattle.std.specs.Prelude.{◌≡◌, ◌≤◌, length};
 ghost use Rattle.std.specs.Cmp.{partial_equiv_from_equiv};
 ghost use Rattle.std.specs.Cmp.Lexicographic.{pointwise};
 ghost use Rattle.std.proofs.lemmas.Cmp.{lists_equiv};
 ghost use Rattle.gu_terms.specs.contracts.limit_key.LimitKeyEq.TheImpl.Laws.{laws-law as keys_equiv};
-ghost use Rattle.gu_terms.specs.Paths.{path_through};
+ghost use Rattle.gu_terms.specs.Paths.{path_through, ArePathKeys};
 
 use crate::account::AccountId;
 use crate::agreement::AgreementId;
@@ -32,15 +32,15 @@ impl Model for Path {
 
     ghost Value = { List LimitKey };
 
-    ghost use Rattle.gu_terms.specs.Paths.{listed, kept, kept-listed, size_of};
+    ghost use Rattle.gu_terms.specs.Paths.{listed, kept, kept-listed, size_of, ArePathKeys};
 
     ghost view = { λ p. listed p.keys };
 
-    ghost invariant = { λ p. length (listed p.keys) ≡ size_of p.keys };
+    ghost invariant = { λ p. (length (listed p.keys) ≡ size_of p.keys) × ArePathKeys (listed p.keys) };
 
     ghost inverse = { λ keys. record { keys = kept keys } };
 
-    ghost inverse_ok = { λ p h i. record { keys = kept-listed p.keys h i } };
+    ghost inverse_ok = { λ p h i. record { keys = kept-listed p.keys h.0 i } };
 }
 
 impl Path {
@@ -71,24 +71,12 @@ impl Path {
         Path { keys }
     }
 
-    /// Returns the path with these keys, if there are four or five.
-    pub fn of(keys: &[LimitKey]) -> Option<Self>
-        ensures sound { IsSome result ↔ ((4 ≤ length keys.now) × (length keys.now ≤ 5)) }
-        ensures same { IfSome result (λ path. path ≡ keys.now) }
-    {
-        let keys = match keys {
-            [a, b, c, d] => Keys::Four([*a, *b, *c, *d]),
-            [a, b, c, d, e] => Keys::Five([*a, *b, *c, *d, *e]),
-            _ => return None,
-        };
-        Some(Path { keys })
-    }
-
     /// Returns its keys, in order.
     pub fn keys(&self) -> &[LimitKey]
         ensures keys { result.now ≡ self.now }
         ensures some { 4 ≤ length result.now }
         ensures few { length result.now ≤ 5 }
+        ensures are { ArePathKeys result.now }
     {
         match &self.keys {
             Keys::Four(keys) => keys.as_slice(),

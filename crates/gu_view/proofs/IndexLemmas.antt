@@ -1,23 +1,24 @@
 -- The parts that a view stores beside its offers and rooms.
-use Rattle.std.proofs.Common.{◌≡◌, ◌≢◌, ℕ, ◌<◌, ◌≤◌, List, [], ◌∷◌, length, map, get_or, refl, sym, ap, subst, ◌∙◌, arith, false}
+use Rattle.std.proofs.Common.{◌≡◌, ◌≢◌, ℕ, ◌<◌, ◌≤◌, List, [], ◌∷◌, Some, length, map, get_or, slice_get, refl, sym, ap, subst, ◌∙◌, arith, false, inl, inr}
 use Rattle.std.specs.Prelude.{All, AllPairs}
 use Rattle.std.specs.List.{flat_map}
 use Rattle.std.proofs.lemmas.Bool.{both_ways}
-use Rattle.std.proofs.lemmas.List.{length-map}
+use Rattle.std.proofs.lemmas.List.{get_or-map, length-map}
 use Rattle.std.proofs.lemmas.List.Folds.{list_any_at}
-use Rattle.std.proofs.lemmas.Option.{slice_get-get_or}
+use Rattle.std.proofs.lemmas.Option.{get_or_from_slice_get, slice_get-get_or, slice_get_cases, slice_get_within}
 use Rattle.gu_terms.specs.LimitKeys.{has_key, key_eq}
 use Rattle.gu_terms.specs.declared.group.Group.{Group}
 use Rattle.gu_terms.specs.declared.limit_key.LimitKey.{LimitKey}
 use Rattle.gu_terms.proofs.KeyLemmas.{key_eq-from, key_eq-refl}
 use Rattle.gu_view.specs.Making.{MakesView, in_order, view_of}
 use Rattle.gu_view.specs.Keeping.{IsIndexed, IsKeyed}
-use Rattle.gu_view.specs.View.{GroupView, IsView, keys_of, place_among, place_of, places_under}
+use Rattle.gu_view.specs.View.{GroupView, IsPath, IsView, keys_of, place_among, place_of, places_under}
 use Rattle.gu_view.specs.declared.view.ViewOffer.{ViewOffer}
 use Rattle.gu_view.specs.declared.view.Room.{Room}
-use Rattle.gu_terms.proofs.Lists.{Later, list_any-map, position_or_len-map}
+use Rattle.gu_terms.proofs.Lists.{Later, list_any-map, position_or_len-map, position_or_len-within}
 use Rattle.gu_view.proofs.MakingLemmas.{even_paths, good_offers, in_order-own}
-use Rattle.gu_view.proofs.RoomLemmas.{apart, apart-firsts, places_are_within}
+use Rattle.gu_view.proofs.RoomLemmas.{apart, apart-firsts, on_path_at, places_are_within, roomed}
+use Rattle.gu_view.proofs.WholePaths.{places_apart}
 
 -- a key's index among the rooms is its index among their keys
 place-keys : (rooms : List Room) (k : LimitKey) → place_among (map (λ (r : Room). r.key) rooms) k ≡ place_of rooms k
@@ -92,6 +93,21 @@ module _ (group : Group) (version : ℕ) (offers : List ViewOffer) (rooms : List
   all_within i d inside =
       places_are_within shown sound places i (get_or places i d) (omega (arith, ap length places_are, length-map offers (λ (o : ViewOffer). map (place_of rooms) o.path))) places_are (slice_get-get_or places i d inside)
 
+  pub all_apart : All (AllPairs (λ a b. a ≢ b)) places
+  all_apart i d inside =
+      let list_of : ViewOffer → List ℕ = λ o. map (place_of rooms) o.path in
+      let within : i < length offers = omega (arith, ap length places_are, length-map offers list_of) in
+      elim (slice_get_cases offers i).1 [
+        | inl found ↦
+            let o = found.0 in
+            let at : get_or offers i o ≡ o = get_or_from_slice_get offers i o o found.2 in
+            let list : get_or places i d ≡ list_of o = ap (λ l. get_or l i d) places_are ∙ get_or-map list_of offers i o d within ∙ ap list_of at in
+            let roomed_on : (k : LimitKey) (p : ℕ) → slice_get o.path p ≡ Some k → place_of rooms k < length rooms = λ k p on.
+            position_or_len-within (λ r. key_eq r.key k) rooms (roomed shown sound k (on_path_at offers i o k found.2 (list_any_at (λ j. key_eq j k) o.path p k (slice_get_within o.path p k on) (rw (get_or_from_slice_get o.path p k k on) (key_eq-refl k))))) in
+            subst (AllPairs (λ a b. a ≢ b)) (sym list) (places_apart rooms o (subst IsPath at (keyed.whole i o within)) roomed_on)
+        | inr past ↦ absurd (omega (arith, past.0))
+      ]
+
   -- these parts are those of a view
   pub indexed : (members : List (List ℕ)) → members ≡ map (λ (r : Room). places_under offers r.key) rooms → IsIndexed shown keys places members
-  indexed members listed = record { sound = sound; keys_are = keyed.keys_are ∙ sym room-keys; places_are = places_are; members_are = listed }
+  indexed members listed = record { sound = sound; whole = keyed.whole; keys_are = keyed.keys_are ∙ sym room-keys; places_are = places_are; members_are = listed }

@@ -17,3 +17,4 @@ pub mod PassingPlaces
 pub mod RoomLemmas
 pub mod SameViews
 pub mod TakesLemmas
+pub mod WholePaths

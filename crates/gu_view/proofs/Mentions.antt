@@ -4,14 +4,15 @@ use Rattle.std.specs.Prelude.{filter}
 use Rattle.std.specs.List.{AllByRecursion, flat_map, list_any, position_or_len}
 use Rattle.std.proofs.lemmas.Bool.{cases_Bool, or_left, or_right}
 use Rattle.std.proofs.lemmas.List.{flat_map_more, get_or-map, get_or-take, length-map, length-take, map_more, take_more}
-use Rattle.std.proofs.lemmas.List.Elements.{All-from_recursion, recursion_from_All, filter-append}
+use Rattle.std.proofs.lemmas.List.Elements.{All-from_recursion, All-more, recursion_from_All, filter-append}
 use Rattle.std.proofs.lemmas.List.Folds.{list_any_at, list_any-append}
 use Rattle.gu_terms.proofs.KeyLemmas.{eq, eq_is, key_eq-refl, key_eq-sym}
 use Rattle.gu_terms.proofs.Lists.{along, list_any-agree, position_or_len-agree}
 use Rattle.gu_terms.specs.LimitKeys.{key_eq, has_key}
+use Rattle.gu_terms.specs.Paths.{path_through}
 use Rattle.gu_terms.specs.declared.limit_key.LimitKey.{LimitKey}
 use Rattle.gu_view.specs.Keeping.{AreMentioned}
-use Rattle.gu_view.specs.View.{firsts, keys_of, place_among}
+use Rattle.gu_view.specs.View.{IsPath, firsts, keys_of, place_among}
 use Rattle.gu_view.specs.declared.view.ViewOffer.{ViewOffer}
 use Rattle.gu_view.proofs.RoomLemmas.{has_key-others, has_key-keys_of, on_own_path}
 
@@ -153,11 +154,15 @@ all_places-more keys offers made i o list inside is are at =
     let places : ViewOffer → List ℕ = λ o. map (place_among keys) o.path in
     ap (λ l. l ++ list ∷ []) are ∙ ap (λ l. map places (take i offers) ++ l ∷ []) (at ∙ ap places is) ∙ sym (map_more places offers i o inside)
 
+-- the path of another offer of its agreement
+path_again : (before o : ViewOffer) → before.agreement ≡ o.agreement → before.path ≡ o.path → IsPath before → IsPath o
+path_again before o agreement same (e, c, d, g, is) = (e, c, d, g, sym same ∙ is ∙ ap (λ x. path_through e x c d g) agreement)
+
 -- one more offer with the path of the previous one: its keys are mentioned already, and its list is the last
 pub mentioned_again : (offers : List ViewOffer) (keys : List LimitKey) (places : List (List ℕ)) (i : ℕ) (before o : ViewOffer) → 0 < i → i < length offers
-    → before ≡ get_or offers (i - 1) before → o ≡ get_or offers i o → before.path ≡ o.path → AreMentioned (take i offers) keys places
+    → before ≡ get_or offers (i - 1) before → o ≡ get_or offers i o → before.agreement ≡ o.agreement → before.path ≡ o.path → AreMentioned (take i offers) keys places
     → AreMentioned (take (i + 1) offers) keys (places ++ get_or places (length places - 1) [] ∷ [])
-mentioned_again offers keys places i before o some inside before_is is same h =
+mentioned_again offers keys places i before o some inside before_is is agreement same h =
     let seen = take i offers in
     let list_of : ViewOffer → List ℕ = λ o. map (place_among keys) o.path in
     let IsKnown : ViewOffer → Type 0 = λ o. AllByRecursion (λ k. has_key (keys_of seen) k ≡ true) o.path in
@@ -166,6 +171,7 @@ mentioned_again offers keys places i before o some inside before_is is same h =
     let last : get_or seen (i - 1) before ≡ before = get_or-take i offers (i - 1) before (omega arith) ∙ sym before_is in
     let known : IsKnown before = subst IsKnown last (All-from_recursion IsKnown seen (all_known seen) (i - 1) before (omega arith)) in
     record {
+      whole = All-more IsPath offers i o inside h.whole (subst IsPath is (path_again before o agreement same (subst IsPath last (h.whole (i - 1) before (omega arith)))));
       keys_are = h.keys_are
           ∙ sym (firsts-known (flat_map (λ (o : ViewOffer). o.path) seen) o.path (subst (AllByRecursion (λ k. has_key (keys_of seen) k ≡ true)) same known))
           ∙ keys_of-more offers i o inside is;

@@ -25,18 +25,9 @@ use Rattle.gu_view.specs.Nearest.{IsNearestCut, IsTight, NeedsEach, held_at, hol
 use Rattle.gu_view.specs.Paths.{step_of}
 use Rattle.gu_view.specs.View.{GroupView, IsNested, IsPath, IsView}
 use Rattle.gu_view.specs.declared.view.ViewOffer.{ViewOffer}
+use Rattle.gu_view.proofs.WholePaths.{step_is}
 
--- on a whole path each key is at its step, nothing follows the fifth, and one agreement's key is there
-step_is : (e : FirmId) (a : AgreementId) (c : AccountId) (d : FirmId) (g : Option FirmId) (i : ℕ) (k : LimitKey) → slice_get (path_through e a c d g) i ≡ Some k → step_of k ≡ i
-step_is e a c d g zero k at = let same : Exec e ≡ k = cc in ap step_of (sym same)
-step_is e a c d g (suc zero) k at = let same : Agr a ≡ k = cc in ap step_of (sym same)
-step_is e a c d g (suc (suc zero)) k at = let same : Acct c ≡ k = cc in ap step_of (sym same)
-step_is e a c d g (suc (suc (suc zero))) k at = let same : Carry d ≡ k = cc in ap step_of (sym same)
-step_is e a c d (Some g) (suc (suc (suc (suc zero)))) k at = let same : Guar g ≡ k = cc in ap step_of (sym same)
-step_is e a c d None (suc (suc (suc (suc zero)))) k at = cc
-step_is e a c d (Some g) (suc (suc (suc (suc (suc i))))) k at = cc
-step_is e a c d None (suc (suc (suc (suc (suc i))))) k at = cc
-
+-- on a whole path nothing follows the fifth key, and one agreement's key is there
 path_short : (e : FirmId) (a : AgreementId) (c : AccountId) (d : FirmId) (g : Option FirmId) → length (path_through e a c d g) ≤ 5
 path_short e a c d (Some g) = omega arith
 path_short e a c d None = omega arith

@@ -1,4 +1,4 @@
--- Nested offers, through tests of their paths.
+-- Nested offers, through tests of their rooms.
 use Rattle.std.proofs.Common.{◌≡◌, ℕ, ◌<◌, Bool, true, false, List, [], ◌∷◌, Option, None, Some, length, get_or, slice_get, refl, sym, ap, ◌∙◌, zero-add, inl, inr}
 use Rattle.std.specs.Prelude.{All}
 use Rattle.std.specs.List.{AllByRecursion, list_all, list_any}
@@ -15,52 +15,14 @@ use Rattle.gu_terms.specs.declared.limit_key.LimitKey.{LimitKey}
 use Rattle.gu_terms.specs.declared.limit_key.LimitKey.TheVariants.{Exec, Agr, Acct, Carry, Guar}
 use Rattle.gu_terms.specs.Paths.{path_through}
 use Rattle.gu_terms.proofs.KeyLemmas.{key_eq-same, key_eq-refl}
-use Rattle.gu_view.specs.Paths.{are_kinds, behind, have_one_key, is_guarantor, is_whole, key_on, room_agrees, same_key}
+use Rattle.gu_view.specs.Paths.{behind, have_one_key, key_on, room_agrees, same_key}
 use Rattle.gu_view.specs.View.{GoOnAlike, GroupView, IsNested, IsPath, IsView, next_key, place_of, places_under}
 use Rattle.gu_view.specs.declared.view.ViewOffer.{ViewOffer}
 use Rattle.gu_view.specs.declared.view.Room.{Room}
-use Rattle.gu_terms.proofs.SameValues.{both}
 use Rattle.gu_terms.proofs.Lists.{along, position_or_len-within}
 use Rattle.gu_view.proofs.PassingPlaces.{at_places, each_place}
 use Rattle.gu_view.proofs.RoomLemmas.{on_path_at, roomed}
 use Rattle.gu_view.proofs.TakesLemmas.{key_at_place}
-
--- a path with these keys
-abbrev IsPathOf : AgreementId → List LimitKey → Type 0
-IsPathOf own path = (e : FirmId) × (x : AccountId) × (f : FirmId) × (g : Option FirmId) × (path ≡ path_through e own x f g)
-
--- four keys that pass are of the four kinds, whatever follows them
-kinds : (own : AgreementId) (a b c d : LimitKey) (rest : List LimitKey) → are_kinds own a b c d ≡ true
-    → (e : FirmId) × (x : AccountId) × (f : FirmId) × (a ∷ b ∷ c ∷ d ∷ rest ≡ Exec e ∷ Agr own ∷ Acct x ∷ Carry f ∷ rest)
-kinds own (Exec e) (Agr g) (Acct x) (Carry f) rest h = (e, x, f, ap (λ k. Exec e ∷ k ∷ Acct x ∷ Carry f ∷ rest) (key_eq-same (Agr g) (Agr own) h))
-kinds own _ _ _ _ rest h = absurd (false≢true h)
-
--- a key that passes is a guarantor's
-guarantor_is : (k : LimitKey) → is_guarantor k ≡ true → (g : FirmId) × (k ≡ Guar g)
-guarantor_is (Guar g) h = (g, refl)
-guarantor_is _ h = absurd (false≢true h)
-
--- five keys that pass
-five : (own : AgreementId) (a b c d e : LimitKey) → are_kinds own a b c d ≡ true → is_guarantor e ≡ true → IsPathOf own (a ∷ b ∷ c ∷ d ∷ e ∷ [])
-five own a b c d e four last =
-    let k = kinds own a b c d (e ∷ []) four in
-    let g = guarantor_is e last in
-    (k.0, k.1, k.2, Some g.0, k.3 ∙ ap (λ j. Exec k.0 ∷ Agr own ∷ Acct k.1 ∷ Carry k.2 ∷ j ∷ []) g.1)
-
--- a path that passes is whole
-whole_path : (own : AgreementId) (path : List LimitKey) → is_whole own path ≡ true → IsPathOf own path
-whole_path own [] h = absurd (false≢true h)
-whole_path own (a ∷ []) h = absurd (false≢true h)
-whole_path own (a ∷ b ∷ []) h = absurd (false≢true h)
-whole_path own (a ∷ b ∷ c ∷ []) h = absurd (false≢true h)
-whole_path own (a ∷ b ∷ c ∷ d ∷ []) h = let k = kinds own a b c d [] h in (k.0, k.1, k.2, None, k.3)
-whole_path own (a ∷ b ∷ c ∷ d ∷ e ∷ []) h = let parts = both (are_kinds own a b c d) (is_guarantor e) h in five own a b c d e parts.0 parts.1
-whole_path own (a ∷ b ∷ c ∷ d ∷ e ∷ f ∷ path) h = absurd (false≢true h)
-
--- a whole path passes
-path_whole : (o : ViewOffer) → IsPath o → is_whole o.agreement o.path ≡ true
-path_whole o (e, x, c, None, is) = rw is (key_eq-refl (Agr o.agreement))
-path_whole o (e, x, c, Some g, is) = rw is (rw (key_eq-refl (Agr o.agreement)) refl)
 
 -- the account of a path that has an account key
 account_is : (e : FirmId) (own : AgreementId) (a : AccountId) (c : FirmId) (g : Option FirmId) (x : AccountId) → has_key (path_through e own a c g) (Acct x) ≡ true → key_eq (Acct a) (Acct x) ≡ true
@@ -96,13 +58,6 @@ same_key-same _ _ h = absurd (false≢true h)
 same_key-refl : (k : Option LimitKey) → same_key k k ≡ true
 same_key-refl (Some k) = key_eq-refl k
 same_key-refl None = refl
-
--- each path is whole
-pub all_paths : (offers : List ViewOffer) → list_all (λ o. is_whole o.agreement o.path) offers ≡ true → All IsPath offers
-all_paths offers h i d inside = whole_path (get_or offers i d).agreement (get_or offers i d).path (AllPass-from_list_all (λ o. is_whole o.agreement o.path) offers h i d inside)
-
-pub paths_pass : (offers : List ViewOffer) → All IsPath offers → list_all (λ o. is_whole o.agreement o.path) offers ≡ true
-paths_pass offers h = list_all-from_AllPass (λ o. is_whole o.agreement o.path) offers (λ i d inside. path_whole (get_or offers i d) (h i d inside))
 
 module _ (offers : List ViewOffer) (depth : ℕ) where
   -- the key at this depth on the path of the offer at an index
@@ -144,9 +99,8 @@ module _ (offers : List ViewOffer) (depth : ℕ) where
       list_all-from_AllPass test others (All-from_recursion (λ p. test p ≡ true) others (along P (λ p. test p ≡ true) others (λ p k. alike first p h.0 k) h.1))
 
 -- a view is nested if its paths are whole and its rooms agree
-pub nested_from : (view : GroupView) → IsView view → list_all (λ o. is_whole o.agreement o.path) view.offers ≡ true → list_all (room_agrees view.offers) view.rooms ≡ true → IsNested view
-nested_from view sound whole agree =
-    let paths = all_paths view.offers whole in
+pub nested_from : (view : GroupView) → IsView view → All IsPath view.offers → list_all (room_agrees view.offers) view.rooms ≡ true → IsNested view
+nested_from view sound paths agree =
     record {
       paths = paths;
       carriers = λ i d inside j e within x. go_on (Acct x) 3 refl i d inside j e within;
@@ -162,7 +116,6 @@ nested_from view sound whole agree =
     go_on : (k : LimitKey) (depth : ℕ) → behind k ≡ Some depth → (i : ℕ) (d : ViewOffer) → i < length view.offers → (j : ℕ) (e : ViewOffer) → j < length view.offers → GoOnAlike k (get_or view.offers i d).path (get_or view.offers j e).path
     go_on k depth at i d inside j e within on also =
         let offers = view.offers in
-        let paths = all_paths offers whole in
         after_on (get_or offers i d) k depth at (paths i d inside) on
         ∙ alike_under offers depth k i j d e (one k depth at (on_path_at offers i (get_or offers i d) k (slice_get-get_or offers i d inside) on)) inside within on also
         ∙ sym (after_on (get_or offers j e) k depth at (paths j e within) also)

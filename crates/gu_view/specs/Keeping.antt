@@ -5,7 +5,7 @@ use Rattle.gu_terms.specs.LimitKeys.{has_key}
 use Rattle.gu_terms.specs.declared.limit_key.LimitKey.{LimitKey}
 use Rattle.gu_view.specs.Making.{bad_offer, lots_given, path_differs}
 use Rattle.gu_view.specs.Places.{places_where}
-use Rattle.gu_view.specs.View.{GroupView, IsView, keys_of, place_among, place_of, places_under}
+use Rattle.gu_view.specs.View.{GroupView, IsPath, IsView, keys_of, place_among, place_of, places_under}
 use Rattle.gu_view.specs.declared.view.ViewOffer.{ViewOffer}
 use Rattle.gu_view.specs.declared.view.Room.{Room}
 
@@ -23,33 +23,26 @@ AreEnds whole from (end ∷ ends) = (from ≤ end) × AreEnds whole end ends
 abbrev pub lists_at : List (List ℕ) → List ℕ → List (List ℕ)
 lists_at lists places = map (λ place. slice_index_or lists place []) places
 
--- a list has the same numbers as another, each once
-pub record IsOnce (list once : List ℕ) : Type 0 where
-  pub same : (n : ℕ) → list_any (λ m. m == n) once ≡ list_any (λ m. m == n) list
-  pub apart : AllPairs (λ a b. a ≢ b) once
-
--- this holds for each list and the one at its index
-pub record AreOnce (lists once : List (List ℕ)) : Type 0 where
-  pub long : length once ≡ length lists
-  pub each : (place : ℕ) → place < length lists → IsOnce (slice_index_or lists place []) (slice_index_or once place [])
-
--- these are the keys of the offers' paths in order of first mention, at most five an offer, and the indexes of each path's keys
+-- the offers' paths are whole; these are their keys in order of first mention, at most five an offer, and the indexes of each path's keys
 pub record AreMentioned (offers : List ViewOffer) (keys : List LimitKey) (places : List (List ℕ)) : Type 0 where
+  pub whole : All IsPath offers
   pub keys_are : keys ≡ keys_of offers
   pub few : length keys ≤ 5 * length offers
   pub places_are : places ≡ map (λ o. map (place_among keys) o.path) offers
 
--- no offer is bad and no path differs; these are the offers' keys, at most 20,480, and the indexes of each path's keys
+-- no offer is bad, no path differs, and each is whole; these are the offers' keys, at most 20,480, and the indexes of each path's keys
 pub record IsKeyed (offers : List ViewOffer) (keys : List LimitKey) (places : List (List ℕ)) : Type 0 where
   pub numbers : bad_offer offers ≡ None
   pub paths : path_differs offers ≡ None
+  pub whole : All IsPath offers
   pub keys_are : keys ≡ keys_of offers
   pub few : length keys ≤ 20480
   pub places_are : places ≡ map (λ o. map (place_among keys) o.path) offers
 
--- a view, its keys, the indexes of each offer's keys, and the indexes of each room's offers
+-- a view of whole paths, its keys, the indexes of each offer's keys, and the indexes of each room's offers
 pub record IsIndexed (view : GroupView) (keys : List LimitKey) (places members : List (List ℕ)) : Type 0 where
   pub sound : IsView view
+  pub whole : All IsPath view.offers
   pub keys_are : keys ≡ map (λ r. r.key) view.rooms
   pub places_are : places ≡ map (λ o. map (place_of view.rooms) o.path) view.offers
   pub members_are : members ≡ map (λ r. places_under view.offers r.key) view.rooms

@@ -1,4 +1,4 @@
--- Machinery: tests of paths.
+-- Machinery: where keys are on paths, and whether paths that share one go on alike.
 use Rattle.std.specs.Prelude.{ℕ, ◌&&◌, Bool, true, false, List, [], ◌∷◌, Option, None, Some, slice_get}
 use Rattle.std.specs.List.{list_all}
 use Rattle.std.specs.Option.{option_and_then, option_map_or}
@@ -10,16 +10,6 @@ use Rattle.gu_view.specs.View.{places_under}
 use Rattle.gu_view.specs.declared.view.ViewOffer.{ViewOffer}
 use Rattle.gu_view.specs.declared.view.Room.{Room}
 
--- these are the keys of an executing firm, of this agreement, of an account and of a carrying firm
-abbrev pub are_kinds : AgreementId → LimitKey → LimitKey → LimitKey → LimitKey → Bool
-are_kinds own (Exec _) (Agr agreement) (Acct _) (Carry _) = key_eq (Agr agreement) (Agr own)
-are_kinds own _ _ _ _ = false
-
--- a key is a guarantor's
-abbrev pub is_guarantor : LimitKey → Bool
-is_guarantor (Guar _) = true
-is_guarantor _ = false
-
 -- the number of keys before a key on each path that has it
 abbrev pub step_of : LimitKey → ℕ
 step_of (Exec firm) = 0
@@ -27,12 +17,6 @@ step_of (Agr agreement) = 1
 step_of (Acct account) = 2
 step_of (Carry firm) = 3
 step_of (Guar firm) = 4
-
--- a path has these four keys, or these four and a guarantor's
-abbrev pub is_whole : AgreementId → List LimitKey → Bool
-is_whole own (a ∷ b ∷ c ∷ d ∷ []) = are_kinds own a b c d
-is_whole own (a ∷ b ∷ c ∷ d ∷ e ∷ []) = are_kinds own a b c d && is_guarantor e
-is_whole own _ = false
 
 -- the same key, or none on both sides
 abbrev pub same_key : Option LimitKey → Option LimitKey → Bool

@@ -1,8 +1,9 @@
 //! Offers and the keys of their paths, in order of first mention.
 
-ghost use Rattle.std.specs.Prelude.{◌≡◌, ◌+◌, ◌<◌, ◌≤◌, ◌^◌, ◌++◌, ◌∷◌, [], None, List, AllPairs, IfOk, IsTrue, OnOk, length, map, take};
+ghost use Rattle.std.specs.Prelude.{◌≡◌, ◌+◌, ◌<◌, ◌≤◌, ◌^◌, ◌++◌, ◌∷◌, [], None, Some, List, All, AllPairs, IfOk, IsTrue, OnOk, length, map, slice_get, take};
 ghost use Rattle.gu_terms.specs.LimitKeys.{has_key};
 ghost use Rattle.gu_terms.specs.declared.limit_key.LimitKey.{LimitKey};
+ghost use Rattle.gu_terms.specs.declared.limit_key.LimitKey.TheVariants.{Agr};
 ghost use Rattle.gu_view.specs.Keeping.{AreMentioned, IsKeyed};
 ghost use Rattle.gu_view.specs.Making.{bad_offer, path_differs};
 ghost use Rattle.gu_view.specs.View.{firsts, keys_of, place_among};
@@ -84,6 +85,7 @@ fn mention_offer(
     at: usize,
 ) -> Result<(), AllocError>
     requires inside { (at < length offers.now) × (length offers.now ≤ 4096) }
+    requires own { All (λ o. slice_get o.path 1 ≡ Some (Agr o.agreement)) offers.now }
     requires one_path { AllPairs (λ a b. a.agreement ≡ b.agreement → a.path ≡ b.path) offers.now }
     requires before { AreMentioned (take at offers.now) keys.old.keys places.old }
     ensures { OnOk result (AreMentioned (take (at + 1) offers.now) keys.new.keys places.new) }
@@ -103,6 +105,7 @@ fn mention_all(
 ) -> Result<(), AllocError>
     requires none { (keys.old.keys ≡ []) × (places.old ≡ []) }
     requires few { length offers.now ≤ 4096 }
+    requires own { All (λ o. slice_get o.path 1 ≡ Some (Agr o.agreement)) offers.now }
     requires one_path { AllPairs (λ a b. a.agreement ≡ b.agreement → a.path ≡ b.path) offers.now }
     ensures { OnOk result (AreMentioned offers.now keys.new.keys places.new) }
 {
@@ -118,6 +121,7 @@ fn keyed(
     offers: &[ViewOffer],
 ) -> Result<(IndexSet<LimitKey>, SharedLists), AllocError>
     requires few { length offers.now ≤ 4096 }
+    requires own { All (λ o. slice_get o.path 1 ≡ Some (Agr o.agreement)) offers.now }
     requires one_path { AllPairs (λ a b. a.agreement ≡ b.agreement → a.path ≡ b.path) offers.now }
     ensures { IfOk result (λ made. AreMentioned offers.now made.0.keys made.1) }
 {

@@ -2,59 +2,10 @@
 
 ghost use Rattle.std.specs.Prelude.{◌≡◌, ◌<◌, IfSome, length, slice_get};
 ghost use Rattle.std.specs.List.{list_all};
-ghost use Rattle.gu_view.specs.Paths.{are_kinds, behind, have_one_key, is_guarantor, is_whole, key_on, room_agrees, same_key};
+ghost use Rattle.gu_view.specs.Paths.{behind, have_one_key, key_on, room_agrees, same_key};
 
 use crate::view::{View, ViewOffer};
-use gu_terms::{AgreementId, LimitKey};
-
-/// Returns whether these are the keys of an executing firm, of this agreement, of an account and of a carrying firm.
-fn are_kinds(
-    own: AgreementId,
-    executing: LimitKey,
-    agreement: LimitKey,
-    account: LimitKey,
-    carrying: LimitKey,
-) -> bool
-    ensures { result ≡ are_kinds own executing agreement account carrying }
-{
-    match (executing, agreement, account, carrying) {
-        (LimitKey::Exec(_), LimitKey::Agr(agreement), LimitKey::Acct(_), LimitKey::Carry(_)) => {
-            agreement == own
-        }
-        _ => false,
-    }
-}
-
-/// Returns whether a key is a guarantor's.
-fn is_guarantor(key: LimitKey) -> bool
-    ensures { result ≡ is_guarantor key }
-{
-    matches!(&key, LimitKey::Guar(_))
-}
-
-/// Returns whether a path is executing firm, this agreement, account and carrying firm, followed by a guarantor or nothing.
-fn is_whole(own: AgreementId, path: &[LimitKey]) -> bool
-    ensures { result ≡ is_whole own path.now }
-{
-    match path {
-        [executing, agreement, account, carrying] => {
-            are_kinds(own, *executing, *agreement, *account, *carrying)
-        }
-        [executing, agreement, account, carrying, guarantor] => {
-            are_kinds(own, *executing, *agreement, *account, *carrying) && is_guarantor(*guarantor)
-        }
-        _ => false,
-    }
-}
-
-/// Returns whether each path is whole.
-pub fn are_whole(offers: &[ViewOffer]) -> bool
-    ensures { result ≡ list_all (λ o. is_whole o.agreement o.path) offers.now }
-{
-    offers
-        .iter()
-        .all(|offer| is_whole(offer.agreement, offer.path.keys()))
-}
+use gu_terms::LimitKey;
 
 /// Returns the depth on a path that follows an account's key or a carrying firm's.
 fn behind(key: LimitKey) -> Option<usize>
@@ -116,7 +67,7 @@ fn agrees(view: &View, place: usize, key: LimitKey) -> bool
 }
 
 /// Returns whether offers with one account have the same carrying key, and those with one carrying firm the same guarantor's key or none.
-/// If paths are whole, it looks at each offer twice.
+/// It looks at each offer twice.
 pub fn keys_agree(view: &View) -> bool
     ensures { result ≡ list_all (room_agrees view.now.offers) view.now.rooms }
 {

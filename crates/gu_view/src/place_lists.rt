@@ -1,8 +1,7 @@
 //! Lists of indexes, one after another in one buffer.
 
-ghost use Rattle.std.specs.Prelude.{◌≡◌, ◌↔◌, ◌<◌, ◌≤◌, ◌==◌, ◌∷◌, ◌++◌, [], length, IsTrue, OnOk, OnErr, IfOk, slice_get, slice_index, slice_range};
-ghost use Rattle.std.specs.List.{list_any};
-ghost use Rattle.gu_view.specs.Keeping.{lists_from, AreEnds, AreOnce, IsOnce};
+ghost use Rattle.std.specs.Prelude.{◌≡◌, ◌<◌, ◌≤◌, ◌∷◌, ◌++◌, [], length, OnOk, OnErr, IfOk, slice_get, slice_index, slice_range};
+ghost use Rattle.gu_view.specs.Keeping.{lists_from, AreEnds};
 
 use std::alloc::{AllocError, Global};
 use std::marker::Model;
@@ -41,43 +40,6 @@ fn part(joined: &[u32], start: usize, end: usize) -> &[u32]
     ensures { result.now ≡ slice_range joined.now start end }
 {
     &joined[start..end]
-}
-
-/// Appends the numbers of a list to an empty one, each at its first occurrence.
-fn append_once(once: &mut Vec<u32>, list: &[u32]) -> Result<(), AllocError>
-    requires { once.old.items ≡ [] }
-    ensures { OnOk result (IsOnce list.now once.new.items) }
-{
-    for number in list {
-        if !once.contains(number) {
-            once.push(*number)?;
-        }
-    }
-    Ok(())
-}
-
-/// Returns whether a number is in a short list. `contains` would be a call; this loop is inlined.
-fn is_in(list: &[u32], number: u32) -> bool
-    ensures { result ≡ list_any (λ m. m == number) list.now }
-{
-    for other in list {
-        if *other == number {
-            return true;
-        }
-    }
-    false
-}
-
-/// Returns whether no number occurs twice in a list.
-fn is_once(list: &[u32]) -> bool
-    ensures { IsTrue result ↔ IsOnce list.now list.now }
-{
-    for (place, number) in list.iter().enumerate() {
-        if is_in(&list[..place], *number) {
-            return false;
-        }
-    }
-    true
 }
 
 impl PlaceLists {
@@ -132,31 +94,5 @@ impl PlaceLists {
         let joined = self.joined.clone()?;
         let ends = self.ends.clone()?;
         Ok(PlaceLists { joined, ends })
-    }
-
-    /// Returns whether no number occurs twice in any of them.
-    pub fn are_once(&self) -> bool
-        ensures { IsTrue result → AreOnce self.now self.now }
-    {
-        for place in 0..self.count() {
-            if !is_once(self.list(place)) {
-                return false;
-            }
-        }
-        true
-    }
-
-    /// Returns the same lists, each without repeated numbers.
-    pub fn each_once(&self, alloc: Global) -> Result<PlaceLists, AllocError>
-        ensures { IfOk result (λ lists. AreOnce self.now lists) }
-    {
-        let mut lists = PlaceLists::new(alloc);
-        let mut once = Vec::new(alloc);
-        for place in 0..self.count() {
-            once.clear();
-            append_once(&mut once, self.list(place))?;
-            lists.push(&once)?;
-        }
-        Ok(lists)
     }
 }

@@ -1,7 +1,6 @@
 //! Lists of indexes, stored once if consecutive ones are the same.
 
-ghost use Rattle.std.specs.Prelude.{◌≡◌, ℕ, ◌-◌, ◌<◌, ◌≤◌, ◌++◌, ◌∷◌, [], IfOk, IsTrue, OnOk, Some, length, slice_get, slice_index_or};
-ghost use Rattle.gu_view.specs.Keeping.{AreOnce};
+ghost use Rattle.std.specs.Prelude.{◌≡◌, ℕ, ◌-◌, ◌<◌, ◌≤◌, ◌++◌, ◌∷◌, [], IfOk, OnOk, Some, length, slice_get, slice_index_or};
 
 use crate::place_lists::PlaceLists;
 use std::alloc::{AllocError, Global};
@@ -88,22 +87,6 @@ impl SharedLists {
     {
         let at = self.at.clone()?;
         let kept = self.kept.copy()?;
-        Ok(SharedLists { kept, at })
-    }
-
-    /// Returns whether no number occurs twice in any stored list.
-    pub fn are_once(&self) -> bool
-        ensures { IsTrue result → AreOnce self.now self.now }
-    {
-        self.kept.are_once()
-    }
-
-    /// Returns the same lists, each without repeated numbers.
-    pub fn each_once(&self, alloc: Global) -> Result<SharedLists, AllocError>
-        ensures { IfOk result (λ lists. AreOnce self.now lists) }
-    {
-        let at = self.at.clone()?;
-        let kept = self.kept.each_once(alloc)?;
         Ok(SharedLists { kept, at })
     }
 }

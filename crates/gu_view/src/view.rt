@@ -12,7 +12,7 @@ use crate::error::ViewError;
 use crate::keyed_offers::KeyedOffers;
 use crate::making::{bad_offer, path_differs, rooms_in_order};
 use crate::members::all_members;
-use crate::nesting::{are_whole, keys_agree};
+use crate::nesting::keys_agree;
 use crate::place_lists::PlaceLists;
 use crate::shared_lists::SharedLists;
 use gu_terms::{AgreementId, Group, LimitKey, MOST_LIMIT, OfferNo, Path};
@@ -231,12 +231,12 @@ impl View {
         self.keys.get_index_of(&key)
     }
 
-    /// Returns whether each path is whole, offers with one account have the same carrying firm, and those with one carrying firm the same
-    /// guarantor or none. It allocates nothing.
+    /// Returns whether offers with one account have the same carrying firm, and those with one carrying firm the same guarantor or none.
+    /// (Each path is whole by its type.) It allocates nothing.
     pub fn nested(&self) -> bool
         ensures { IsTrue result ↔ IsNested self.now }
     {
-        are_whole(&self.offers) && keys_agree(self)
+        keys_agree(self)
     }
 
     /// Returns whether two views show the same. It allocates nothing.

@@ -1,14 +1,17 @@
-use Rattle.std.proofs.Common.{◌≡◌, ◌∙◌, ◌+◌, ◌-◌, ◌++◌, List, ap, arith, map, subst, sym, take, true}
+use Rattle.std.proofs.Common.{◌≡◌, ◌∙◌, ◌+◌, ◌-◌, ◌++◌, List, Some, ap, arith, map, slice_get, subst, sym, take, true}
 use Rattle.std.specs.List.{AllByRecursion, flat_map}
 use Rattle.std.proofs.lemmas.List.{get_or_default, length-take}
+use Rattle.std.proofs.lemmas.List.Elements.{All-more}
 use Rattle.std.proofs.lemmas.Result.{on_ok_weaker}
 use Rattle.gu_terms.specs.LimitKeys.{has_key}
 use Rattle.gu_terms.specs.declared.limit_key.LimitKey.{LimitKey}
+use Rattle.gu_terms.specs.declared.limit_key.LimitKey.TheVariants.{Agr}
 use Rattle.gu_view.specs.Keeping.{AreMentioned}
-use Rattle.gu_view.specs.View.{firsts, place_among}
+use Rattle.gu_view.specs.View.{IsPath, firsts, place_among}
 use Rattle.gu_view.specs.declared.view.ViewOffer.{ViewOffer}
 use Rattle.gu_view.proofs.DerivedEq.{same, same-one}
 use Rattle.gu_view.proofs.Mentions.{all_known, all_places-more, all_places-stay, keys_of-more, mentioned_again}
+use Rattle.gu_view.proofs.WholePaths.{whole_path}
 use Rattle.gu_view.proofs.keyed_offers.mention_offer.Goals as goal
 
 pub returns-then-eq : goal.returns-then-eq
@@ -28,7 +31,7 @@ returns-then-eq c =
     ∙ c.requires.one_path (i - 1) i before (omega (arith, c.if-at-gt0.true)) inside (sym (ap (λ (o : ViewOffer). o.agreement) first) ∙ agreement ∙ ap (λ (o : ViewOffer). o.agreement) second)
     ∙ sym (ap (λ (o : ViewOffer). o.path) second) in
     on_ok_weaker c.push_again.result
-    (λ made. subst (AreMentioned (take (i + 1) offers) keys) (sym made) (mentioned_again offers keys c.args.places.now i before o (omega (arith, c.if-at-gt0.true)) inside first c.index-offers-at-then-at-gt0.is path c.requires.before))
+    (λ made. subst (AreMentioned (take (i + 1) offers) keys) (sym made) (mentioned_again offers keys c.args.places.now i before o (omega (arith, c.if-at-gt0.true)) inside first c.index-offers-at-then-at-gt0.is agreement path c.requires.before))
     c.push_again.ensures
 
 pub returns : goal.returns
@@ -44,7 +47,9 @@ returns c =
     let path : c.keys.result.now ≡ o.path = c.keys.ensures.keys ∙ sym (ap (λ (o : ViewOffer). o.path) c.index-offers-at-2.is) in
     let known : AllByRecursion (λ (o : ViewOffer). AllByRecursion (λ k. has_key old k ≡ true) o.path) seen =
     subst (λ (keys : List LimitKey). AllByRecursion (λ (o : ViewOffer). AllByRecursion (λ k. has_key keys k ≡ true) o.path) seen) (sym h.keys_are) (all_known seen) in
+    let own : slice_get o.path 1 ≡ Some (Agr o.agreement) = rw (← c.index-offers-at-2.is) at (c.requires.own i o c.requires.inside.0) in
     record {
+      whole = All-more IsPath offers i o c.requires.inside.0 h.whole (subst IsPath c.index-offers-at-2.is (whole_path o c.keys.result.now path own c.keys.ensures.are));
       keys_are = e.first (flat_map (λ (o : ViewOffer). o.path) seen) h.keys_are
           ∙ ap (λ (l : List LimitKey). firsts (flat_map (λ (o : ViewOffer). o.path) seen ++ l)) path
           ∙ keys_of-more offers i o c.requires.inside.0 c.index-offers-at-2.is;

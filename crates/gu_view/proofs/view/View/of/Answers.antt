@@ -1,5 +1,5 @@
 use Rattle.std.proofs.Common.{◌∙◌, ap, arith, length, sym}
-use Rattle.gu_view.proofs.IndexLemmas.{all_within, as_many, distinct, indexed, makes, places_are, shown-is, sound}
+use Rattle.gu_view.proofs.IndexLemmas.{all_apart, all_within, as_many, distinct, indexed, makes, places_are, shown-is, sound}
 use Rattle.gu_view.proofs.MakingLemmas.{good_offers}
 use Rattle.gu_view.proofs.view.View.of.Goals as goal
 
@@ -13,6 +13,10 @@ pub all_members-requires-clause-within : goal.all_members-requires-clause-within
 all_members-requires-clause-within c =
     rw (c.len-2.ensures, c.args.rooms.ok.0)
     (all_within c.args.group c.args.version c.args.offers c.args.rooms.items c.into_parts-offers.result.1.keys c.into_parts-offers.result.2 c.into_parts-offers.ensures.keyed c.requires.keys c.requires.limits)
+
+pub all_members-requires-clause-apart : goal.all_members-requires-clause-apart
+all_members-requires-clause-apart c =
+    all_apart c.args.group c.args.version c.args.offers c.args.rooms.items c.into_parts-offers.result.1.keys c.into_parts-offers.result.2 c.into_parts-offers.ensures.keyed c.requires.keys c.requires.limits
 
 pub invariant_of-result : goal.invariant_of-result
 invariant_of-result c =

@@ -1,6 +1,6 @@
 use Rattle.std.proofs.Common.{IfSome, subst}
 use Rattle.gu_keeping.specs.Chains.{IsChainOf}
-use Rattle.gu_program.proofs.day.Ready.into_parts.Goals as goal
+use Rattle.gu_program.proofs.ready.Ready.into_parts.Goals as goal
 
 -- the journal has the entries of the world's book
 pub invariant_of-result : goal.invariant_of-result
