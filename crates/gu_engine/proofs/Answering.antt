@@ -1,15 +1,5 @@
 -- What a turn brings, answered event by event.
-use Rattle.std.proofs.Common.{◌≡◌, ◌<◌, ◌≤◌, ◌⊎◌, ℕ, true, false, List, [], ◌∷◌, ◌++◌, length, Option, None, Some, inl, inr, refl, sym, ap, subst, ◌∙◌, append_assoc, arith}
-use Rattle.std.proofs.lemmas.List.{append-nil}
-use Rattle.gu_streams.specs.Written.{WrotePart}
-use Rattle.gu_streams.proofs.Writing.{wrote_none}
-use Rattle.gu_engine.specs.Backlogs.{AnswersPartOfIt, AnswersWhatIsLeft, TakesEvent, TakesLast}
-use Rattle.gu_engine.specs.Running.{Answers, AnswersSome, Engine, brought_in, is_more}
-use Rattle.gu_engine.specs.Sends.{Gives, GivesAnswers, GivesPart, IsReady}
-use Rattle.gu_engine.specs.Turns.{IsLeft}
-use Rattle.gu_engine.specs.declared.backlog.Backlog.{Backlog}
-use Rattle.gu_engine.specs.declared.backlog.Left.{Left}
-use Rattle.gu_engine.specs.declared.event.Event.{Event}
+use Rattle.gu_engine.proofs.Words.{◌≡◌, ◌<◌, ◌≤◌, ◌⊎◌, ℕ, true, false, List, [], ◌∷◌, ◌++◌, length, Option, None, Some, inl, inr, refl, sym, ap, subst, ◌∙◌, append_assoc, arith, append-nil, WrotePart, wrote_none, AnswersPartOfIt, AnswersWhatIsLeft, TakesEvent, TakesLast, Answers, AnswersSome, Engine, brought_in, is_more, Gives, GivesAnswers, GivesPart, IsReady, IsLeft, Backlog, Left, Event}
 use Rattle.gu_engine.specs.declared.event.Event.TheVariants.{Frame, Silence, More, Over}
 use Rattle.gu_engine.proofs.Holding.{gives_then, wrote_after}
 use Rattle.gu_engine.proofs.InTurn.{each_one, each_then}

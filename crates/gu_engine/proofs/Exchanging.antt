@@ -1,6 +1,5 @@
 -- The parts of an exchange.
-use Rattle.std.proofs.Common.{◌≡◌, ◌<◌, ◌-◌, ◌^◌, ◌&&◌, not, is_some, if◌then◌else◌, ℕ, Bool, true, false, refl, arith}
-use Rattle.gu_engine.specs.Exchange.{firm_of, is_due}
+use Rattle.gu_engine.proofs.Words.{◌≡◌, ◌<◌, ◌-◌, ◌^◌, ◌&&◌, not, is_some, if◌then◌else◌, ℕ, Bool, true, false, refl, arith, firm_of, is_due}
 use Rattle.gu_engine.specs.declared.connection.Connection.{Connection}
 
 -- the first of two that hold

@@ -1,7 +1,5 @@
 -- A text of which the first part is written.
-use Rattle.std.proofs.Common.{◌≡◌, ◌++◌, ℕ, List, Option, take, drop, sym, ap, ◌∙◌, append_assoc}
-use Rattle.std.proofs.lemmas.List.{take-append-drop}
-use Rattle.gu_streams.specs.Written.{WrotePart}
+use Rattle.gu_engine.proofs.Words.{◌≡◌, ◌++◌, ℕ, List, Option, take, drop, sym, ap, ◌∙◌, append_assoc, take-append-drop, WrotePart}
 
 -- a prefix of the first part of a text is a prefix of the text
 pub wrote_first : (count : ℕ) (text : List ℕ) (a b : Option (List ℕ)) → WrotePart (take count text) a b → WrotePart text a b

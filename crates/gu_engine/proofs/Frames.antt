@@ -1,8 +1,6 @@
 -- The frames in bytes, taken one after another.
-use Rattle.std.proofs.Common.{◌≡◌, ℕ, List, [], ◌∷◌, ◌++◌, sym, subst, append_assoc}
-use Rattle.gu_fix.specs.Stream.{AreFrames, IsFirstFrame, LeadsOn, TakesPiece}
+use Rattle.gu_engine.proofs.Words.{◌≡◌, ℕ, List, [], ◌∷◌, ◌++◌, sym, subst, append_assoc, AreFrames, IsFirstFrame, LeadsOn, TakesPiece, frames_exist, leads_on_start, none_at_start, one_list}
 use Rattle.gu_fix.proofs.NextFrames.{leads_on_first, takes_exist}
-use Rattle.gu_fix.proofs.StreamLaws.{frames_exist, leads_on_start, none_at_start, one_list}
 
 -- a list without its first element
 same_rest : (x y : List ℕ) (xs ys : List (List ℕ)) → x ∷ xs ≡ y ∷ ys → (x ≡ y) × (xs ≡ ys)

@@ -1,10 +1,6 @@
 -- Texts of which a part is held: given one after another, and finally written in full or in part.
-use Rattle.std.proofs.Common.{◌≡◌, ◌≤◌, ℕ, List, [], ◌++◌, length, Option, sym, ap, subst, ◌∙◌, append_assoc, arith}
+use Rattle.gu_engine.proofs.Words.{◌≡◌, ◌≤◌, ℕ, List, [], ◌++◌, length, Option, sym, ap, subst, ◌∙◌, append_assoc, arith, append-nil, length-append, WrotePart, wrote_then, Gives, GivesSome}
 use Rattle.std.proofs.KnownBytes.{Appends-trans, Appends-nil}
-use Rattle.std.proofs.lemmas.List.{append-nil, length-append}
-use Rattle.gu_streams.specs.Written.{WrotePart}
-use Rattle.gu_streams.proofs.Writing.{wrote_then}
-use Rattle.gu_engine.specs.Sends.{Gives, GivesSome}
 
 -- nothing was given or written
 pub gives_nothing : (held : List ℕ) (o : Option (List ℕ)) → Gives [] held held o o

@@ -1,8 +1,5 @@
 -- An intake stores no more bytes than before.
-use Rattle.std.proofs.Common.{◌≡◌, ◌≤◌, ◌+◌, ◌-◌, ℕ, List, [], ◌∷◌, ◌++◌, length, sym, ap, ◌∙◌, arith}
-use Rattle.std.proofs.lemmas.List.{append-nil, length-append, length-drop}
-use Rattle.gu_fix.specs.Stream.{IsFirstFrame, IsOpen, LeadsOn}
-use Rattle.gu_fix.proofs.StreamLaws.{none_at_start}
+use Rattle.gu_engine.proofs.Words.{◌≡◌, ◌≤◌, ◌+◌, ◌-◌, ℕ, List, [], ◌∷◌, ◌++◌, length, sym, ap, ◌∙◌, arith, append-nil, length-append, length-drop, IsFirstFrame, IsOpen, LeadsOn, none_at_start}
 
 -- a frame and the rest after it
 pub length_with_frame : (stream frame rest : List ℕ) → IsFirstFrame stream frame rest → length rest + length frame ≤ length stream

@@ -1,17 +1,7 @@
 -- The events that turns leave in the stored bytes, taken one after another.
-use Rattle.std.proofs.Common.{◌≡◌, ◌<◌, ◌≤◌, ℕ, List, [], ◌∷◌, ◌++◌, length, take, map, Option, None, Some, refl, sym, ap, subst, ◌∙◌, arith}
-use Rattle.gu_fix.specs.Stream.{AreFrames, IsFirstFrame, IsOpen, LeadsOn, TakesPiece}
+use Rattle.gu_engine.proofs.Words.{◌≡◌, ◌<◌, ◌≤◌, ℕ, List, [], ◌∷◌, ◌++◌, length, take, map, Option, None, Some, refl, sym, ap, subst, ◌∙◌, arith, AreFrames, IsFirstFrame, IsOpen, LeadsOn, TakesPiece, none_yet, Took, Waited, CountedReads, FindsEvents, steps_left, Brings, IsLeft, Reads, Backlog, Left, Event}
 use Rattle.gu_fix.proofs.NextFrames.{rest_is_shorter}
-use Rattle.gu_fix.proofs.StreamLaws.{none_yet}
-use Rattle.gu_streams.specs.Reads.{Took, Waited}
-use Rattle.gu_streams.specs.declared.counted_reads.CountedReads.{CountedReads}
-use Rattle.gu_engine.specs.Backlogs.{FindsEvents, steps_left}
-use Rattle.gu_engine.specs.Running.{Brings}
-use Rattle.gu_engine.specs.Turns.{IsLeft, Reads}
-use Rattle.gu_engine.specs.declared.backlog.Backlog.{Backlog}
-use Rattle.gu_engine.specs.declared.backlog.Left.{Left}
 use Rattle.gu_engine.specs.declared.backlog.Left.TheVariants as left
-use Rattle.gu_engine.specs.declared.event.Event.{Event}
 use Rattle.gu_engine.specs.declared.event.Event.TheVariants.{Frame, Silence, Over}
 use Rattle.gu_engine.proofs.Frames.{brings_some, takes_after, takes_first, takes_none}
 

@@ -10,3 +10,4 @@ pub mod Lending
 pub mod Servings
 pub mod Shares
 pub mod TurnParts
+pub mod Words

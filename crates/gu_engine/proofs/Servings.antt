@@ -1,23 +1,12 @@
 -- The turns of an engine that are never cut, one after another.
-use Rattle.std.proofs.Common.{◌≡◌, ◌⊎◌, ◌<◌, ◌+◌, ℕ, true, false, List, [], ◌∷◌, ◌++◌, length, Option, None, Some, inl, inr, refl, sym, ap, subst, ◌∙◌, arith}
+use Rattle.gu_engine.proofs.Words.{◌≡◌, ◌⊎◌, ◌<◌, ◌+◌, ℕ, true, false, List, [], ◌∷◌, ◌++◌, length, Option, None, Some, inl, inr, refl, sym, ap, subst, ◌∙◌, arith, append-nil, map-append, Stopped, Took, bytes_left, reads_left, waits_left, CountedReads, wrote_all, AnswersPart, AnswersPiece, AnswersPieces, Engine, HasRead, HaveBytes, Piece, Served, ServedInPart, ServedSoFar, turns_of, wait_of, waits_in, Gives, Ends, IsTurned, Rests, Stops, Turns, TurnsInPart, Work, is_last, AnswersTurn, AnswersTurnPart, IsEmpty, IsLeft, IsPause, Leaves, Pause, Reads, ReadsNoMore, between_of, Backlog, Left, Event}
 use Rattle.std.specs.List.{concat}
 use Rattle.std.specs.Option.{option_to_list}
 use Rattle.std.specs.Io.KnownBytes.{Consumes, Appends, Keeps}
 use Rattle.std.proofs.KnownBytes.{Consumes-trans, Consumes-nil, Consumes-kept}
-use Rattle.std.proofs.lemmas.List.{append-nil, map-append}
 use Rattle.std.proofs.lemmas.List.Folds.{concat-append}
-use Rattle.gu_streams.specs.Reads.{Stopped, Took, bytes_left, reads_left, waits_left}
 use Rattle.gu_streams.specs.Streams.{Streams, streams_of}
-use Rattle.gu_streams.specs.declared.counted_reads.CountedReads.{CountedReads}
-use Rattle.gu_streams.proofs.Writing.{wrote_all}
-use Rattle.gu_engine.specs.Running.{AnswersPart, AnswersPiece, AnswersPieces, Engine, HasRead, HaveBytes, Piece, Served, ServedInPart, ServedSoFar, turns_of, wait_of, waits_in}
-use Rattle.gu_engine.specs.Sends.{Gives}
-use Rattle.gu_engine.specs.Turned.{Ends, IsTurned, Rests, Stops, Turns, TurnsInPart, Work, is_last}
-use Rattle.gu_engine.specs.Turns.{AnswersTurn, AnswersTurnPart, IsEmpty, IsLeft, IsPause, Leaves, Pause, Reads, ReadsNoMore, between_of}
-use Rattle.gu_engine.specs.declared.backlog.Backlog.{Backlog}
-use Rattle.gu_engine.specs.declared.backlog.Left.{Left}
 use Rattle.gu_engine.specs.declared.backlog.Left.TheVariants as left
-use Rattle.gu_engine.specs.declared.event.Event.{Event}
 use Rattle.gu_engine.specs.declared.turned.Turned.{Turned}
 use Rattle.gu_engine.specs.declared.turned.Turned.TheVariants as turned
 use Rattle.gu_engine.proofs.Frames.{takes_nothing}

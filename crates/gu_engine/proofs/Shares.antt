@@ -1,9 +1,6 @@
 -- Cut turns, and those that continue: each answers its share of what a piece brings.
-use Rattle.std.proofs.Common.{◌≡◌, ℕ, List, [], ◌∷◌, ◌++◌, map, Option, None, Some, refl, sym, ap, subst, ◌∙◌}
+use Rattle.gu_engine.proofs.Words.{◌≡◌, ℕ, List, [], ◌∷◌, ◌++◌, map, Option, None, Some, refl, sym, ap, subst, ◌∙◌, AnswersEach, Brings, Engine, brought_in, AnswersInShares, AnswersShare, AnswersTurn, Call, Leaves, Pause, Share, between_of, later_calls, Event}
 use Rattle.std.specs.List.{flat_map}
-use Rattle.gu_engine.specs.Running.{AnswersEach, Brings, Engine, brought_in}
-use Rattle.gu_engine.specs.Turns.{AnswersInShares, AnswersShare, AnswersTurn, Call, Leaves, Pause, Share, between_of, later_calls}
-use Rattle.gu_engine.specs.declared.event.Event.{Event}
 
 -- the events left
 abbrev pending : Option (List Event) → List Event

@@ -1,16 +1,5 @@
 -- The parts of a turn: held bytes are sent, the events to answer are found and answered, and held bytes are sent again.
-use Rattle.std.proofs.Common.{◌≡◌, ◌⊎◌, ◌<◌, ◌≤◌, ℕ, Bool, true, false, List, [], ◌++◌, length, Option, None, Some, inl, inr, refl, sym, subst, ap, ◌∙◌, arith}
-use Rattle.std.proofs.lemmas.List.{append-nil}
-use Rattle.gu_streams.specs.Written.{WrotePart}
-use Rattle.gu_streams.specs.declared.counted_reads.CountedReads.{CountedReads}
-use Rattle.gu_engine.specs.Backlogs.{AnswersLeft, FindsEvents, TakesIn}
-use Rattle.gu_engine.specs.Running.{Engine}
-use Rattle.gu_engine.specs.Sends.{Gives, GivesPart}
-use Rattle.gu_engine.specs.Turned.{Gave, IsTurned, Rests, Stops, Turns, TurnsInPart, Work, is_last}
-use Rattle.gu_engine.specs.Turns.{IsLeft, IsPause, Pause, Reads, ReadsNoMore}
-use Rattle.gu_engine.specs.declared.backlog.Backlog.{Backlog}
-use Rattle.gu_engine.specs.declared.backlog.Left.{Left}
-use Rattle.gu_engine.specs.declared.event.Event.{Event}
+use Rattle.gu_engine.proofs.Words.{◌≡◌, ◌⊎◌, ◌<◌, ◌≤◌, ℕ, Bool, true, false, List, [], ◌++◌, length, Option, None, Some, inl, inr, refl, sym, subst, ap, ◌∙◌, arith, append-nil, WrotePart, CountedReads, AnswersLeft, FindsEvents, TakesIn, Engine, Gives, GivesPart, Gave, IsTurned, Rests, Stops, Turns, TurnsInPart, Work, is_last, IsLeft, IsPause, Pause, Reads, ReadsNoMore, Backlog, Left, Event}
 use Rattle.gu_engine.specs.declared.turned.Turned.{Turned}
 use Rattle.gu_engine.specs.declared.turned.Turned.TheVariants as turned
 use Rattle.gu_engine.proofs.Holding.{gives_and_goes, wrote_after}

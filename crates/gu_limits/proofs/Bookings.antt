@@ -1,19 +1,7 @@
 -- Lots charged or given back under several keys, one key after another.
-use Rattle.std.proofs.Common.{◌≡◌, ◌∙◌, sym, refl, ap, subst, ℕ, zero, suc, ◌+◌, ◌-◌, ◌≤◌, ◌<◌, ◌&&◌, ◌||◌, Bool, true, false, cond, List, [], ◌∷◌, ◌++◌, map, length, take, get_or, Option, Some, None, inl, inr, is_some, arith}
-use Rattle.std.specs.List.{All, IsDistinct}
-use Rattle.std.specs.Option.{option_map, option_map_or}
-use Rattle.std.proofs.lemmas.Bool.{cases_Bool}
+use Rattle.gu_limits.proofs.Words.{◌≡◌, ◌∙◌, sym, refl, ap, subst, ℕ, zero, suc, ◌+◌, ◌-◌, ◌≤◌, ◌<◌, ◌&&◌, ◌||◌, Bool, true, false, cond, List, [], ◌∷◌, ◌++◌, map, length, take, get_or, Option, Some, None, inl, inr, is_some, arith, All, IsDistinct, option_map, option_map_or, cases_Bool, list_any-append, same_group-true, key_eq-same, has_key, key_eq, same_group, Group, LimitKey, Charges, Returns, SameLimits, limits_after_charge, limits_after_return, limits_of_new_day, lots_under, GroupLimit, limit_for, room_in, used_in}
 use Rattle.std.proofs.lemmas.List.Elements.{All-head, All-tail}
-use Rattle.std.proofs.lemmas.List.Folds.{list_any-append}
 use Rattle.std.proofs.lemmas.Map.Keys.{IsDistinct-tail, apart_from_distinct}
-use Rattle.gu_terms.proofs.SameNames.{same_group-true}
-use Rattle.gu_terms.proofs.KeyLemmas.{key_eq-same}
-use Rattle.gu_terms.specs.LimitKeys.{has_key, key_eq}
-use Rattle.gu_terms.specs.Same.{same_group}
-use Rattle.gu_terms.specs.declared.group.Group.{Group}
-use Rattle.gu_terms.specs.declared.limit_key.LimitKey.{LimitKey}
-use Rattle.gu_limits.specs.Changes.{Charges, Returns, SameLimits, limits_after_charge, limits_after_return, limits_of_new_day, lots_under}
-use Rattle.gu_limits.specs.Limits.{GroupLimit, limit_for, room_in, used_in}
 use Rattle.gu_limits.proofs.LimitLemmas.{found_place, limit_for-map, same_limits, used-map}
 
 -- a property of all keys is one of each of them

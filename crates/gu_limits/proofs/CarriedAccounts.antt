@@ -1,13 +1,9 @@
 -- The account of each agreement is in the reference.
-use Rattle.std.proofs.Common.{◌≡◌, ◌∙◌, sym, refl, ap, Bool, true, false, cond, ◌&&◌, is_some, List, [], ◌∷◌, Option, None, Some}
-use Rattle.std.specs.List.{find, list_all}
-use Rattle.std.specs.Option.{option_map}
+use Rattle.gu_limits.proofs.Words.{◌≡◌, ◌∙◌, sym, refl, ap, Bool, true, false, cond, ◌&&◌, is_some, List, [], ◌∷◌, Option, None, Some, find, list_all, option_map, AgreementId, same_agreement}
 use Rattle.std.proofs.lemmas.List.Sums.{list_all-from_AllPass}
-use Rattle.gu_terms.specs.declared.agreement.AgreementId.{AgreementId}
 use Rattle.gu_ref.specs.declared.agreements.Agreement.{Agreement}
 use Rattle.gu_ref.specs.Reference.{is_firm, account_row, agreement_row}
 use Rattle.gu_ref.specs.Rules.{IsSound}
-use Rattle.gu_terms.specs.Same.{same_agreement}
 use Rattle.gu_ref.specs.Tables.{Tables}
 
 -- if two tests pass, each passes

@@ -1,27 +1,11 @@
 -- Limits as stored: look-ups, setting or charging one, and the start of a day.
-use Rattle.std.proofs.Common.{◌≡◌, ◌∙◌, sym, refl, ap, subst, ℕ, zero, suc, ◌+◌, ◌-◌, ◌≤◌, ◌&&◌, ◌||◌, ◌==◌, Bool, true, false, cond, List, [], ◌∷◌, ◌++◌, map, length, Option, Some, None, is_some, slice_get, inl, inr, eq-eqb, arith}
+use Rattle.gu_limits.proofs.Words.{◌≡◌, ◌∙◌, sym, refl, ap, subst, ℕ, zero, suc, ◌+◌, ◌-◌, ◌≤◌, ◌&&◌, ◌||◌, ◌==◌, Bool, true, false, cond, List, [], ◌∷◌, ◌++◌, map, length, Option, Some, None, is_some, slice_get, inl, inr, eq-eqb, arith, All, AllByRecursion, IsDistinct, keys_of, values_of, lookup, set_value, option_map, option_map_or, cases_Bool, eqb-true, map-append, insert_entry, set_value_at, eq_is, key_eq-sym, key_eq, same_group, Group, LimitKey, GroupKey, KeptLimit, limits_after_charge, limits_after_return, limits_after_setting, limits_of_new_day, lots_under, IsWithin, limit_on, set_to, unused, used_on, GroupLimit, has_limit, is_of, limit_and_use, limit_for, limit_in, room_in, same_limit, same_place, used_in}
 use Rattle.std.specs.Cmp.{IsEquivalence}
-use Rattle.std.specs.List.{All, AllByRecursion, IsDistinct}
-use Rattle.std.specs.Map.{keys_of, values_of, lookup, set_value}
-use Rattle.std.specs.Option.{option_map, option_map_or}
-use Rattle.std.proofs.lemmas.Bool.{cases_Bool, eqb-true}
-use Rattle.std.proofs.lemmas.List.{map-append}
 use Rattle.std.proofs.lemmas.List.Elements.{All-cons, All-head, All-nil, All-tail}
 use Rattle.std.proofs.lemmas.Map.{NonePasses, keys-set_value, none_passes_from_lookup}
 use Rattle.std.proofs.lemmas.Map.Entries.{none_past_head}
 use Rattle.std.proofs.lemmas.Map.Keys.{IsDistinct-cons, IsDistinct-head, IsDistinct-tail}
-use Rattle.indexmap.specs.IndexMap.{insert_entry, set_value_at}
-use Rattle.gu_terms.proofs.KeyLemmas.{eq_is, key_eq-sym}
-use Rattle.gu_terms.specs.LimitKeys.{key_eq}
-use Rattle.gu_terms.specs.Same.{same_group}
-use Rattle.gu_terms.specs.declared.group.Group.{Group}
-use Rattle.gu_terms.specs.declared.limit_key.LimitKey.{LimitKey}
 use Rattle.gu_limits.specs.contracts.table.GroupKeyPartialEq.TheImpl as group_key
-use Rattle.gu_limits.specs.declared.table.GroupKey.{GroupKey}
-use Rattle.gu_limits.specs.declared.table.KeptLimit.{KeptLimit}
-use Rattle.gu_limits.specs.Changes.{limits_after_charge, limits_after_return, limits_after_setting, limits_of_new_day, lots_under}
-use Rattle.gu_limits.specs.Kept.{IsWithin, limit_on, set_to, unused, used_on}
-use Rattle.gu_limits.specs.Limits.{GroupLimit, has_limit, is_of, limit_and_use, limit_for, limit_in, room_in, same_limit, same_place, used_in}
 use Rattle.gu_limits.proofs.LimitLemmas.{same_place-one, same_place-refl, same_place-sym}
 
 -- ---- the `==` of groups and keys, with which the map finds limits

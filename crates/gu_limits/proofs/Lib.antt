@@ -5,3 +5,4 @@ pub mod LimitLemmas
 pub mod LimitPlaces
 pub mod PathKeys
 pub mod RowsBetween
+pub mod Words

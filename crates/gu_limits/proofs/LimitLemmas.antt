@@ -1,18 +1,6 @@
 -- How a change of limits affects the limit and the use of each group and key.
-use Rattle.std.proofs.Common.{◌≡◌, ◌∙◌, sym, refl, ap, ℕ, ◌||◌, Bool, true, false, cond, List, [], ◌∷◌, ◌++◌, map, Option, Some, None, is_some, inl, inr}
-use Rattle.std.specs.List.{find}
-use Rattle.std.specs.Option.{option_map, option_map_or, option_or}
-use Rattle.std.proofs.lemmas.Bool.{cases_Bool, false_from_ne_true}
-use Rattle.std.proofs.lemmas.List.Folds.{find-append}
-use Rattle.gu_terms.proofs.SameNames.{same_group-own, same_group-true}
-use Rattle.gu_terms.proofs.KeyLemmas.{key_eq-refl, key_eq-same}
+use Rattle.gu_limits.proofs.Words.{◌≡◌, ◌∙◌, sym, refl, ap, ℕ, ◌||◌, Bool, true, false, cond, List, [], ◌∷◌, ◌++◌, map, Option, Some, None, is_some, inl, inr, find, option_map, option_map_or, option_or, cases_Bool, false_from_ne_true, find-append, same_group-own, same_group-true, key_eq-refl, key_eq-same, key_eq, same_group, Group, LimitKey, SameLimits, SameUses, limits_after_setting, GroupLimit, has_limit, is_of, limit_for, limit_in, same_place, used_in}
 use Rattle.gu_terms.proofs.SameValues.{both}
-use Rattle.gu_terms.specs.LimitKeys.{key_eq}
-use Rattle.gu_terms.specs.Same.{same_group}
-use Rattle.gu_terms.specs.declared.group.Group.{Group}
-use Rattle.gu_terms.specs.declared.limit_key.LimitKey.{LimitKey}
-use Rattle.gu_limits.specs.Changes.{SameLimits, SameUses, limits_after_setting}
-use Rattle.gu_limits.specs.Limits.{GroupLimit, has_limit, is_of, limit_for, limit_in, same_place, used_in}
 
 -- ---- groups and keys
 

@@ -1,25 +1,9 @@
 -- The indexes of limits: what a look-up finds, what is stored there, and the effect of a change there.
-use Rattle.std.proofs.Common.{◌≡◌, ◌∙◌, ◌+◌, ◌-◌, ◌<◌, ◌≤◌, ◌&&◌, ◌⊎◌, sym, ap, refl, subst, inl, inr, ℕ, zero, suc, Bool, true, false, cond, List, [], ◌∷◌, ◌++◌, map, length, get_or, not, nat_lt, position, slice_get, slice_index, take, Option, Some, None, arith}
-use Rattle.std.specs.List.{All, IsDistinct, find, position_or_len}
-use Rattle.std.specs.Map.{keys_of, values_of}
-use Rattle.std.specs.Option.{option_map, option_map_or}
-use Rattle.std.proofs.lemmas.Bool.{ltb-false, ltb-true}
-use Rattle.std.proofs.lemmas.List.{take_all, take_more}
-use Rattle.std.proofs.lemmas.List.Folds.{find_at}
+use Rattle.gu_limits.proofs.Words.{◌≡◌, ◌∙◌, ◌+◌, ◌-◌, ◌<◌, ◌≤◌, ◌&&◌, ◌⊎◌, sym, ap, refl, subst, inl, inr, ℕ, zero, suc, Bool, true, false, cond, List, [], ◌∷◌, ◌++◌, map, length, get_or, not, nat_lt, position, slice_get, slice_index, take, Option, Some, None, arith, All, IsDistinct, find, position_or_len, keys_of, values_of, option_map, option_map_or, ltb-false, ltb-true, take_all, take_more, find_at, set_value_at, has_key, key_eq, same_group, Group, LimitKey, GroupKey, KeptLimit, MayCharge, MayReturn, limits_after_charge, limits_after_return, IsWithin, limit_on, used_on, AreLimitsOf, GroupLimit, is_of, limit_for, number_in}
 use Rattle.std.proofs.lemmas.Option.{get_or_from_slice_get, slice_get-map, slice_get_cases, slice_get_past, slice_get_within}
-use Rattle.indexmap.specs.IndexMap.{set_value_at}
 use Rattle.gu_terms.proofs.Standing.{lookup-standing, set_value_at-standing, value-standing}
-use Rattle.gu_terms.specs.LimitKeys.{has_key, key_eq}
-use Rattle.gu_terms.specs.Same.{same_group}
 use Rattle.gu_terms.specs.Standing.{StandsAt}
-use Rattle.gu_terms.specs.declared.group.Group.{Group}
-use Rattle.gu_terms.specs.declared.limit_key.LimitKey.{LimitKey}
 use Rattle.gu_limits.specs.declared.numbers.PathLimits.{PathLimits}
-use Rattle.gu_limits.specs.declared.table.GroupKey.{GroupKey}
-use Rattle.gu_limits.specs.declared.table.KeptLimit.{KeptLimit}
-use Rattle.gu_limits.specs.Changes.{MayCharge, MayReturn, limits_after_charge, limits_after_return}
-use Rattle.gu_limits.specs.Kept.{IsWithin, limit_on, used_on}
-use Rattle.gu_limits.specs.Limits.{AreLimitsOf, GroupLimit, is_of, limit_for, number_in}
 use Rattle.gu_limits.proofs.Bookings.{after, after-apart, after-nothing, after-push, not_before}
 use Rattle.gu_limits.proofs.KeptLimits.{All-written, charge-kept, return-kept, same, same-laws, same-one, same_is, step, used_on-le, using, written}
 use Rattle.gu_limits.proofs.LimitLemmas.{found_place}

@@ -1,10 +1,7 @@
 -- A path names each key once.
-use Rattle.std.proofs.Common.{refl, Option, None, Some}
-use Rattle.std.specs.List.{IsDistinct}
-use Rattle.gu_terms.specs.LimitKeys.{key_eq}
+use Rattle.gu_limits.proofs.Words.{refl, Option, None, Some, IsDistinct, key_eq, AgreementId}
 use Rattle.gu_terms.specs.Paths.{path_through}
 use Rattle.gu_terms.specs.declared.account.AccountId.{AccountId}
-use Rattle.gu_terms.specs.declared.agreement.AgreementId.{AgreementId}
 use Rattle.gu_terms.specs.declared.firm.FirmId.{FirmId}
 
 -- its keys are of different kinds

@@ -1,13 +1,8 @@
 -- The agreement between a firm and an account is the one found by its name, and its path goes through the firm that carries the account.
-use Rattle.std.proofs.Common.{◌≡◌, ◌∙◌, sym, refl, ap, subst, is_some, Bool, true, false, cond, List, [], ◌∷◌, Option, None, Some}
-use Rattle.std.specs.List.{AllByRecursion, IsDistinct, find}
-use Rattle.std.specs.Option.{option_and_then, option_map}
+use Rattle.gu_limits.proofs.Words.{◌≡◌, ◌∙◌, sym, refl, ap, subst, is_some, Bool, true, false, cond, List, [], ◌∷◌, Option, None, Some, AllByRecursion, IsDistinct, find, option_and_then, option_map, same_account-true, same_firm-true, same_account, same_agreement, same_firm, AgreementId}
 use Rattle.std.proofs.lemmas.Cmp.{nat_list_eq_equiv}
-use Rattle.gu_terms.proofs.SameNames.{same_account-true, same_firm-true}
 use Rattle.gu_terms.proofs.SameValues.{both}
-use Rattle.gu_terms.specs.Same.{same_account, same_agreement, same_firm}
 use Rattle.gu_terms.specs.declared.account.AccountId.{AccountId}
-use Rattle.gu_terms.specs.declared.agreement.AgreementId.{AgreementId}
 use Rattle.gu_terms.specs.declared.firm.FirmId.{FirmId}
 use Rattle.gu_terms.specs.Paths.{path_through}
 use Rattle.gu_ref.specs.Listed.{agreement_for, is_between}

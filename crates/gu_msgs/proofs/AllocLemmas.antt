@@ -1,18 +1,7 @@
 -- The lots of a give-up's lines.
-use Rattle.std.proofs.Common.{◌≡◌, List, [], ◌∷◌, map, sum, length, refl}
-use Rattle.std.specs.List.{filter_map}
-use Rattle.std.proofs.lemmas.List.Sums.{sum-map}
-use Rattle.gu_terms.specs.Lines.{lots_in_all}
-use Rattle.gu_terms.specs.NumberText.{MeansLots}
-use Rattle.gu_terms.specs.declared.lines.Line.{Line}
+use Rattle.gu_msgs.proofs.Words.{◌≡◌, List, [], ◌∷◌, map, sum, length, refl, filter_map, sum-map, lots_in_all, MeansLots, Line, TagValue, AreLots, HasQuantities, entries_of, AreAllocs, Holds, first_value, ALLOC_QTY, NO_ALLOCS, QUANTITY}
 use Rattle.gu_terms.specs.declared.lots.Lots.{Lots}
-use Rattle.gu_fix.specs.TagValue.{TagValue}
-use Rattle.gu_msgs.specs.Agreement.{AreLots, HasQuantities}
-use Rattle.gu_msgs.specs.Groups.{entries_of}
-use Rattle.gu_msgs.specs.Messages.{AreAllocs}
-use Rattle.gu_msgs.specs.Values.{Holds, first_value}
 use Rattle.gu_msgs.specs.declared.msg_type.MsgType.TheVariants as kind
-use Rattle.gu_msgs.specs.declared.tags.TheConstants.{ALLOC_QTY, NO_ALLOCS, QUANTITY}
 
 -- there are as many lines as entries
 pub length-allocs : (entries : List (List TagValue)) (lines : List Line) → AreAllocs entries lines → length entries ≡ length lines

@@ -1,14 +1,9 @@
 -- The years of days counted from 1970-01-01.
-use Rattle.std.proofs.Common.{◌≡◌, ◌≤◌, ◌⊎◌, inl, inr, ℕ, ℤ, pos, arith}
-use Rattle.std.specs.Prelude.{◌<ℤ◌, ◌≤ℤ◌, negsuc, unsigned_abs}
-use Rattle.std.proofs.lemmas.Bool.{cases_order}
-use Rattle.std.proofs.lemmas.Int.{ints}
-use Rattle.jiff_core.specs.Calendar.{IsBetween, day_count, days_from_civil, days_in_month}
+use Rattle.gu_msgs.proofs.Words.{◌≡◌, ◌≤◌, ◌⊎◌, inl, inr, ℕ, ℤ, pos, arith, ◌<ℤ◌, ◌≤ℤ◌, negsuc, unsigned_abs, cases_order, ints, IsBetween, day_count, days_from_civil, days_in_month, IsDay}
 use Rattle.jiff_core.specs.Date.{epoch_day}
 use Rattle.jiff_core.specs.declared.civil.date.Date.{Date}
 use Rattle.jiff_core.proofs.CalendarLemmas.{day_count-lt_year}
 use Rattle.jiff_core.proofs.SignedLemmas.{signed_arith}
-use Rattle.gu_terms.specs.Days.{IsDay}
 
 -- such a day doesn't come before 1970-01-01
 not_before : (d : Date) (n : ℕ) → epoch_day d ≡ pos n → day_count (pos 1970) 1 1 ≤ day_count d.year d.month d.day

@@ -1,29 +1,13 @@
 -- Each text is allowed, or isn't for a reason.
-use Rattle.std.proofs.Common.{◌≡◌, ◌⊎◌, inl, inr, ℕ, ◌*◌, ◌/◌, ◌^◌, ◌≤◌, ◌++◌, Bool, true, false, ℤ, pos, List, [], ◌∷◌, length, codes, refl, sym, ap, ◌∙◌, subst, arith}
-use Rattle.std.specs.Prelude.{negsuc}
-use Rattle.std.specs.Char.{digit_value}
-use Rattle.std.specs.List.{list_all}
+use Rattle.gu_msgs.proofs.Words.{◌≡◌, ◌⊎◌, inl, inr, ℕ, ◌*◌, ◌/◌, ◌^◌, ◌≤◌, ◌++◌, Bool, true, false, ℤ, pos, List, [], ◌∷◌, length, codes, refl, sym, ap, ◌∙◌, subst, arith, negsuc, digit_value, list_all, AllDigits, digits_value, mul-div_cancel, cases_Bool, cases_order, ints, AllPass-from_list_all, list_all-from_AllPass, IsDate as IsCivil, days_in_month, IsDay, IsDayText, year_of, month_of, day_of, IsNumberText, Means, MeansLots, MeansPrice, fraction_digits, whole_digits, with_sign, has_soh, IsAtFault, IsFormatted, IsNumber, IsNumberWithin, IsSound, IsYesOrNo, is_numeral, SessionRejectReason, ValueIsIncorrect, IncorrectDataFormat, Kind}
 use Rattle.std.specs.Str.{bytes_eq}
-use Rattle.std.specs.Str.Parse.{AllDigits, digits_value}
-use Rattle.std.proofs.Math.Nat.{mul-div_cancel}
-use Rattle.std.proofs.lemmas.Bool.{cases_Bool, cases_order}
-use Rattle.std.proofs.lemmas.Int.{ints}
-use Rattle.std.proofs.lemmas.List.Sums.{AllPass-from_list_all, list_all-from_AllPass}
 use Rattle.std.proofs.lemmas.Slice.Eq.{bytes_eq-Decides}
-use Rattle.jiff_core.specs.Calendar.{IsDate as IsCivil, days_in_month}
-use Rattle.gu_terms.specs.Days.{IsDay, IsDayText, year_of, month_of, day_of}
 use Rattle.gu_terms.specs.Names.{IsId, IsName, is_id_byte, is_name_byte}
 use Rattle.gu_terms.specs.Numbers.{IsPrice}
-use Rattle.gu_terms.specs.NumberText.{IsNumberText, Means, MeansLots, MeansPrice, fraction_digits, whole_digits, with_sign}
-use Rattle.gu_fix.specs.Encoding.{has_soh}
 use Rattle.gu_msgs.specs.AllocStatuses.{status_number}
-use Rattle.gu_msgs.specs.Kinds.{IsAtFault, IsDate, IsFormatted, IsNumber, IsNumberWithin, IsSound, IsYesOrNo}
+use Rattle.gu_msgs.specs.Kinds.{IsDate}
 use Rattle.gu_msgs.specs.TestReqIds.{IsTestReqId}
-use Rattle.gu_msgs.specs.Values.{is_numeral}
 use Rattle.gu_msgs.specs.declared.alloc_status.AllocStatus.{AllocStatus}
-use Rattle.gu_msgs.specs.declared.reject_reason.SessionRejectReason.{SessionRejectReason}
-use Rattle.gu_msgs.specs.declared.reject_reason.SessionRejectReason.TheVariants.{ValueIsIncorrect, IncorrectDataFormat}
-use Rattle.gu_msgs.specs.declared.row.Kind.{Kind}
 use Rattle.gu_msgs.specs.declared.row.Kind.TheVariants as kind
 use Rattle.gu_msgs.proofs.OneMessage.{status_at, status_at-number}
 use Rattle.gu_msgs.proofs.SaidOnce.{one_number, ten_to_positive}

@@ -1,37 +1,9 @@
 -- Fields are a message, or they have a fault.
-use Rattle.std.proofs.Common.{◌≡◌, ◌⊎◌, inl, inr, ℕ, Bool, true, false, List, [], ◌∷◌, length, sum, codes, Option, None, Some, MatchOption, refl, sym, ap, ◌∙◌, arith}
-use Rattle.std.specs.List.{AllByRecursion}
-use Rattle.std.proofs.lemmas.Bool.{cases_Bool}
-use Rattle.gu_terms.specs.Days.{year_of, month_of, day_of}
-use Rattle.gu_terms.specs.Lines.{lots_in_all}
-use Rattle.gu_terms.specs.NumberText.{MeansLots}
-use Rattle.gu_terms.specs.declared.day.Day.{Day}
-use Rattle.gu_terms.specs.declared.lines.Line.{Line}
-use Rattle.gu_terms.specs.declared.side.Side.{Side}
-use Rattle.gu_terms.specs.declared.side.Side.TheVariants.{Buy, Sell}
-use Rattle.gu_fix.specs.TagValue.{TagValue}
-use Rattle.gu_fix.specs.declared.tag.TheConstants.{MSG_TYPE}
-use Rattle.gu_msgs.specs.Agreement.{Agrees, Disagrees, EndsRight, number_at}
-use Rattle.gu_msgs.specs.Faults.{IsFaultOf, IsFirstFault, untyped_fault}
-use Rattle.gu_msgs.specs.Groups.{entries_of}
+use Rattle.gu_msgs.proofs.Words.{◌≡◌, ◌⊎◌, inl, inr, ℕ, Bool, true, false, List, [], ◌∷◌, length, sum, codes, Option, None, Some, MatchOption, refl, sym, ap, ◌∙◌, arith, AllByRecursion, cases_Bool, year_of, month_of, day_of, lots_in_all, MeansLots, Day, Line, Side, Buy, Sell, TagValue, MSG_TYPE, Agrees, Disagrees, EndsRight, number_at, IsFaultOf, IsFirstFault, untyped_fault, entries_of, AreSound, IsFirstAtFault, Item, message_items, IsAtFault, IsNumberWithin, IsSound, AreAllocs, GivesDay, IsFlag, IsOfType, Says, side_number, code_of, is_type_text, fault_at, shape_fault, body_rows, entry_rows, Holds, MayHold, first_value, Fault, Inbound, MsgType, SessionRejectReason, InvalidMsgType, ValueIsIncorrect, Kind, BEGIN_SEQ_NO, END_SEQ_NO, GAP_FILL_FLAG, HEART_BT_INT, NEW_SEQ_NO, NO_ALLOCS, NO_EXECS, NO_SIDES, QUANTITY, RESET_SEQ_NUM_FLAG, SIDE, TRADE_DATE, ALLOC_REPORT_ID}
 use Rattle.gu_msgs.specs.Held.{AreHeld, IsWellMade}
-use Rattle.gu_msgs.specs.Items.{AreSound, IsFirstAtFault, Item, message_items}
-use Rattle.gu_msgs.specs.Kinds.{IsAtFault, IsNumberWithin, IsSound}
-use Rattle.gu_msgs.specs.Messages.{AreAllocs, GivesDay, IsFlag, IsOfType, Says, side_number}
-use Rattle.gu_msgs.specs.MsgTypes.{code_of, is_type_text}
-use Rattle.gu_msgs.specs.Shape.{fault_at, shape_fault}
-use Rattle.gu_msgs.specs.Tables.{body_rows, entry_rows}
-use Rattle.gu_msgs.specs.Values.{Holds, MayHold, first_value}
-use Rattle.gu_msgs.specs.declared.fault.Fault.{Fault}
-use Rattle.gu_msgs.specs.declared.inbound.Inbound.{Inbound}
 use Rattle.gu_msgs.specs.declared.inbound.Inbound.TheVariants as inbound
-use Rattle.gu_msgs.specs.declared.msg_type.MsgType.{MsgType}
 use Rattle.gu_msgs.specs.declared.msg_type.MsgType.TheVariants as kind
-use Rattle.gu_msgs.specs.declared.reject_reason.SessionRejectReason.{SessionRejectReason}
-use Rattle.gu_msgs.specs.declared.reject_reason.SessionRejectReason.TheVariants.{InvalidMsgType, ValueIsIncorrect}
-use Rattle.gu_msgs.specs.declared.row.Kind.{Kind}
 use Rattle.gu_msgs.specs.declared.row.Kind.TheVariants as value
-use Rattle.gu_msgs.specs.declared.tags.TheConstants.{BEGIN_SEQ_NO, END_SEQ_NO, GAP_FILL_FLAG, HEART_BT_INT, NEW_SEQ_NO, NO_ALLOCS, NO_EXECS, NO_SIDES, QUANTITY, RESET_SEQ_NUM_FLAG, SIDE, TRADE_DATE, ALLOC_REPORT_ID}
 use Rattle.gu_msgs.proofs.AllocLemmas.{quantities, sum_of_lines}
 use Rattle.gu_msgs.proofs.Decided.{IsDecided, le_decided, same_decided, sound_or_not, text_decided}
 use Rattle.gu_msgs.proofs.HeldLemmas.{number_held, well_made}

@@ -1,14 +1,8 @@
 -- Written messages can be encoded.
-use Rattle.std.proofs.Common.{◌≡◌, ℕ, ◌*◌, ◌≤◌, ◌==◌, ◌&&◌, Bool, true, false, cond, List, [], ◌∷◌, ◌++◌, length, nat_le, Option, None, Some, refl, ◌∙◌, subst, arith}
+use Rattle.gu_msgs.proofs.Words.{◌≡◌, ℕ, ◌*◌, ◌≤◌, ◌==◌, ◌&&◌, Bool, true, false, cond, List, [], ◌∷◌, ◌++◌, length, nat_le, Option, None, Some, refl, ◌∙◌, subst, arith, list_any, list_all, and_parts, leb-true, le-ltb, not-true, length-append, list_all-append, TagValue, tag_value, field_text, fields_text, message_of, fault_of, is_body_tag, begins_with_type, is_empty, has_soh, ALLOC_ID, REF_MSG_TYPE, REF_SEQ_NUM, REF_TAG_ID, SESSION_REJECT_REASON, TRADE_REPORT_ID, TRD_MATCH_ID}
 use Rattle.std.specs.Fmt.{decimal}
-use Rattle.std.specs.List.{list_any, list_all}
-use Rattle.std.proofs.lemmas.Bool.{and_parts, leb-true, le-ltb, not-true}
-use Rattle.std.proofs.lemmas.List.{length-append}
-use Rattle.std.proofs.lemmas.List.Folds.{list_all-append}
 use Rattle.std.proofs.lemmas.Fmt.{length-decimal-le}
-use Rattle.gu_fix.specs.TagValue.{TagValue, tag_value}
 use Rattle.gu_fix.specs.WholeMessage.{soh}
-use Rattle.gu_fix.specs.Encoding.{field_text, fields_text, message_of, fault_of, is_body_tag, begins_with_type, is_empty, has_soh}
 use Rattle.gu_fix.proofs.WholeLemmas.{length-spelling}
 use Rattle.gu_msgs.specs.Encodable.{ArePlain, is_plain}
 use Rattle.gu_msgs.specs.Written.{IsWritten, MarksResend, body_fields, header_fields}
@@ -20,7 +14,6 @@ use Rattle.gu_msgs.specs.declared.outbound.Body.{Body}
 use Rattle.gu_msgs.specs.declared.outbound.Body.TheVariants as body
 use Rattle.gu_msgs.specs.declared.outbound.Outbound.{Outbound}
 use Rattle.gu_msgs.specs.declared.rejection.Rejection.{Rejection}
-use Rattle.gu_msgs.specs.declared.tags.TheConstants.{ALLOC_ID, REF_MSG_TYPE, REF_SEQ_NUM, REF_TAG_ID, SESSION_REJECT_REASON, TRADE_REPORT_ID, TRD_MATCH_ID}
 
 -- ---- tags
 

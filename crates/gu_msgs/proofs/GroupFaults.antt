@@ -1,14 +1,5 @@
 -- The groups of a message of each type, and the rows of their counters.
-use Rattle.std.proofs.Common.{◌≡◌, ◌≢◌, ℕ, List, None, Option, Some, ap, refl, subst, arith, slice_index}
-use Rattle.std.specs.Option.{option_or}
-use Rattle.gu_fix.specs.TagValue.{TagValue}
-use Rattle.gu_msgs.specs.Shape.{group_fault, groups_fault}
-use Rattle.gu_msgs.specs.Standings.{AreStandings, IsStanding}
-use Rattle.gu_msgs.specs.Tables.{body_rows, entry_rows, header_rows, outer_rows}
-use Rattle.gu_msgs.specs.declared.fault.Fault.{Fault}
-use Rattle.gu_msgs.specs.declared.msg_type.MsgType.{MsgType}
-use Rattle.gu_msgs.specs.declared.msg_type.MsgType.TheVariants.{Heartbeat, TestRequest, ResendRequest, Reject, SequenceReset, Logout, Logon, TradeCaptureReport, AllocationInstruction, AllocationReportAck, RequestForPositions}
-use Rattle.gu_msgs.specs.declared.tags.TheConstants.{NO_ALLOCS, NO_EXECS, NO_SIDES}
+use Rattle.gu_msgs.proofs.Words.{◌≡◌, ◌≢◌, ℕ, List, None, Option, Some, ap, refl, subst, arith, slice_index, option_or, TagValue, group_fault, groups_fault, AreStandings, IsStanding, body_rows, entry_rows, header_rows, outer_rows, Fault, MsgType, Heartbeat, TestRequest, ResendRequest, Reject, SequenceReset, Logout, Logon, TradeCaptureReport, AllocationInstruction, AllocationReportAck, RequestForPositions, NO_ALLOCS, NO_EXECS, NO_SIDES}
 
 alone : (fault : Option Fault) → option_or fault None ≡ fault
 alone None = refl

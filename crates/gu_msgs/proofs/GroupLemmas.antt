@@ -1,7 +1,5 @@
 -- The fields before one, and entries.
-use Rattle.std.proofs.Common.{◌≡◌, ◌+◌, ◌≤◌, ◌-◌, ◌==◌, ℕ, Bool, true, false, cond, suc, List, [], ◌∷◌, length, take, refl, ap, arith, eq-eqb}
-use Rattle.gu_fix.specs.TagValue.{TagValue}
-use Rattle.gu_msgs.specs.Groups.{entries_by, up_to}
+use Rattle.gu_msgs.proofs.Words.{◌≡◌, ◌+◌, ◌≤◌, ◌-◌, ◌==◌, ℕ, Bool, true, false, cond, suc, List, [], ◌∷◌, length, take, refl, ap, arith, eq-eqb, TagValue, entries_by, up_to}
 
 -- the fields before one are the first of that number
 take-up_to : (is_such : ℕ → Bool) (fields : List TagValue) → take (length (up_to is_such fields)) fields ≡ up_to is_such fields

@@ -1,27 +1,8 @@
 -- Facts about a message whose shape and values are sound.
-use Rattle.std.proofs.Common.{◌≡◌, ◌≢◌, ◌≤◌, ◌++◌, ◌==◌, not, ℕ, Bool, true, false, cond, List, [], ◌∷◌, Option, Some, None, MatchOption, length, is_some, refl, sym, ◌∙◌}
+use Rattle.gu_msgs.proofs.Words.{◌≡◌, ◌≢◌, ◌≤◌, ◌++◌, ◌==◌, not, ℕ, Bool, true, false, cond, List, [], ◌∷◌, Option, Some, None, MatchOption, length, is_some, refl, sym, ◌∙◌, AllByRecursion, flat_map, option_map, option_map_or, option_or, digits_value, TagValue, number_at, MSG_TYPE, entries_begun, entries_of, group_of, AreSound, Item, items_of, message_items, row_items, IsNumberWithin, IsSound, tag_of, count_fault, counted_fault, entries_fault, fault_at, groups_fault, missing, shape_fault, tags_fault, body_rows, entry_rows, header_rows, Holds, behind, first_value, is_numeral, stands, MsgType, code_of, IncorrectDataFormat, IncorrectNumInGroupCount, Kind, Row, Required, Optional}
 use Rattle.std.proofs.lemmas.Bool.{eqb-true}
-use Rattle.std.specs.List.{AllByRecursion, flat_map}
-use Rattle.std.specs.Option.{option_map, option_map_or, option_or}
-use Rattle.std.specs.Str.Parse.{digits_value}
 use Rattle.std.proofs.lemmas.Grind.{flat_map-append}
-use Rattle.gu_fix.specs.TagValue.{TagValue}
-use Rattle.gu_msgs.specs.Agreement.{number_at}
-use Rattle.gu_fix.specs.declared.tag.TheConstants.{MSG_TYPE}
-use Rattle.gu_msgs.specs.Groups.{entries_begun, entries_of, group_of}
 use Rattle.gu_msgs.specs.Held.{AreHeld, HasGroup, IsWellMade}
-use Rattle.gu_msgs.specs.Items.{AreSound, Item, items_of, message_items, row_items}
-use Rattle.gu_msgs.specs.Kinds.{IsNumberWithin, IsSound}
-use Rattle.gu_msgs.specs.Rows.{tag_of}
-use Rattle.gu_msgs.specs.Shape.{count_fault, counted_fault, entries_fault, fault_at, groups_fault, missing, shape_fault, tags_fault}
-use Rattle.gu_msgs.specs.Tables.{body_rows, entry_rows, header_rows}
-use Rattle.gu_msgs.specs.Values.{Holds, behind, first_value, is_numeral, stands}
-use Rattle.gu_msgs.specs.declared.msg_type.MsgType.{MsgType}
-use Rattle.gu_msgs.specs.MsgTypes.{code_of}
-use Rattle.gu_msgs.specs.declared.reject_reason.SessionRejectReason.TheVariants.{IncorrectDataFormat, IncorrectNumInGroupCount}
-use Rattle.gu_msgs.specs.declared.row.Kind.{Kind}
-use Rattle.gu_msgs.specs.declared.row.Row.{Row}
-use Rattle.gu_msgs.specs.declared.row.Row.TheVariants.{Required, Optional}
 use Rattle.gu_msgs.proofs.ShapeLemmas.{missing-append}
 
 -- ---- a number

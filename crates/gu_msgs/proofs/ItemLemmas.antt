@@ -1,15 +1,6 @@
 -- The first invalid value in consecutive lists.
-use Rattle.std.proofs.Common.{◌≡◌, ◌++◌, ◌+◌, ◌<◌, ℕ, List, [], ◌∷◌, Option, Some, None, MatchOption, refl, append_assoc, add-one, length, drop}
-use Rattle.std.specs.List.{flat_map}
+use Rattle.gu_msgs.proofs.Words.{◌≡◌, ◌++◌, ◌+◌, ◌<◌, ℕ, List, [], ◌∷◌, Option, Some, None, MatchOption, refl, append_assoc, add-one, length, drop, flat_map, TagValue, AreSound, IsFirstAtFault, IsItemAtFault, IsSoundItem, Item, item_of, items_of, tag_of, row_at, Text, Row, Required, Fault}
 use Rattle.std.proofs.Math.Seq.{drop-cons}
-use Rattle.gu_fix.specs.TagValue.{TagValue}
-use Rattle.gu_msgs.specs.Items.{AreSound, IsFirstAtFault, IsItemAtFault, IsSoundItem, Item, item_of, items_of}
-use Rattle.gu_msgs.specs.Rows.{tag_of}
-use Rattle.gu_msgs.specs.Standings.{row_at}
-use Rattle.gu_msgs.specs.declared.row.Kind.TheVariants.{Text}
-use Rattle.gu_msgs.specs.declared.row.Row.{Row}
-use Rattle.gu_msgs.specs.declared.row.Row.TheVariants.{Required}
-use Rattle.gu_msgs.specs.declared.fault.Fault.{Fault}
 
 -- all are sound, or this is the first fault
 abbrev pub HasFirst : List Item → Option Fault → Type 0

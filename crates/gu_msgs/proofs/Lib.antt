@@ -22,3 +22,4 @@ mod Decided
 mod EachSaid
 pub mod OneReport
 mod Midnights
+pub mod Words

@@ -1,14 +1,10 @@
 -- The text of the moment at which a day begins.
-use Rattle.std.proofs.Common.{◌≡◌, ◌*◌, ◌/◌, ◌%◌, ◌≤◌, ◌++◌, ℕ, ℤ, pos, List, codes, refl, sym, ap, ◌∙◌, subst, append_assoc, arith}
-use Rattle.std.specs.Prelude.{◌<ℤ◌, ◌≤ℤ◌, negsuc}
-use Rattle.std.proofs.lemmas.Int.{ints}
-use Rattle.jiff_core.specs.Calendar.{days_from_civil}
+use Rattle.gu_msgs.proofs.Words.{◌≡◌, ◌*◌, ◌/◌, ◌%◌, ◌≤◌, ◌++◌, ℕ, ℤ, pos, List, codes, refl, sym, ap, ◌∙◌, subst, append_assoc, arith, ◌<ℤ◌, ◌≤ℤ◌, negsuc, ints, days_from_civil, IsDay}
 use Rattle.jiff_core.specs.Date.{epoch_day}
 use Rattle.jiff_core.specs.declared.civil.date.Date.{Date}
 use Rattle.jiff_core.proofs.CalendarLemmas.{day_count-lt_year}
 use Rattle.jiff_core.proofs.DateLemmas.{days_from_civil-next_year, epoch_day_injective}
 use Rattle.jiff_core.proofs.SignedLemmas.{signed_arith}
-use Rattle.gu_terms.specs.Days.{IsDay}
 use Rattle.gu_terms.specs.WrittenNumbers.{date_text}
 use Rattle.gu_msgs.specs.Midnight.{from_zero}
 use Rattle.gu_msgs.specs.MomentTexts.{WritesDateAfter, WritesMoment, time_text}

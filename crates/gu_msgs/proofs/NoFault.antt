@@ -1,24 +1,8 @@
 -- A message that is read has no fault.
-use Rattle.std.proofs.Common.{◌≡◌, ◌++◌, inl, inr, ℕ, true, List, [], ◌∷◌, Option, Some, None, MatchOption, sum, ◌==◌, if◌then◌else◌, refl, ap, sym, ◌∙◌}
-use Rattle.gu_fix.specs.TagValue.{TagValue}
-use Rattle.gu_terms.specs.NumberText.{MeansLots}
+use Rattle.gu_msgs.proofs.Words.{◌≡◌, ◌++◌, inl, inr, ℕ, true, List, [], ◌∷◌, Option, Some, None, MatchOption, sum, ◌==◌, if◌then◌else◌, refl, ap, sym, ◌∙◌, TagValue, MeansLots, AddsUp, Agrees, AreLots, Differs, Disagrees, IsFaultless, IsFaultOf, IsFirstFault, IsTypedFault, AreSound, IsFirstAtFault, IsSoundItem, Item, message_items, IsAtFault, IsFormatted, IsSound, IsOfType, IsUnread, Says, code_of, is_type_text, first_value, Fault, Inbound, MsgType, Heartbeat, TestRequest, ResendRequest, Reject, SequenceReset, Logout, Logon, TradeCaptureReport, AllocationInstruction, AllocationReportAck, RequestForPositions, SessionRejectReason, QUANTITY, Kind}
 use Rattle.gu_terms.proofs.NumberLemmas.{lots_meant}
-use Rattle.gu_msgs.specs.Agreement.{AddsUp, Agrees, AreLots, Differs, Disagrees}
-use Rattle.gu_msgs.specs.Faults.{IsFaultless, IsFaultOf, IsFirstFault, IsTypedFault}
-use Rattle.gu_msgs.specs.Items.{AreSound, IsFirstAtFault, IsSoundItem, Item, message_items}
-use Rattle.gu_msgs.specs.Kinds.{IsAtFault, IsFormatted, IsSound}
-use Rattle.gu_msgs.specs.Messages.{IsOfType, IsUnread, Says}
-use Rattle.gu_msgs.specs.MsgTypes.{code_of, is_type_text}
-use Rattle.gu_msgs.specs.Values.{first_value}
-use Rattle.gu_msgs.specs.declared.fault.Fault.{Fault}
-use Rattle.gu_msgs.specs.declared.inbound.Inbound.{Inbound}
 use Rattle.gu_msgs.specs.declared.inbound.Inbound.TheVariants as inbound
-use Rattle.gu_msgs.specs.declared.msg_type.MsgType.{MsgType}
-use Rattle.gu_msgs.specs.declared.msg_type.MsgType.TheVariants.{Heartbeat, TestRequest, ResendRequest, Reject, SequenceReset, Logout, Logon, TradeCaptureReport, AllocationInstruction, AllocationReportAck, RequestForPositions}
-use Rattle.gu_msgs.specs.declared.reject_reason.SessionRejectReason.{SessionRejectReason}
 use Rattle.gu_msgs.specs.declared.reject_reason.SessionRejectReason.TheVariants as reason
-use Rattle.gu_msgs.specs.declared.tags.TheConstants.{QUANTITY}
-use Rattle.gu_msgs.specs.declared.row.Kind.{Kind}
 use Rattle.gu_msgs.specs.declared.type_code.TypeCode.{TypeCode}
 use Rattle.gu_msgs.specs.declared.row.Kind.TheVariants as kind
 

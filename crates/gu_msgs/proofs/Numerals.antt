@@ -1,13 +1,5 @@
 -- Digits, as a property and as a test.
-use Rattle.std.proofs.Common.{◌≡◌, ◌<◌, ◌≤◌, ◌^◌, ℕ, Bool, true, false, List, [], ◌∷◌, IsTrue, ◌↔◌, arith, length, refl, sym, take, nat_lt}
-use Rattle.std.specs.Char.{digit_value}
-use Rattle.std.specs.List.{list_all}
-use Rattle.std.specs.Str.Parse.{AllDigits, digits_value}
-use Rattle.std.proofs.Math.Nat.{pow-le-pow_right}
-use Rattle.std.proofs.lemmas.Bool.{ltb-true, lt-ltb, and_parts}
-use Rattle.std.proofs.lemmas.Int.Digits.{digits_value-lt}
-use Rattle.std.proofs.lemmas.List.{length-take}
-use Rattle.gu_msgs.specs.Values.{is_numeral}
+use Rattle.gu_msgs.proofs.Words.{◌≡◌, ◌<◌, ◌≤◌, ◌^◌, ℕ, Bool, true, false, List, [], ◌∷◌, IsTrue, ◌↔◌, arith, length, refl, sym, take, nat_lt, digit_value, list_all, AllDigits, digits_value, pow-le-pow_right, ltb-true, lt-ltb, and_parts, digits_value-lt, length-take, is_numeral}
 
 -- a byte is a digit
 is_digit : ℕ → Bool

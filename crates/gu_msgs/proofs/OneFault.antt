@@ -1,20 +1,6 @@
 -- Fields have at most one first fault.
-use Rattle.std.proofs.Common.{◌≡◌, ◌++◌, ◌⊎◌, inl, inr, ℕ, false, List, [], ◌∷◌, Option, Some, None, MatchOption, refl, sym, ◌∙◌}
-use Rattle.gu_fix.specs.TagValue.{TagValue}
-use Rattle.gu_fix.specs.declared.tag.TheConstants.{MSG_TYPE}
-use Rattle.gu_msgs.specs.Agreement.{Disagrees}
-use Rattle.gu_msgs.specs.Faults.{IsFaultOf, IsFirstFault, IsTypedFault, untyped_fault}
-use Rattle.gu_msgs.specs.Items.{AreSound, IsFirstAtFault, IsItemAtFault, IsSoundItem, Item, message_items}
-use Rattle.gu_msgs.specs.Kinds.{IsAtFault, IsFormatted}
-use Rattle.gu_msgs.specs.MsgTypes.{code_of, is_type_text}
-use Rattle.gu_msgs.specs.Shape.{fault_at, shape_fault}
-use Rattle.gu_msgs.specs.Values.{first_value}
-use Rattle.gu_msgs.specs.declared.fault.Fault.{Fault}
-use Rattle.gu_msgs.specs.declared.msg_type.MsgType.{MsgType}
-use Rattle.gu_msgs.specs.declared.msg_type.MsgType.TheVariants.{Heartbeat, TestRequest, ResendRequest, Reject, SequenceReset, Logout, Logon, TradeCaptureReport, AllocationInstruction, AllocationReportAck, RequestForPositions}
-use Rattle.gu_msgs.specs.declared.reject_reason.SessionRejectReason.{SessionRejectReason}
+use Rattle.gu_msgs.proofs.Words.{◌≡◌, ◌++◌, ◌⊎◌, inl, inr, ℕ, false, List, [], ◌∷◌, Option, Some, None, MatchOption, refl, sym, ◌∙◌, TagValue, MSG_TYPE, Disagrees, IsFaultOf, IsFirstFault, IsTypedFault, untyped_fault, AreSound, IsFirstAtFault, IsItemAtFault, IsSoundItem, Item, message_items, IsAtFault, IsFormatted, code_of, is_type_text, fault_at, shape_fault, first_value, Fault, MsgType, Heartbeat, TestRequest, ResendRequest, Reject, SequenceReset, Logout, Logon, TradeCaptureReport, AllocationInstruction, AllocationReportAck, RequestForPositions, SessionRejectReason, Kind}
 use Rattle.gu_msgs.specs.declared.reject_reason.SessionRejectReason.TheVariants as reason
-use Rattle.gu_msgs.specs.declared.row.Kind.{Kind}
 use Rattle.gu_msgs.proofs.NoFault.{no_value_fault, not_both_of, one_type, sound_code}
 
 -- two faults with the same tag and reason are the same

@@ -1,19 +1,11 @@
 -- Fields are at most one message.
-use Rattle.std.proofs.Common.{◌≡◌, ℕ, ◌==◌, Bool, true, false, List, [], ◌∷◌, Option, None, Some, MatchOption, refl, sym, ap, ◌∙◌, subst, if◌then◌else◌}
+use Rattle.gu_msgs.proofs.Words.{◌≡◌, ℕ, ◌==◌, Bool, true, false, List, [], ◌∷◌, Option, None, Some, MatchOption, refl, sym, ap, ◌∙◌, subst, if◌then◌else◌, Line, TagValue, MSG_TYPE, entries_of, AreAllocs, IsAlloc, IsFlag, IsInstruction, IsLogon, IsReportAck, IsRequest, IsResendRequest, IsSequenceReset, IsUnread, Says, code_of, first_value, Inbound, MsgType, ALLOC_QTY, GAP_FILL_FLAG, NO_ALLOCS, RESET_SEQ_NUM_FLAG}
 use Rattle.gu_terms.specs.declared.alloc_reject.AllocReject.TheVariants.{BlockLevel, AccountLevel, Intermediary}
-use Rattle.gu_terms.specs.declared.lines.Line.{Line}
-use Rattle.gu_fix.specs.TagValue.{TagValue}
-use Rattle.gu_fix.specs.declared.tag.TheConstants.{MSG_TYPE}
 use Rattle.gu_msgs.specs.AllocStatuses.{status_number}
-use Rattle.gu_msgs.specs.Groups.{entries_of}
-use Rattle.gu_msgs.specs.Messages.{AreAllocs, IsAlloc, IsFlag, IsInstruction, IsLogon, IsReportAck, IsRequest, IsResendRequest, IsSequenceReset, IsUnread, Says}
-use Rattle.gu_msgs.specs.MsgTypes.{code_of}
-use Rattle.gu_msgs.specs.Values.{first_value}
 use Rattle.gu_msgs.specs.declared.alloc_status.AllocStatus.{AllocStatus}
 use Rattle.gu_msgs.specs.declared.alloc_status.AllocStatus.TheVariants.{Accepted, Rejected, AllocationPending, Reversed}
 use Rattle.gu_msgs.specs.declared.inbound.AllocationInstruction.{AllocationInstruction}
 use Rattle.gu_msgs.specs.declared.inbound.AllocationReportAck.{AllocationReportAck}
-use Rattle.gu_msgs.specs.declared.inbound.Inbound.{Inbound}
 use Rattle.gu_msgs.specs.declared.inbound.Inbound.TheVariants as inbound
 use Rattle.gu_msgs.specs.declared.inbound.Logon.{Logon}
 use Rattle.gu_msgs.specs.declared.inbound.RequestForPositions.{RequestForPositions}
@@ -21,9 +13,7 @@ use Rattle.gu_msgs.specs.declared.inbound.ResendRequest.{ResendRequest}
 use Rattle.gu_msgs.specs.declared.inbound.SequenceReset.{SequenceReset}
 use Rattle.gu_msgs.specs.declared.inbound.TestRequest.{TestRequest}
 use Rattle.gu_msgs.specs.declared.inbound.TradeCaptureReport.{TradeCaptureReport}
-use Rattle.gu_msgs.specs.declared.msg_type.MsgType.{MsgType}
 use Rattle.gu_msgs.specs.declared.msg_type.MsgType.TheVariants as kind
-use Rattle.gu_msgs.specs.declared.tags.TheConstants.{ALLOC_QTY, GAP_FILL_FLAG, NO_ALLOCS, RESET_SEQ_NUM_FLAG}
 use Rattle.gu_msgs.specs.declared.type_code.TypeCode.{TypeCode}
 use Rattle.gu_msgs.proofs.NoFault.{one_type}
 use Rattle.gu_msgs.proofs.SaidOnce.{lots_once, one_entry, one_text, same_report}

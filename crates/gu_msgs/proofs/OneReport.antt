@@ -1,8 +1,5 @@
 -- The fields of a report are at most one report, and no other message.
-use Rattle.std.proofs.Common.{◌≡◌, List}
-use Rattle.gu_fix.specs.TagValue.{TagValue}
-use Rattle.gu_msgs.specs.Messages.{Says}
-use Rattle.gu_msgs.specs.declared.inbound.Inbound.{Inbound}
+use Rattle.gu_msgs.proofs.Words.{◌≡◌, List, TagValue, Says, Inbound}
 use Rattle.gu_msgs.specs.declared.inbound.Inbound.TheVariants as inbound
 use Rattle.gu_msgs.specs.declared.inbound.TradeCaptureReport.{TradeCaptureReport}
 use Rattle.gu_msgs.proofs.OneMessage.{one_message}

@@ -1,15 +1,5 @@
 -- If no tag of a table is repeated, each tag has at most one value.
-use Rattle.std.proofs.Common.{◌≡◌, ◌<◌, ◌++◌, ◌==◌, ℕ, Bool, true, false, cond, List, [], ◌∷◌, length, Option, Some, None, is_some, MatchOption, refl, ap, sym, eqb-true}
-use Rattle.std.specs.Option.{option_map}
-use Rattle.gu_fix.specs.TagValue.{TagValue}
-use Rattle.gu_msgs.specs.Rows.{is_listed, tag_of}
-use Rattle.gu_msgs.specs.Shape.{fault_at, groups_fault, is_second, missing, repeated, repeated_after, shape_fault, tags_fault}
-use Rattle.gu_msgs.specs.Standings.{row_at}
-use Rattle.gu_msgs.specs.Tables.{body_rows, outer_rows}
-use Rattle.gu_msgs.specs.Values.{behind, first_value, only_value, stands}
-use Rattle.gu_msgs.specs.declared.msg_type.MsgType.{MsgType}
-use Rattle.gu_msgs.specs.declared.reject_reason.SessionRejectReason.TheVariants.{RequiredTagMissing, TagAppearsMoreThanOnce}
-use Rattle.gu_msgs.specs.declared.row.Row.{Row}
+use Rattle.gu_msgs.proofs.Words.{◌≡◌, ◌<◌, ◌++◌, ◌==◌, ℕ, Bool, true, false, cond, List, [], ◌∷◌, length, Option, Some, None, is_some, MatchOption, refl, ap, sym, eqb-true, option_map, TagValue, is_listed, tag_of, fault_at, groups_fault, is_second, missing, repeated, repeated_after, shape_fault, tags_fault, row_at, body_rows, outer_rows, behind, first_value, only_value, stands, MsgType, RequiredTagMissing, TagAppearsMoreThanOnce, Row}
 use Rattle.gu_msgs.proofs.HeldLemmas.{none_mapped, none_of_either}
 use Rattle.gu_msgs.proofs.StandingLemmas.{listed_at}
 

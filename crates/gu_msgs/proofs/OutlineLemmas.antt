@@ -1,34 +1,10 @@
 -- The values of a message, row by row.
-use Rattle.std.proofs.Common.{◌≡◌, ◌≢◌, ◌<◌, ◌≤◌, ◌+◌, ◌-◌, ◌++◌, ◌&&◌, not, ℕ, zero, suc, Bool, true, false, cond, List, [], ◌∷◌, Option, Some, None, MatchOption, MatchResult, Result, Ok, Err, inl, inr, length, take, drop, slice_get, refl, ap, sym, subst, ◌∙◌, arith, add-one}
+use Rattle.gu_msgs.proofs.Words.{◌≡◌, ◌≢◌, ◌<◌, ◌≤◌, ◌+◌, ◌-◌, ◌++◌, ◌&&◌, not, ℕ, zero, suc, Bool, true, false, cond, List, [], ◌∷◌, Option, Some, None, MatchOption, MatchResult, Result, Ok, Err, inl, inr, length, take, drop, slice_get, refl, ap, sym, subst, ◌∙◌, arith, add-one, append-nil, take-append-drop, flat_map, option_map, digits_value, TagValue, Agrees, IsFirstFault, entries_of, AreSound, IsFirstAtFault, IsItemAtFault, IsSoundItem, Item, item_of, items_of, message_items, row_items, IsAtFault, IsNumberWithin, IsSound, IsOfType, AreJudged, CountsEntries, HasOneEntry, IsRefusedOf, IsShaped, IsTypedRefusal, Outlined, ReadsEntriesOrMemory, ReadsEntry, ReadsTo, ReadsToOrMemory, entries_at, entry_rows_at, row, tag_at, value_at, is_required, kind_of, tag_of, count_fault, counted_fault, entries_fault, fault_at, group_fault, groups_fault, missing, repeated, shape_fault, tags_fault, IsStanding, row_at, value_numbered, body_rows, entry_rows, header_rows, outer_rows, first_value, stands, Fault, MsgType, SessionRejectReason, RequiredTagMissing, TagAppearsMoreThanOnce, Number, Text, Row, Optional, Required}
 use Rattle.std.proofs.lemmas.Grind.{flat_map-append}
-use Rattle.std.proofs.lemmas.List.{append-nil, take-append-drop}
 use Rattle.std.proofs.lemmas.List.Concat.{flat_map-cons}
 use Rattle.std.proofs.Math.Seq.{take-length, take-suc}
-use Rattle.std.specs.List.{flat_map}
-use Rattle.std.specs.Option.{option_map}
-use Rattle.std.specs.Str.Parse.{digits_value}
-use Rattle.gu_fix.specs.TagValue.{TagValue}
-use Rattle.gu_msgs.specs.Agreement.{Agrees}
-use Rattle.gu_msgs.specs.Faults.{IsFirstFault}
-use Rattle.gu_msgs.specs.Groups.{entries_of}
-use Rattle.gu_msgs.specs.Items.{AreSound, IsFirstAtFault, IsItemAtFault, IsSoundItem, Item, item_of, items_of, message_items, row_items}
-use Rattle.gu_msgs.specs.Kinds.{IsAtFault, IsNumberWithin, IsSound}
-use Rattle.gu_msgs.specs.Messages.{IsOfType}
-use Rattle.gu_msgs.specs.Outlines.{AreJudged, CountsEntries, HasOneEntry, IsRefusedOf, IsShaped, IsTypedRefusal, Outlined, ReadsEntriesOrMemory, ReadsEntry, ReadsTo, ReadsToOrMemory, entries_at, entry_rows_at, row, tag_at, value_at}
-use Rattle.gu_msgs.specs.Rows.{is_required, kind_of, tag_of}
-use Rattle.gu_msgs.specs.Shape.{count_fault, counted_fault, entries_fault, fault_at, group_fault, groups_fault, missing, repeated, shape_fault, tags_fault}
-use Rattle.gu_msgs.specs.Standings.{IsStanding, row_at, value_numbered}
-use Rattle.gu_msgs.specs.Tables.{body_rows, entry_rows, header_rows, outer_rows}
-use Rattle.gu_msgs.specs.Values.{first_value, stands}
-use Rattle.gu_msgs.specs.declared.fault.Fault.{Fault}
 use Rattle.gu_msgs.specs.declared.fault.MsgFault.{MsgFault}
 use Rattle.gu_msgs.specs.declared.fault.MsgFault.TheVariants.{Memory, Rejected}
-use Rattle.gu_msgs.specs.declared.msg_type.MsgType.{MsgType}
-use Rattle.gu_msgs.specs.declared.reject_reason.SessionRejectReason.{SessionRejectReason}
-use Rattle.gu_msgs.specs.declared.reject_reason.SessionRejectReason.TheVariants.{RequiredTagMissing, TagAppearsMoreThanOnce}
-use Rattle.gu_msgs.specs.declared.row.Kind.TheVariants.{Number, Text}
-use Rattle.gu_msgs.specs.declared.row.Row.{Row}
-use Rattle.gu_msgs.specs.declared.row.Row.TheVariants.{Optional, Required}
 use Rattle.gu_msgs.proofs.HeldLemmas.{counted, none_mapped, none_of_either}
 use Rattle.gu_msgs.proofs.ItemLemmas.{behind_sound, drop_row, fault_before, fault_in_front, sound-append}
 use Rattle.gu_msgs.proofs.StandingLemmas.{absent_numbered}

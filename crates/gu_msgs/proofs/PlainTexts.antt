@@ -1,26 +1,15 @@
 -- Values that can be encoded: names, ids, numbers, prices, days, moments and texts of refusals.
-use Rattle.std.proofs.Common.{◌≡◌, ℕ, ◌/◌, ◌%◌, ◌^◌, ◌<◌, ◌≤◌, ◌==◌, ◌&&◌, Bool, true, false, cond, List, [], ◌∷◌, ◌++◌, length, codes, pos, ℤ, IsTrue, refl, arith}
-use Rattle.std.specs.Prelude.{int_lt, unsigned_abs}
+use Rattle.gu_msgs.proofs.Words.{◌≡◌, ℕ, ◌/◌, ◌%◌, ◌^◌, ◌<◌, ◌≤◌, ◌==◌, ◌&&◌, Bool, true, false, cond, List, [], ◌∷◌, ◌++◌, length, codes, pos, ℤ, IsTrue, refl, arith, int_lt, unsigned_abs, All, AllByRecursion, AllDigits, digit_value, and_parts, leb-true, le-leb, ne_eqb, ints, length-append, list_any_none, AllPass-from_list_all, has_soh, is_type_byte, is_type_text}
 use Rattle.std.specs.Fmt.{decimal}
-use Rattle.std.specs.List.{All, AllByRecursion}
-use Rattle.std.specs.Str.Parse.{AllDigits}
-use Rattle.std.specs.Char.{digit_value}
-use Rattle.std.proofs.lemmas.Bool.{and_parts, leb-true, le-leb, ne_eqb}
 use Rattle.std.proofs.lemmas.Bool.Decides.{nat_tests}
-use Rattle.std.proofs.lemmas.Int.{ints}
-use Rattle.std.proofs.lemmas.List.{length-append}
 use Rattle.std.proofs.lemmas.List.Elements.{All-append, All-from_recursion, All-weaker}
-use Rattle.std.proofs.lemmas.List.Folds.{list_any_none}
-use Rattle.std.proofs.lemmas.List.Sums.{AllPass-from_list_all}
 use Rattle.std.proofs.lemmas.Fmt.{decimal_is_IsNumeral, length-decimal-le}
 use Rattle.gu_terms.specs.Names.{IsName, IsId, is_name_byte, is_id_byte}
 use Rattle.gu_terms.specs.Numbers.{IsPrice}
 use Rattle.gu_terms.specs.Refusals.{IsRefusalText, is_printed_byte}
 use Rattle.gu_terms.specs.WrittenNumbers.{date_text, fraction_text, price_text, six_digits, trimmed_digits}
 use Rattle.gu_terms.proofs.WrittenLemmas.{length-trimmed}
-use Rattle.gu_fix.specs.Encoding.{has_soh}
 use Rattle.gu_msgs.specs.Encodable.{is_plain}
-use Rattle.gu_msgs.specs.MsgTypes.{is_type_byte, is_type_text}
 use Rattle.gu_msgs.specs.TestReqIds.{IsTestReqId}
 use Rattle.gu_msgs.specs.MomentTexts.{WritesMoment, time_text}
 

@@ -1,7 +1,5 @@
 -- Consecutive fields, taken from the front.
-use Rattle.std.proofs.Common.{◌≡◌, ◌<◌, ◌≤◌, ◌+◌, ◌-◌, ℕ, zero, suc, sym, List, [], ◌∷◌, Some, length, take, drop, slice_get, refl, ap, ◌∙◌, arith, add-one}
-use Rattle.std.proofs.lemmas.List.{drop-drop, drop-take, length-drop, length-take}
-use Rattle.gu_fix.specs.TagValue.{TagValue}
+use Rattle.gu_msgs.proofs.Words.{◌≡◌, ◌<◌, ◌≤◌, ◌+◌, ◌-◌, ℕ, zero, suc, sym, List, [], ◌∷◌, Some, length, take, drop, slice_get, refl, ap, ◌∙◌, arith, add-one, drop-drop, drop-take, length-drop, length-take, TagValue}
 use Rattle.gu_msgs.specs.Runs.{IsBetween, fields_between}
 
 -- the field at an index is the first of those from there on

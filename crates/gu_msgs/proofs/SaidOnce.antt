@@ -1,19 +1,9 @@
 -- Fields have at most one value for each content: texts, numbers, days, sides, and so reports.
-use Rattle.std.proofs.Common.{◌≡◌, ℕ, ◌/◌, ◌^◌, zero, suc, ◌<◌, List, [], ◌∷◌, length, Option, None, Some, refl, sym, ap, ◌∙◌, subst, arith}
-use Rattle.std.specs.Prelude.{ℤ, pos}
+use Rattle.gu_msgs.proofs.Words.{◌≡◌, ℕ, ◌/◌, ◌^◌, zero, suc, ◌<◌, List, [], ◌∷◌, length, Option, None, Some, refl, sym, ap, ◌∙◌, subst, arith, ℤ, pos, mul-div_cancel, pow-succ', IsDay, WritesDay, Means, MeansLots, MeansPrice, with_sign, fraction_digits, Day, Side, Buy, Sell, TagValue, GivesDay, IsReport, IsSide, side_number, Holds, first_value}
 use lib.Dec.{T_prop}
 use Rattle.std.specs.Coded.{le_prop}
-use Rattle.std.proofs.Math.Nat.{mul-div_cancel, pow-succ'}
-use Rattle.gu_terms.specs.Days.{IsDay, WritesDay}
-use Rattle.gu_terms.specs.NumberText.{Means, MeansLots, MeansPrice, with_sign, fraction_digits}
-use Rattle.gu_terms.specs.declared.day.Day.{Day}
 use Rattle.gu_terms.specs.declared.lots.Lots.{Lots}
 use Rattle.gu_terms.specs.declared.price.Price.{Price}
-use Rattle.gu_terms.specs.declared.side.Side.{Side}
-use Rattle.gu_terms.specs.declared.side.Side.TheVariants.{Buy, Sell}
-use Rattle.gu_fix.specs.TagValue.{TagValue}
-use Rattle.gu_msgs.specs.Messages.{GivesDay, IsReport, IsSide, side_number}
-use Rattle.gu_msgs.specs.Values.{Holds, first_value}
 use Rattle.gu_msgs.specs.declared.inbound.TradeCaptureReport.{TradeCaptureReport}
 
 -- a value that is present is unique

@@ -1,10 +1,5 @@
 -- The repeated tag reported is that of the leftmost field that repeats one.
-use Rattle.std.proofs.Common.{◌≡◌, ◌<◌, ◌≤◌, ℕ, zero, suc, Bool, true, false, cond, List, [], ◌∷◌, ◌++◌, length, slice_get, Option, None, Some, MatchOption, refl, subst, append_assoc, inl, inr, arith}
-use Rattle.std.proofs.lemmas.Bool.{cases_order}
-use Rattle.std.proofs.lemmas.List.{length-append, take_at}
-use Rattle.gu_fix.specs.TagValue.{TagValue}
-use Rattle.gu_msgs.specs.Shape.{StandsAgain, StandsAgainFirst, is_second, repeated, repeated_after}
-use Rattle.gu_msgs.specs.declared.row.Row.{Row}
+use Rattle.gu_msgs.proofs.Words.{◌≡◌, ◌<◌, ◌≤◌, ℕ, zero, suc, Bool, true, false, cond, List, [], ◌∷◌, ◌++◌, length, slice_get, Option, None, Some, MatchOption, refl, subst, append_assoc, inl, inr, arith, cases_order, length-append, take_at, TagValue, StandsAgain, StandsAgainFirst, is_second, repeated, repeated_after, Row}
 
 -- the field after others
 pub field_after : (before : List TagValue) (f : TagValue) (fs : List TagValue) → slice_get (before ++ f ∷ fs) (length before) ≡ Some f

@@ -1,12 +1,5 @@
 -- Repeated tags, and missing tags.
-use Rattle.std.proofs.Common.{◌≡◌, ◌++◌, ◌&&◌, ◌+◌, not, ℕ, Bool, true, false, cond, List, [], ◌∷◌, Some, refl, length, take, ap, sym, ◌∙◌, append_assoc, arith}
-use Rattle.std.proofs.lemmas.List.{length-append, take_at}
-use Rattle.std.specs.Option.{option_or}
-use Rattle.gu_fix.specs.TagValue.{TagValue}
-use Rattle.gu_msgs.specs.Rows.{tag_of, is_required}
-use Rattle.gu_msgs.specs.Shape.{is_second, missing, repeated_after}
-use Rattle.gu_msgs.specs.Values.{stands}
-use Rattle.gu_msgs.specs.declared.row.Row.{Row}
+use Rattle.gu_msgs.proofs.Words.{◌≡◌, ◌++◌, ◌&&◌, ◌+◌, not, ℕ, Bool, true, false, cond, List, [], ◌∷◌, Some, refl, length, take, ap, sym, ◌∙◌, append_assoc, arith, length-append, take_at, option_or, TagValue, tag_of, is_required, is_second, missing, repeated_after, stands, Row}
 
 -- the first missing tag of two tables
 pub missing-append : (rows others : List Row) (fields : List TagValue) → missing (rows ++ others) fields ≡ option_or (missing rows fields) (missing others fields)

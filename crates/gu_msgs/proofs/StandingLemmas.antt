@@ -1,18 +1,6 @@
 -- Numbers of the first fields with each tag, in a pass over fields.
-use Rattle.std.proofs.Common.{◌≡◌, ◌≢◌, ◌<◌, ◌≤◌, ◌+◌, ◌++◌, ◌&&◌, ◌==◌, not, ℕ, zero, suc, Bool, true, false, cond, List, [], ◌∷◌, Option, Some, None, is_some, length, set, take, drop, slice_get, slice_index, refl, ap, sym, subst, ◌∙◌, arith, add-one, inl, inr, eq-eqb}
-use Rattle.std.proofs.lemmas.Bool.{cases_eq, ne_eqb}
-use Rattle.std.proofs.lemmas.List.{get_or-set_same, get_or-set_other, length-append, length-take-le, drop-append-le}
+use Rattle.gu_msgs.proofs.Words.{◌≡◌, ◌≢◌, ◌<◌, ◌≤◌, ◌+◌, ◌++◌, ◌&&◌, ◌==◌, not, ℕ, zero, suc, Bool, true, false, cond, List, [], ◌∷◌, Option, Some, None, is_some, length, set, take, drop, slice_get, slice_index, refl, ap, sym, subst, ◌∙◌, arith, add-one, inl, inr, eq-eqb, cases_eq, ne_eqb, get_or-set_same, get_or-set_other, length-append, length-take-le, drop-append-le, list_any_at, option_map, option_or, TagValue, is_listed, is_required, tag_of, is_second, missing, repeated, repeated_after, AreDistinct, AreStandings, IsRowOf, IsStanding, Notes, fields_after, row_at, value_numbered, behind, first_value, stands, Text, Row, Required}
 use Rattle.std.proofs.Math.ListN.{drop_of_length-le}
-use Rattle.std.proofs.lemmas.List.Folds.{list_any_at}
-use Rattle.std.specs.Option.{option_map, option_or}
-use Rattle.gu_fix.specs.TagValue.{TagValue}
-use Rattle.gu_msgs.specs.Rows.{is_listed, is_required, tag_of}
-use Rattle.gu_msgs.specs.Shape.{is_second, missing, repeated, repeated_after}
-use Rattle.gu_msgs.specs.Standings.{AreDistinct, AreStandings, IsRowOf, IsStanding, Notes, fields_after, row_at, value_numbered}
-use Rattle.gu_msgs.specs.Values.{behind, first_value, stands}
-use Rattle.gu_msgs.specs.declared.row.Kind.TheVariants.{Text}
-use Rattle.gu_msgs.specs.declared.row.Row.{Row}
-use Rattle.gu_msgs.specs.declared.row.Row.TheVariants.{Required}
 use Rattle.gu_msgs.proofs.ItemLemmas.{drop_row}
 use Rattle.gu_msgs.proofs.SecondStandings.{field_after}
 use Rattle.gu_msgs.proofs.ShapeLemmas.{IsWalked, taken_on, walked_on}

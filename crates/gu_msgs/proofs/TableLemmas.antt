@@ -1,16 +1,5 @@
 -- Tables in which no tag has two rows.
-use Rattle.std.proofs.Common.{◌≡◌, ◌<◌, ◌≤◌, ◌&&◌, ◌==◌, not, ℕ, zero, suc, Bool, true, false, cond, List, [], ◌∷◌, length, refl, ap, sym, arith, eq-eqb}
-use Rattle.std.specs.List.{list_any}
-use Rattle.std.proofs.lemmas.List.Folds.{list_any_at}
-use Rattle.gu_msgs.specs.Rows.{tag_of}
-use Rattle.gu_msgs.specs.Standings.{AreDistinct, IsTable, row_at}
-use Rattle.gu_msgs.specs.Tables.{body_rows, entry_rows, header_rows, outer_rows}
-use Rattle.gu_msgs.specs.declared.msg_type.MsgType.{MsgType}
-use Rattle.gu_msgs.specs.declared.msg_type.MsgType.TheVariants.{Heartbeat, TestRequest, ResendRequest, Reject, SequenceReset, Logout, Logon, TradeCaptureReport, AllocationInstruction, AllocationReportAck, RequestForPositions}
-use Rattle.gu_msgs.specs.declared.row.Kind.TheVariants.{Text}
-use Rattle.gu_msgs.specs.declared.row.Row.{Row}
-use Rattle.gu_msgs.specs.declared.row.Row.TheVariants.{Required}
-use Rattle.gu_msgs.specs.declared.tags.TheConstants.{NO_ALLOCS, NO_EXECS, NO_SIDES}
+use Rattle.gu_msgs.proofs.Words.{◌≡◌, ◌<◌, ◌≤◌, ◌&&◌, ◌==◌, not, ℕ, zero, suc, Bool, true, false, cond, List, [], ◌∷◌, length, refl, ap, sym, arith, eq-eqb, list_any, list_any_at, tag_of, AreDistinct, IsTable, row_at, body_rows, entry_rows, header_rows, outer_rows, MsgType, Heartbeat, TestRequest, ResendRequest, Reject, SequenceReset, Logout, Logon, TradeCaptureReport, AllocationInstruction, AllocationReportAck, RequestForPositions, Text, Row, Required, NO_ALLOCS, NO_EXECS, NO_SIDES}
 
 -- no row has the tag of a later one
 abbrev differ : List Row → Bool

@@ -1,26 +1,9 @@
 -- Lots added to a stored row, and lots taken from one.
-use Rattle.std.proofs.Common.{◌≡◌, ◌∙◌, sym, refl, ap, subst, ℕ, ◌+◌, ◌-◌, ◌<◌, ◌≤◌, ◌^◌, Bool, true, false, ◌&&◌, Some, unwrap_or, arith, if◌then◌else◌}
+use Rattle.gu_positions.proofs.Words.{◌≡◌, ◌∙◌, sym, refl, ap, subst, ℕ, ◌+◌, ◌-◌, ◌<◌, ◌≤◌, ◌^◌, Bool, true, false, ◌&&◌, Some, unwrap_or, arith, if◌then◌else◌, option_map_or, get, Updates, AccountId, Side, Buy, Sell, Symbol, same_side, same_symbol, StandsAt, Holding, Place, Inside, less_in, more_in, with_less, with_more, held, less, more, IsKept, KeepsPlaces, place_of, row_of, rows_of, same_key, is_numbered, Row, lots_in, lots_on, open_interest_in, same_symbol-true}
 use Rattle.std.specs.Map.{set_value}
-use Rattle.std.specs.Option.{option_map_or}
-use Rattle.indexmap.specs.IndexMap.{get, Updates}
-use Rattle.gu_terms.specs.declared.account.AccountId.{AccountId}
-use Rattle.gu_terms.specs.declared.side.Side.{Side}
-use Rattle.gu_terms.specs.declared.side.Side.TheVariants.{Buy, Sell}
-use Rattle.gu_terms.specs.declared.symbol.Symbol.{Symbol}
-use Rattle.gu_terms.specs.Same.{same_side, same_symbol}
-use Rattle.gu_terms.specs.Standing.{StandsAt}
-use Rattle.gu_positions.specs.declared.holding.Holding.{Holding}
-use Rattle.gu_positions.specs.declared.positions.Place.{Place}
-use Rattle.gu_positions.specs.declared.positions.Positions.TheInside.{Inside}
-use Rattle.gu_positions.specs.Changes.{less_in, more_in, with_less, with_more}
-use Rattle.gu_positions.specs.Holdings.{held, less, more}
-use Rattle.gu_positions.specs.Kept.{IsKept, KeepsPlaces, place_of, row_of, rows_of, same_key}
-use Rattle.gu_positions.specs.Numbers.{is_numbered}
-use Rattle.gu_positions.specs.Rows.{Row, lots_in, lots_on, open_interest_in}
 use Rattle.gu_positions.proofs.Changed.{changed, lots_in-within, lots_on-with_less, lots_on-with_more, open_interest-within}
 use Rattle.gu_positions.proofs.KeptLots.{excess-within_interest, interest-own, kept-changed, lots_in-lookup}
 use Rattle.gu_positions.proofs.RowNumbers.{has_row-numbered}
-use Rattle.gu_terms.proofs.SameNames.{same_symbol-true}
 use Rattle.gu_terms.proofs.SameValues.{both}
 
 -- a stored row with more lots is the row with more, and its instrument's open interest keeps its index

@@ -1,17 +1,7 @@
 -- Rows after the one for an account and instrument is changed: their lots, and what they keep.
-use Rattle.std.proofs.Common.{◌≡◌, ◌∙◌, sym, refl, ap, subst, ℕ, ◌+◌, ◌-◌, ◌≤◌, Bool, true, false, cond, ◌&&◌, ◌||◌, List, [], ◌∷◌, map, Option, Some, None, arith, if◌then◌else◌}
-use Rattle.std.specs.List.{AllByRecursion, IsDistinct, find, list_any, sum_by}
-use Rattle.std.specs.Option.{option_map_or}
+use Rattle.gu_positions.proofs.Words.{◌≡◌, ◌∙◌, sym, refl, ap, subst, ℕ, ◌+◌, ◌-◌, ◌≤◌, Bool, true, false, cond, ◌&&◌, ◌||◌, List, [], ◌∷◌, map, Option, Some, None, arith, if◌then◌else◌, AllByRecursion, IsDistinct, find, list_any, sum_by, option_map_or, AccountId, Side, Buy, Sell, Symbol, same_side, same_symbol, less_in, lots_at, lots_at_side, more_in, same_place, with_less, with_more, Row, has_row, is_of, lots_in, lots_of, lots_on, open_interest_in, same_row, same_symbol-own}
 use Rattle.std.proofs.lemmas.List.Sums.{sum_by-cons}
-use Rattle.gu_terms.specs.declared.account.AccountId.{AccountId}
-use Rattle.gu_terms.specs.declared.side.Side.{Side}
-use Rattle.gu_terms.specs.declared.side.Side.TheVariants.{Buy, Sell}
-use Rattle.gu_terms.specs.declared.symbol.Symbol.{Symbol}
-use Rattle.gu_terms.specs.Same.{same_side, same_symbol}
-use Rattle.gu_positions.specs.Changes.{less_in, lots_at, lots_at_side, more_in, same_place, with_less, with_more}
-use Rattle.gu_positions.specs.Rows.{Row, has_row, is_of, lots_in, lots_of, lots_on, open_interest_in, same_row}
 use Rattle.gu_positions.proofs.Places.{same_place-true, same_place-own}
-use Rattle.gu_terms.proofs.SameNames.{same_symbol-own}
 
 -- the first element that passes a test passes it
 pub find-passes : {X : Type 0} (test : X → Bool) (xs : List X) (x : X) → find test xs ≡ Some x → test x ≡ true

@@ -1,24 +1,8 @@
 -- The rows as stored: look-ups by account and instrument, writes, and the open interests beside them.
-use Rattle.std.proofs.Common.{◌≡◌, ◌∙◌, sym, refl, ap, subst, ℕ, ◌+◌, ◌-◌, ◌<◌, ◌≤◌, ◌^◌, Bool, true, false, cond, ◌||◌, List, [], ◌∷◌, map, Option, None, Some, is_some, unwrap_or, arith, if◌then◌else◌}
-use Rattle.std.specs.List.{IsDistinct, find}
+use Rattle.gu_positions.proofs.Words.{◌≡◌, ◌∙◌, sym, refl, ap, subst, ℕ, ◌+◌, ◌-◌, ◌<◌, ◌≤◌, ◌^◌, Bool, true, false, cond, ◌||◌, List, [], ◌∷◌, map, Option, None, Some, is_some, unwrap_or, arith, if◌then◌else◌, IsDistinct, find, option_map_or, get, Updates, AccountId, Side, Buy, Sell, Symbol, same_symbol, StandsAt, Holding, Place, Inside, held, IsKept, KeepsPlaces, place_of, row_of, rows_of, same_key, Row, has_row, is_of, lots_in, lots_of, lots_on, open_interest_in, same_row, same_symbol-own, same_symbol-true}
 use Rattle.std.specs.Map.{lookup, set_value}
-use Rattle.std.specs.Option.{option_map_or}
-use Rattle.indexmap.specs.IndexMap.{get, Updates}
-use Rattle.gu_terms.specs.declared.account.AccountId.{AccountId}
-use Rattle.gu_terms.specs.declared.side.Side.{Side}
-use Rattle.gu_terms.specs.declared.side.Side.TheVariants.{Buy, Sell}
-use Rattle.gu_terms.specs.declared.symbol.Symbol.{Symbol}
-use Rattle.gu_terms.specs.Same.{same_symbol}
-use Rattle.gu_terms.specs.Standing.{StandsAt}
-use Rattle.gu_positions.specs.declared.holding.Holding.{Holding}
-use Rattle.gu_positions.specs.declared.positions.Place.{Place}
-use Rattle.gu_positions.specs.declared.positions.Positions.TheInside.{Inside}
-use Rattle.gu_positions.specs.Holdings.{held}
-use Rattle.gu_positions.specs.Kept.{IsKept, KeepsPlaces, place_of, row_of, rows_of, same_key}
-use Rattle.gu_positions.specs.Rows.{Row, has_row, is_of, lots_in, lots_of, lots_on, open_interest_in, same_row}
 use Rattle.gu_positions.proofs.Changed.{changed, distinct-changed, find-passes, found-among, found_within_sum, open_interest-changed, rest_unchanged}
 use Rattle.gu_positions.proofs.Places.{same_place-true}
-use Rattle.gu_terms.proofs.SameNames.{same_symbol-own, same_symbol-true}
 
 lots_of-row_of : (t : Side) (k : Place) (h : Holding) → lots_of t (row_of (k, h)) ≡ held t h
 lots_of-row_of Buy k h = refl

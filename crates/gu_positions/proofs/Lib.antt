@@ -4,3 +4,4 @@ pub mod KeptLots
 pub mod OneRowMore
 pub mod Places
 pub mod RowNumbers
+pub mod Words

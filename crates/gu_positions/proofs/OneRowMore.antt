@@ -1,23 +1,8 @@
 -- A new empty row goes last, and changes no answer.
-use Rattle.std.proofs.Common.{◌≡◌, ◌∙◌, sym, refl, ap, subst, ℕ, ◌-◌, ◌<◌, ◌^◌, Bool, true, false, cond, ◌||◌, List, [], ◌∷◌, ◌++◌, map, Option, Some, None, is_some, unwrap_or, arith, if◌then◌else◌}
-use Rattle.std.specs.List.{AllByRecursion, IsDistinct, find, sum_by}
-use Rattle.std.specs.Option.{option_map_or}
+use Rattle.gu_positions.proofs.Words.{◌≡◌, ◌∙◌, sym, refl, ap, subst, ℕ, ◌-◌, ◌<◌, ◌^◌, Bool, true, false, cond, ◌||◌, List, [], ◌∷◌, ◌++◌, map, Option, Some, None, is_some, unwrap_or, arith, if◌then◌else◌, AllByRecursion, IsDistinct, find, sum_by, option_map_or, get, insert_entry, Updates, insert_entry-new, AccountId, Side, Buy, Sell, Symbol, same_symbol, StandsAt, Inside, KeepsLots, empty_row, same_place, nothing_at, IsKept, KeepsPlaces, place_of, row_of, rows_of, same_key, Row, has_row, is_of, lots_in, lots_of, lots_on, open_interest_in, same_row}
 use Rattle.std.proofs.lemmas.List.{map-append}
 use Rattle.std.proofs.lemmas.List.Folds.{list_any-append}
 use Rattle.std.proofs.lemmas.List.Sums.{sum_by-append, sum_by-cons}
-use Rattle.indexmap.specs.IndexMap.{get, insert_entry, Updates}
-use Rattle.indexmap.proofs.CallerLemmas.{insert_entry-new}
-use Rattle.gu_terms.specs.declared.account.AccountId.{AccountId}
-use Rattle.gu_terms.specs.declared.side.Side.{Side}
-use Rattle.gu_terms.specs.declared.side.Side.TheVariants.{Buy, Sell}
-use Rattle.gu_terms.specs.declared.symbol.Symbol.{Symbol}
-use Rattle.gu_terms.specs.Same.{same_symbol}
-use Rattle.gu_terms.specs.Standing.{StandsAt}
-use Rattle.gu_positions.specs.declared.positions.Positions.TheInside.{Inside}
-use Rattle.gu_positions.specs.Changes.{KeepsLots, empty_row, same_place}
-use Rattle.gu_positions.specs.Holdings.{nothing_at}
-use Rattle.gu_positions.specs.Kept.{IsKept, KeepsPlaces, place_of, row_of, rows_of, same_key}
-use Rattle.gu_positions.specs.Rows.{Row, has_row, is_of, lots_in, lots_of, lots_on, open_interest_in, same_row}
 use Rattle.gu_positions.proofs.KeptLots.{has_row-lookup, places-updated}
 use Rattle.gu_positions.proofs.Places.{same_place-sym, same_place-true}
 

@@ -1,15 +1,8 @@
 -- Two places are equal if their names are the same.
-use Rattle.std.proofs.Common.{◌≡◌, ◌&&◌, ap, refl, true}
+use Rattle.gu_positions.proofs.Words.{◌≡◌, ◌&&◌, ap, refl, true, same_account-own, same_account-true, same_symbol-own, same_symbol-true, AccountId, Symbol, same_account, same_symbol, same_place, same_key, Place}
 use Rattle.std.specs.Cmp.{IsEquivalence}
 use Rattle.std.proofs.lemmas.Cmp.{nat_list_eq_equiv}
 use Rattle.gu_terms.proofs.SameValues.{both}
-use Rattle.gu_terms.proofs.SameNames.{same_account-own, same_account-true, same_symbol-own, same_symbol-true}
-use Rattle.gu_terms.specs.declared.account.AccountId.{AccountId}
-use Rattle.gu_terms.specs.declared.symbol.Symbol.{Symbol}
-use Rattle.gu_terms.specs.Same.{same_account, same_symbol}
-use Rattle.gu_positions.specs.Changes.{same_place}
-use Rattle.gu_positions.specs.Kept.{same_key}
-use Rattle.gu_positions.specs.declared.positions.Place.{Place}
 
 -- places with the same names are equal
 pub same_place-true : (a : AccountId) (s : Symbol) (b : AccountId) (t : Symbol) → same_place a s b t ≡ true → (a ≡ b) × (s ≡ t)

@@ -1,17 +1,7 @@
 -- Row numbers: what is stored at one, and that rows keep theirs. The entries of a table keep their indexes too.
-use Rattle.std.proofs.Common.{◌≡◌, ◌∙◌, sym, refl, ap, get_or, ℕ, zero, suc, Bool, true, false, ◌||◌, List, [], ◌∷◌, ◌++◌, map, length, Option, Some, None, slice_get}
-use Rattle.std.specs.Option.{option_map, option_map_or}
+use Rattle.gu_positions.proofs.Words.{◌≡◌, ◌∙◌, sym, refl, ap, get_or, ℕ, zero, suc, Bool, true, false, ◌||◌, List, [], ◌∷◌, ◌++◌, map, length, Option, Some, None, slice_get, option_map, option_map_or, set_value_at, StandsAt, AccountId, Symbol, Holding, Place, place_of, row_of, IsMade, IsRowOf, account_at, is_numbered, symbol_at, Row, has_row, is_of}
 use Rattle.std.proofs.lemmas.Option.{slice_get-get_or, slice_get-map, slice_get_within}
-use Rattle.indexmap.specs.IndexMap.{set_value_at}
-use Rattle.gu_terms.specs.Standing.{StandsAt}
-use Rattle.gu_terms.specs.declared.account.AccountId.{AccountId}
-use Rattle.gu_terms.specs.declared.symbol.Symbol.{Symbol}
-use Rattle.gu_positions.specs.declared.holding.Holding.{Holding}
-use Rattle.gu_positions.specs.declared.positions.Place.{Place}
-use Rattle.gu_positions.specs.Kept.{place_of, row_of}
-use Rattle.gu_positions.specs.Numbers.{IsMade, IsRowOf, account_at, is_numbered, symbol_at}
 use Rattle.gu_positions.specs.declared.row_no.RowNo.{RowNo}
-use Rattle.gu_positions.specs.Rows.{Row, has_row, is_of}
 use Rattle.gu_positions.proofs.Changed.{changed, is_of-changed}
 use Rattle.gu_positions.proofs.Places.{same_key-true, same_place-own, same_place-true}
 

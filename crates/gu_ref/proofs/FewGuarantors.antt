@@ -1,16 +1,7 @@
 -- Guaranteed firms are declared firms, each once: so there are no more guarantors than firms.
-use Rattle.std.proofs.Common.{◌≡◌, ◌∙◌, refl, Bool, true, false, ◌&&◌, ◌||◌, suc, ◌≤◌, List, [], ◌∷◌, map, length, arith}
-use Rattle.std.specs.List.{AllByRecursion, AllPass, IsDistinct, list_any}
-use Rattle.std.proofs.lemmas.List.{length-map}
+use Rattle.gu_ref.proofs.Words.{◌≡◌, ◌∙◌, refl, Bool, true, false, ◌&&◌, ◌||◌, suc, ◌≤◌, List, [], ◌∷◌, map, length, arith, AllByRecursion, AllPass, IsDistinct, list_any, length-map, FirmId, Guarantor, is_known, has_firm, Tables, same_firm, by_name}
 use Rattle.std.proofs.lemmas.Map.Made.{length-le_from_is_member}
-use Rattle.gu_terms.specs.declared.firm.FirmId.{FirmId}
-use Rattle.gu_ref.specs.declared.guarantors.Guarantor.{Guarantor}
 use Rattle.gu_ref.specs.declared.row.Row.TheVariants as row
-use Rattle.gu_ref.specs.Accepted.{is_known}
-use Rattle.gu_ref.specs.Listed.{has_firm}
-use Rattle.gu_ref.specs.Tables.{Tables}
-use Rattle.gu_terms.specs.Same.{same_firm}
-use Rattle.gu_terms.proofs.Found.{by_name}
 
 -- rows with distinct names give a list of distinct names
 distinct-map : {X K : Type 0} (same : K → K → Bool) (name : X → K) (rows : List X) → IsDistinct (λ a b. same (name a) (name b)) rows → IsDistinct same (map name rows)

@@ -1,18 +1,10 @@
 -- A file with one more record: its faults, and the reference that it makes.
-use Rattle.std.proofs.Common.{◌≡◌, ◌∙◌, refl, ap, ◌⊎◌, inl, inr, ℕ, zero, suc, ◌<◌, ◌≤◌, ◌+◌, List, [], ◌∷◌, ◌++◌, length, slice_get, Option, None, Some, arith, length-append}
-use Rattle.std.specs.List.{filter_map, cons_option}
-use Rattle.std.proofs.lemmas.List.{take-append-le, append-nil}
+use Rattle.gu_ref.proofs.Words.{◌≡◌, ◌∙◌, refl, ap, ◌⊎◌, inl, inr, ℕ, zero, suc, ◌<◌, ◌≤◌, ◌+◌, List, [], ◌∷◌, ◌++◌, length, slice_get, Option, None, Some, arith, length-append, filter_map, cons_option, take-append-le, append-nil, Row, record_fault, AreAccepted, fault_at, with_row, with_said, with_record, reference_of, tables_of, row_of}
 use Rattle.std.proofs.lemmas.List.Elements.{filter_map-append}
 use Rattle.std.proofs.lemmas.Option.{slice_get_past}
 use Rattle.std.proofs.lemmas.Bool.{cases_order}
 use Rattle.std.proofs.Math.Seq.{take-append_seam}
-use Rattle.gu_ref.specs.declared.row.Row.{Row}
 use Rattle.gu_ref.specs.declared.row.Row.TheVariants as row
-use Rattle.gu_ref.specs.Accepted.{record_fault}
-use Rattle.gu_ref.specs.File.{AreAccepted, fault_at}
-use Rattle.gu_ref.specs.Growth.{with_row, with_said, with_record}
-use Rattle.gu_ref.specs.Made.{reference_of, tables_of}
-use Rattle.gu_ref.specs.Rows.{row_of}
 
 get-left : {X : Type 0} (xs ys : List X) (place : ℕ) → place < length xs → slice_get (xs ++ ys) place ≡ slice_get xs place
 get-left [] ys place h = absurd (omega arith)

@@ -1,27 +1,14 @@
 -- A row without a fault keeps the rules of a reference.
-use Rattle.std.proofs.Common.{◌≡◌, ◌∙◌, sym, refl, Bool, true, false, not, cond, is_some, ◌&&◌, ◌||◌, ℕ, zero, suc, ◌≤◌, nat_le, List, [], ◌∷◌, ◌++◌, length, slice_index_or, subst, Option, None, Some, if◌then◌else◌, arith, rules, length-append}
-use Rattle.std.specs.List.{find, list_any, All, AllPass, IsDistinct}
-use Rattle.std.specs.Option.{option_map}
+use Rattle.gu_ref.proofs.Words.{◌≡◌, ◌∙◌, sym, refl, Bool, true, false, not, cond, is_some, ◌&&◌, ◌||◌, ℕ, zero, suc, ◌≤◌, nat_le, List, [], ◌∷◌, ◌++◌, length, slice_index_or, subst, Option, None, Some, if◌then◌else◌, arith, rules, length-append, find, list_any, All, AllPass, IsDistinct, option_map, FirmId, Agreement, Guarantor, Row, is_known, is_own, is_twice, is_full, row_fault, with_row, Passes, is_between, agreement_for, guarantor_for, has_names, same_firm, same_group, same_account, same_agreement, Tables, distinct-push, is_some-find}
 use Rattle.std.proofs.lemmas.List.Elements.{All-append}
 use Rattle.std.proofs.lemmas.List.Folds.{list_any-append}
-use Rattle.gu_terms.specs.declared.firm.FirmId.{FirmId}
 use Rattle.gu_terms.specs.declared.group.Group.{Group}
 use Rattle.gu_ref.specs.declared.instruments.Instrument.{Instrument}
 use Rattle.gu_ref.specs.declared.accounts.Account.{Account}
-use Rattle.gu_ref.specs.declared.agreements.Agreement.{Agreement}
-use Rattle.gu_ref.specs.declared.guarantors.Guarantor.{Guarantor}
-use Rattle.gu_ref.specs.declared.row.Row.{Row}
 use Rattle.gu_ref.specs.declared.row.Row.TheVariants as row
-use Rattle.gu_ref.specs.Accepted.{is_known, is_own, is_twice, is_full, row_fault}
 use Rattle.gu_ref.specs.Reference.{is_firm, account_row, agreement_row}
-use Rattle.gu_ref.specs.Growth.{with_row, Passes}
-use Rattle.gu_ref.specs.Listed.{is_between, agreement_for, guarantor_for}
-use Rattle.gu_ref.specs.Rows.{has_names}
 use Rattle.gu_ref.specs.Rules.{AreNamed, IsSound, IsOnce, IsWithinLimits, same_pair}
-use Rattle.gu_terms.specs.Same.{same_firm, same_group, same_account, same_agreement}
-use Rattle.gu_ref.specs.Tables.{Tables}
 use Rattle.gu_ref.proofs.FewGuarantors.{few_guarantors}
-use Rattle.gu_terms.proofs.Found.{distinct-push, is_some-find}
 
 tests : {F : Type 0} (p q r s : Bool) (a b c d : F)
     → (if not p then Some a else if q then Some b else if r then Some c else if s then Some d else None) ≡ None

@@ -1,15 +1,7 @@
 -- An agreement is added under its name and its pair, or nothing is.
-use Rattle.std.proofs.Common.{◌≡◌, ◌∙◌, sym, ap, ◌&&◌, List, [], ◌∷◌, ◌++◌, map, None, Result, Ok, Err, OnOk, OnErr, Bool, if◌then◌else◌}
-use Rattle.std.specs.Result.{is_ok}
-use Rattle.indexmap.specs.IndexMap.{values, insert_entry}
-use Rattle.std.specs.Map.{keys_of, values_of}
-use Rattle.gu_ref.specs.declared.agreements.Agreement.{Agreement}
+use Rattle.gu_ref.proofs.Words.{◌≡◌, ◌∙◌, sym, ap, ◌&&◌, List, [], ◌∷◌, ◌++◌, map, None, Result, Ok, Err, OnOk, OnErr, Bool, if◌then◌else◌, is_ok, values, insert_entry, keys_of, values_of, Agreement, IsKept, pair_of, agreement_in, agreement_for, same_agreement, same_firm, same_account, by_name, by_names}
 use Rattle.gu_ref.specs.declared.agreements.Agreements.TheInside.{Inside}
 use Rattle.gu_ref.specs.declared.agreements.Pair.{Pair}
-use Rattle.gu_ref.specs.Kept.{IsKept, pair_of}
-use Rattle.gu_ref.specs.Listed.{agreement_in, agreement_for}
-use Rattle.gu_terms.specs.Same.{same_agreement, same_firm, same_account}
-use Rattle.gu_terms.proofs.Found.{by_name, by_names}
 use Rattle.gu_ref.proofs.Lookups.{pushed}
 
 -- the same pair

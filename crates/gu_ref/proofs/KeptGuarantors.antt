@@ -1,18 +1,8 @@
 -- A guarantor is added under the firm that it guarantees and among the guarantors, or nothing is.
-use Rattle.std.proofs.Common.{◌≡◌, ◌∙◌, sym, refl, ap, Bool, true, false, ◌||◌, List, [], ◌∷◌, ◌++◌, map, None, Result, Ok, Err, OnOk, OnErr, if◌then◌else◌}
-use Rattle.std.specs.List.{list_any}
-use Rattle.std.specs.Map.{keys_of, values_of}
-use Rattle.std.specs.Result.{is_ok}
+use Rattle.gu_ref.proofs.Words.{◌≡◌, ◌∙◌, sym, refl, ap, Bool, true, false, ◌||◌, List, [], ◌∷◌, ◌++◌, map, None, Result, Ok, Err, OnOk, OnErr, if◌then◌else◌, list_any, keys_of, values_of, is_ok, values, insert_entry, FirmId, Guarantor, IsGuaranteed, has_firm, guarantor_for, is_guarantor_in, same_firm, by_name}
 use Rattle.std.proofs.lemmas.List.Folds.{list_any-append}
-use Rattle.indexmap.specs.IndexMap.{values, insert_entry}
 use Rattle.indexmap.specs.IndexSet.{insert_key}
-use Rattle.gu_terms.specs.declared.firm.FirmId.{FirmId}
-use Rattle.gu_ref.specs.declared.guarantors.Guarantor.{Guarantor}
 use Rattle.gu_ref.specs.declared.guarantors.Guarantors.TheInside.{Inside}
-use Rattle.gu_ref.specs.Kept.{IsGuaranteed}
-use Rattle.gu_ref.specs.Listed.{has_firm, guarantor_for, is_guarantor_in}
-use Rattle.gu_terms.specs.Same.{same_firm}
-use Rattle.gu_terms.proofs.Found.{by_name}
 use Rattle.gu_ref.proofs.Lookups.{pushed}
 
 or-false : (b : Bool) → (b || false) ≡ b

@@ -8,3 +8,4 @@ pub mod OneAnswer
 pub mod ReadSoFar
 pub mod RowNames
 pub mod RowReading
+pub mod Words

@@ -1,10 +1,6 @@
 -- A look-up by hash gives the same answer as a search of the list, and a new row goes last.
-use Rattle.std.proofs.Common.{◌≡◌, ◌∙◌, sym, refl, ap, Bool, false, if◌then◌else◌, List, [], ◌∷◌, ◌++◌, map, None}
-use Rattle.std.proofs.lemmas.List.{map-append}
-use Rattle.std.specs.List.{find, list_any}
-use Rattle.std.specs.Map.{keys_of, values_of, lookup}
+use Rattle.gu_ref.proofs.Words.{◌≡◌, ◌∙◌, sym, refl, ap, Bool, false, if◌then◌else◌, List, [], ◌∷◌, ◌++◌, map, None, map-append, find, list_any, keys_of, values_of, lookup, IndexMap, keys, values, get, insert_entry}
 use Rattle.std.specs.Cmp.{IsEquivalence}
-use Rattle.indexmap.specs.IndexMap.{IndexMap, keys, values, get, insert_entry}
 use Rattle.indexmap.specs.IndexSet.{insert_key}
 use Rattle.indexmap.proofs.CallerLemmas.{insert_entry-new}
 

@@ -1,15 +1,11 @@
 -- A text has only one list of records, so it is accepted or refused in only one way.
-use Rattle.std.proofs.Common.{◌≡◌, ◌∙◌, sym, refl, ap, ◌⊎◌, inl, inr, ℕ, zero, suc, ◌<◌, ◌≤◌, List, [], ◌∷◌, ◌++◌, length, take, slice_get, None, Some, arith, length-append}
+use Rattle.gu_ref.proofs.Words.{◌≡◌, ◌∙◌, sym, refl, ap, ◌⊎◌, inl, inr, ℕ, zero, suc, ◌<◌, ◌≤◌, List, [], ◌∷◌, ◌++◌, length, take, slice_get, None, Some, arith, length-append, AreRecords, Reached, default_config, strip_bom, IsFirstFault, IsReadFrom, fault_at, reference_of, Tables}
 use Rattle.std.proofs.lemmas.Bool.{cases_order}
 use Rattle.csv.specs.Machine.{next_record}
-use Rattle.csv.specs.Reading.{AreRecords, Reached, default_config, strip_bom}
 use Rattle.csv.specs.declared.parser.Config.{Config}
 use Rattle.csv.specs.declared.parser.State.{State}
 use Rattle.csv.specs.declared.parser.State.TheVariants as st
 use Rattle.gu_ref.specs.declared.error.RefFault.{RefFault}
-use Rattle.gu_ref.specs.File.{IsFirstFault, IsReadFrom, fault_at}
-use Rattle.gu_ref.specs.Made.{reference_of}
-use Rattle.gu_ref.specs.Tables.{Tables}
 use Rattle.gu_ref.proofs.FileLemmas.{fault_at-last, fault_at-more}
 
 module _ (cfg : Config) where

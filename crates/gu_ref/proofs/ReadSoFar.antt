@@ -1,7 +1,5 @@
 -- The records given so far by a reader, and the reference that they make.
-use Rattle.std.proofs.Common.{◌≡◌, ◌∙◌, sym, refl, ap, cond, true, false, ◌⊎◌, inl, inr, ℕ, ◌<◌, ◌+◌, List, [], ◌∷◌, ◌++◌, length, Option, None, Some, Result, Ok, Err, length-append}
-use Rattle.std.specs.Result.{IsErrAnd, IfErr}
-use Rattle.csv.specs.Reading.{ExplainsRead, Reached, ReadRecord, Ready, default_config, is_flexible, is_io, reader_config, reader_state, reader_trim, source_of, stops_reader, strip_bom}
+use Rattle.gu_ref.proofs.Words.{◌≡◌, ◌∙◌, sym, refl, ap, cond, true, false, ◌⊎◌, inl, inr, ℕ, ◌<◌, ◌+◌, List, [], ◌∷◌, ◌++◌, length, Option, None, Some, Result, Ok, Err, length-append, IsErrAnd, IfErr, ExplainsRead, Reached, ReadRecord, Ready, default_config, is_flexible, is_io, reader_config, reader_state, reader_trim, source_of, stops_reader, strip_bom, record_fault, AreAccepted, IsFirstFault, IsReadFrom, Refuses, row_count, with_record, reference_of, Tables}
 use Rattle.csv.specs.declared.parser.State.TheVariants as st
 use Rattle.csv.specs.declared.reader.Reader.{Reader}
 use Rattle.csv.specs.declared.error.ErrorKind.{ErrorKind}
@@ -10,12 +8,7 @@ use Rattle.csv.specs.declared.reader.Trim.TheVariants as trims
 use Rattle.csv.proofs.ReadFacts.{rows-end, rows-more}
 use Rattle.gu_ref.specs.declared.error.RefFault.{RefFault}
 use Rattle.gu_ref.specs.declared.error.RefFault.TheVariants.{Memory, BadRow, Unknown, Twice, TooMany, ReadFault}
-use Rattle.gu_ref.specs.Accepted.{record_fault}
 use Rattle.gu_ref.specs.Faults.{failure_of}
-use Rattle.gu_ref.specs.File.{AreAccepted, IsFirstFault, IsReadFrom, Refuses}
-use Rattle.gu_ref.specs.Growth.{row_count, with_record}
-use Rattle.gu_ref.specs.Made.{reference_of}
-use Rattle.gu_ref.specs.Tables.{Tables}
 use Rattle.gu_ref.proofs.FileLemmas.{accepted-more, reference_of-more}
 
 -- the records read from these bytes are accepted, and make this reference

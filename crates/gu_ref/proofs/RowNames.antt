@@ -1,11 +1,8 @@
 -- The row in a record's fields has names alone.
-use Rattle.std.proofs.Common.{◌≡◌, ℕ, Bool, true, false, ◌&&◌, List, [], ◌∷◌, Option, Some, None, refl, sym, ap, ◌∙◌, codes, if◌then◌else◌}
-use Rattle.std.specs.List.{list_all}
+use Rattle.gu_ref.proofs.Words.{◌≡◌, ℕ, Bool, true, false, ◌&&◌, List, [], ◌∷◌, Option, Some, None, refl, sym, ap, ◌∙◌, codes, if◌then◌else◌, list_all, has_names, row_of, row_of_names, row_of_one, row_of_three, row_of_two, Row}
 use Rattle.std.specs.Str.{bytes_eq}
 use Rattle.gu_terms.proofs.SameValues.{both}
 use Rattle.gu_terms.specs.Names.{is_name}
-use Rattle.gu_ref.specs.Rows.{has_names, row_of, row_of_names, row_of_one, row_of_three, row_of_two}
-use Rattle.gu_ref.specs.declared.row.Row.{Row}
 use Rattle.gu_ref.specs.declared.row.Row.TheVariants as row
 
 -- of two choices, each of which has names if it is one

@@ -1,10 +1,6 @@
 -- A record is read field by field: its kind, then one name after another.
-use Rattle.std.proofs.Common.{◌≡◌, ◌≢◌, refl, Bool, true, false, ℕ, List, [], ◌∷◌, length, Option, None, Some, if◌then◌else◌, arith}
-use Rattle.std.specs.List.{list_all}
-use Rattle.csv.specs.Records.{field_at}
+use Rattle.gu_ref.proofs.Words.{◌≡◌, ◌≢◌, refl, Bool, true, false, ℕ, List, [], ◌∷◌, length, Option, None, Some, if◌then◌else◌, arith, list_all, field_at, name_in, row_of, row_of_one, row_of_two, row_of_three, Row}
 use Rattle.gu_terms.specs.Names.{is_name}
-use Rattle.gu_ref.specs.Rows.{name_in, row_of, row_of_one, row_of_two, row_of_three}
-use Rattle.gu_ref.specs.declared.row.Row.{Row}
 
 passes : (b : Bool) (a x : List ℕ) → (if b then Some a else None) ≡ Some x → (b ≡ true) × (a ≡ x)
 passes true a x h = (refl, cc)

@@ -1,23 +1,6 @@
 -- Each reference is handed out at most once, and answered at most once.
-use Rattle.std.proofs.Common.{◌≡◌, ◌≤◌, ◌⊎◌, ◌+◌, ◌==◌, inl, inr, ℕ, Bool, true, false, not, cond, List, [], ◌∷◌, ◌++◌, filter, filter_map, option_and_then, Option, None, Some, refl, ap, sym, subst, ◌∙◌, arith}
-use Rattle.std.specs.Option.{option_map_or}
-use Rattle.std.proofs.lemmas.List.Elements.{filter_map-append}
-use Rattle.gu_msgs.specs.declared.outbound.Body.{Body}
-use Rattle.gu_session.specs.AnswerRules.{answer_messages, asked_by, on_answer}
-use Rattle.gu_session.specs.Encoded.{Response}
-use Rattle.gu_session.specs.Orders.{AreNext, AscendsFrom, IsAnswered, OneAnswer, ReferencesGoUp}
-use Rattle.gu_session.specs.Plans.{answers}
-use Rattle.gu_session.specs.Runs.{Runs, handed_reference}
-use Rattle.gu_session.specs.Sending.{is_over}
-use Rattle.gu_session.specs.States.{SessionState, new_session}
-use Rattle.gu_session.specs.Steps.{Steps, responses_of, session_after}
-use Rattle.gu_session.specs.declared.input.Input.{Input}
+use Rattle.gu_session.proofs.Words.{◌≡◌, ◌≤◌, ◌⊎◌, ◌+◌, ◌==◌, inl, inr, ℕ, Bool, true, false, not, cond, List, [], ◌∷◌, ◌++◌, filter, filter_map, option_and_then, Option, None, Some, refl, ap, sym, subst, ◌∙◌, arith, option_map_or, filter_map-append, Body, answer_messages, asked_by, on_answer, Response, AreNext, AscendsFrom, IsAnswered, OneAnswer, ReferencesGoUp, answers, Runs, handed_reference, is_over, SessionState, new_session, Steps, responses_of, session_after, Input, Course, Stay, Leave, Go, Plan, LoggedOn, Waiting}
 use Rattle.gu_session.specs.declared.input.Outcome.{Outcome}
-use Rattle.gu_session.specs.declared.plan.Course.{Course}
-use Rattle.gu_session.specs.declared.plan.Course.TheVariants.{Stay, Leave, Go}
-use Rattle.gu_session.specs.declared.plan.Plan.{Plan}
-use Rattle.gu_session.specs.declared.logged_on.LoggedOn.{LoggedOn}
-use Rattle.gu_session.specs.declared.logged_on.Waiting.{Waiting}
 use Rattle.gu_session.proofs.HandingOut.{Takes, in_order, takes-course}
 
 -- the least number that may still be handed out

@@ -1,13 +1,6 @@
 -- The numbers of kept messages ascend, below the next number.
-use Rattle.std.proofs.Common.{◌≡◌, ℕ, ◌+◌, ◌<◌, ◌≤◌, max, Bool, cond, true, false, ◌&&◌, nat_lt, nat_le, List, [], ◌∷◌, ◌++◌, filter_map, length, drop, Option, None, Some, suc, zero, refl, subst, arith}
-use Rattle.gu_terms.specs.declared.firm.FirmId.{FirmId}
-use Rattle.gu_msgs.specs.declared.outbound.Body.{Body}
-use Rattle.gu_session.specs.Applications.{application_of}
-use Rattle.gu_session.specs.Resending.{sent_within}
-use Rattle.gu_session.specs.Sending.{numbered, sent_in}
+use Rattle.gu_session.proofs.Words.{◌≡◌, ℕ, ◌+◌, ◌<◌, ◌≤◌, max, Bool, cond, true, false, ◌&&◌, nat_lt, nat_le, List, [], ◌∷◌, ◌++◌, filter_map, length, drop, Option, None, Some, suc, zero, refl, subst, arith, FirmId, Body, application_of, sent_within, numbered, sent_in, Sent, AreWithin}
 use Rattle.gu_msgs.specs.declared.outbound.Application.{Application}
-use Rattle.gu_session.specs.declared.sent_ring.Sent.{Sent}
-use Rattle.gu_session.specs.Ascending.{AreWithin}
 
 -- the same from an earlier number
 pub within-lower : (low from to : ℕ) (kept : List Sent) → low ≤ from → AreWithin from to kept → AreWithin low to kept

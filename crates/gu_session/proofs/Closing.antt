@@ -1,10 +1,5 @@
 -- A closed session gives nothing.
-use Rattle.std.proofs.Common.{◌≡◌, inl, inr, ℕ, true, List, [], ◌∷◌, ap, ◌∙◌, arith}
-use Rattle.gu_session.specs.Encoded.{Response}
-use Rattle.gu_session.specs.Laws.{ClosedForGood}
-use Rattle.gu_session.specs.States.{SessionState}
-use Rattle.gu_session.specs.Steps.{Steps}
-use Rattle.gu_session.specs.declared.input.Input.{Input}
+use Rattle.gu_session.proofs.Words.{◌≡◌, inl, inr, ℕ, true, List, [], ◌∷◌, ap, ◌∙◌, arith, Response, ClosedForGood, SessionState, Steps, Input}
 
 -- one step
 pub closed_step : (old new : SessionState) (input : Input) (now : ℕ) (given : List Response) → old.is_closed ≡ true → Steps old input now given new → (given ≡ []) × (new ≡ old)

@@ -1,13 +1,5 @@
 -- Messages sent again cover each number once.
-use Rattle.std.proofs.Common.{◌≡◌, inl, inr, ℕ, ◌+◌, ◌≤◌, Bool, cond, true, false, nat_lt, List, [], ◌∷◌, ◌++◌, refl, sym, subst, is_some, arith}
-use Rattle.std.proofs.lemmas.List.{append-nil}
-use Rattle.gu_terms.specs.declared.firm.FirmId.{FirmId}
-use Rattle.gu_msgs.specs.declared.outbound.Outbound.{Outbound}
-use Rattle.gu_session.specs.Applications.{application_of}
-use Rattle.gu_session.specs.Ascending.{AreWithin}
-use Rattle.gu_session.specs.Laws.{Covers, HasLongestRuns}
-use Rattle.gu_session.specs.Resending.{again, gap, gap_fill, with_gaps}
-use Rattle.gu_session.specs.declared.sent_ring.Sent.{Sent}
+use Rattle.gu_session.proofs.Words.{◌≡◌, inl, inr, ℕ, ◌+◌, ◌≤◌, Bool, cond, true, false, nat_lt, List, [], ◌∷◌, ◌++◌, refl, sym, subst, is_some, arith, append-nil, FirmId, Outbound, application_of, AreWithin, Covers, HasLongestRuns, again, gap, gap_fill, with_gaps, Sent}
 
 -- a gap fill, and what covers the numbers after it
 pub gap_then : (firm : FirmId) (now from mid to : ℕ) (messages : List Outbound) → from ≤ mid → Covers mid to messages → Covers from to (gap firm now from mid ++ messages)

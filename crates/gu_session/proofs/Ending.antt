@@ -1,17 +1,5 @@
 -- The end comes at most once, and last; before a firm logs on nothing else comes.
-use Rattle.std.proofs.Common.{◌≡◌, ◌⊎◌, inl, inr, ℕ, Bool, true, false, List, [], ◌∷◌, ◌++◌, map, Option, Some, None, refl, ap, sym, subst, ◌∙◌}
-use Rattle.gu_msgs.specs.declared.outbound.Outbound.{Outbound}
-use Rattle.gu_session.specs.Encoded.{Response, Sends, Hands, Closes}
-use Rattle.gu_session.specs.Orders.{CloseIsLast, EndsLast, IsSilent, NothingBeforeTheLogon}
-use Rattle.gu_session.specs.Runs.{Runs}
-use Rattle.gu_session.specs.Sending.{ending_of, is_over, sent_by}
-use Rattle.gu_session.specs.States.{SessionState, new_session}
-use Rattle.gu_session.specs.Steps.{Steps, responses_of, session_after}
-use Rattle.gu_session.specs.declared.input.Input.{Input}
-use Rattle.gu_session.specs.declared.plan.Course.{Course}
-use Rattle.gu_session.specs.declared.plan.Course.TheVariants.{Stay, Leave, Go}
-use Rattle.gu_session.specs.declared.plan.Handed.{Handed}
-use Rattle.gu_session.specs.declared.plan.Plan.{Plan}
+use Rattle.gu_session.proofs.Words.{◌≡◌, ◌⊎◌, inl, inr, ℕ, Bool, true, false, List, [], ◌∷◌, ◌++◌, map, Option, Some, None, refl, ap, sym, subst, ◌∙◌, Outbound, Response, Sends, Hands, Closes, CloseIsLast, EndsLast, IsSilent, NothingBeforeTheLogon, Runs, ending_of, is_over, sent_by, SessionState, new_session, Steps, responses_of, session_after, Input, Course, Stay, Leave, Go, Handed, Plan}
 use Rattle.gu_session.proofs.Closing.{closed_run}
 
 -- none of these is an end

@@ -1,25 +1,6 @@
 -- New messages in a step, and over a run: their numbers. No rule is used.
-use Rattle.std.proofs.Common.{◌≡◌, inl, inr, ℕ, ◌+◌, ◌≤◌, Bool, true, false, nat_lt, List, [], ◌∷◌, ◌++◌, map, filter_map, length, Option, Some, None, refl, ap, sym, subst, ◌∙◌, arith, suc}
-use Rattle.std.proofs.lemmas.List.{append-nil, length-append, map-append}
-use Rattle.std.proofs.lemmas.List.Elements.{filter_map-append}
-use Rattle.gu_terms.specs.declared.firm.FirmId.{FirmId}
-use Rattle.gu_msgs.specs.declared.inbound.ResendRequest.{ResendRequest}
-use Rattle.gu_msgs.specs.declared.outbound.Body.{Body}
-use Rattle.gu_msgs.specs.declared.outbound.Outbound.{Outbound}
-use Rattle.gu_session.specs.Encoded.{Response, Sends}
-use Rattle.gu_session.specs.Laws.{NumbersGoUpByOne}
-use Rattle.gu_session.specs.Resending.{again, behind_last, gap, sent_within, with_gaps}
-use Rattle.gu_session.specs.Runs.{CountsFrom, Runs, new_message}
-use Rattle.gu_session.specs.Sending.{behind, ending_of, given_by, is_over, new_of, numbered, repeats_of}
+use Rattle.gu_session.proofs.Words.{◌≡◌, inl, inr, ℕ, ◌+◌, ◌≤◌, Bool, true, false, nat_lt, List, [], ◌∷◌, ◌++◌, map, filter_map, length, Option, Some, None, refl, ap, sym, subst, ◌∙◌, arith, suc, append-nil, length-append, map-append, filter_map-append, FirmId, ResendRequest, Body, Outbound, Response, Sends, NumbersGoUpByOne, again, behind_last, gap, sent_within, with_gaps, CountsFrom, Runs, new_message, behind, ending_of, given_by, is_over, new_of, numbered, repeats_of, SessionState, new_session, Steps, responses_of, session_after, Input, Sent, Course, Stay, Leave, Go, Handed, Plan}
 use Rattle.gu_session.specs.SeqNums.{greatest}
-use Rattle.gu_session.specs.States.{SessionState, new_session}
-use Rattle.gu_session.specs.Steps.{Steps, responses_of, session_after}
-use Rattle.gu_session.specs.declared.input.Input.{Input}
-use Rattle.gu_session.specs.declared.sent_ring.Sent.{Sent}
-use Rattle.gu_session.specs.declared.plan.Course.{Course}
-use Rattle.gu_session.specs.declared.plan.Course.TheVariants.{Stay, Leave, Go}
-use Rattle.gu_session.specs.declared.plan.Handed.{Handed}
-use Rattle.gu_session.specs.declared.plan.Plan.{Plan}
 
 -- messages sent for the first time are all new
 pub new_messages-numbered : (firm : FirmId) (now number : ℕ) (bodies : List Body) →

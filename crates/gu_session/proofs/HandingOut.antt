@@ -1,33 +1,13 @@
 -- What a step hands out: the request in the message with the expected number.
-use Rattle.std.proofs.Common.{◌≡◌, ◌≤◌, ◌==◌, ◌&&◌, inl, inr, ℕ, Bool, true, false, not, cond, List, [], ◌∷◌, ◌++◌, map, filter_map, Option, None, Some, option_and_then, refl, ap, sym, subst, ◌∙◌, arith}
-use Rattle.std.specs.Option.{option_map_or}
-use Rattle.gu_terms.specs.declared.firm.FirmId.{FirmId}
+use Rattle.gu_session.proofs.Words.{◌≡◌, ◌≤◌, ◌==◌, ◌&&◌, inl, inr, ℕ, Bool, true, false, not, cond, List, [], ◌∷◌, ◌++◌, map, filter_map, Option, None, Some, option_and_then, refl, ap, sym, subst, ◌∙◌, arith, option_map_or, FirmId, Body, Outbound, answer_messages, asked_by, on_answer, on_notice, Response, Sends, AreNext, ExpectedNeverFalls, HandsOutInOrder, answers, leaves, says, handed_reference, ending_of, is_over, sent_by, SessionState, IsCourse, at_frame, frame_course, on_close, responses_of, session_after, Heard, Input, Course, Stay, Leave, Go, Handed, Plan, LoggedOn, Waiting}
 use Rattle.gu_terms.specs.declared.notice.Notice.{Notice}
 use Rattle.gu_msgs.specs.declared.coded_values.LogoutReason.TheVariants.{Silent}
 use Rattle.gu_msgs.specs.declared.inbound.Logon.{Logon}
-use Rattle.gu_msgs.specs.declared.outbound.Body.{Body}
 use Rattle.gu_msgs.specs.declared.outbound.Body.TheVariants as body
-use Rattle.gu_msgs.specs.declared.outbound.Outbound.{Outbound}
-use Rattle.gu_session.specs.AnswerRules.{answer_messages, asked_by, on_answer, on_notice}
-use Rattle.gu_session.specs.Encoded.{Response, Sends}
 use Rattle.gu_session.specs.Logons.{caller, logged_on, logon_in, on_logon}
-use Rattle.gu_session.specs.Orders.{AreNext, ExpectedNeverFalls, HandsOutInOrder}
-use Rattle.gu_session.specs.Plans.{answers, leaves, says}
-use Rattle.gu_session.specs.Runs.{handed_reference}
-use Rattle.gu_session.specs.Sending.{ending_of, is_over, sent_by}
-use Rattle.gu_session.specs.States.{SessionState}
-use Rattle.gu_session.specs.Steps.{IsCourse, at_frame, frame_course, on_close, responses_of, session_after}
 use Rattle.gu_session.specs.TimeRules.{have_passed, on_tick}
-use Rattle.gu_session.specs.declared.heard.Heard.{Heard}
-use Rattle.gu_session.specs.declared.input.Input.{Input}
 use Rattle.gu_session.specs.declared.input.Input.TheVariants as input
 use Rattle.gu_session.specs.declared.input.Outcome.{Outcome}
-use Rattle.gu_session.specs.declared.plan.Course.{Course}
-use Rattle.gu_session.specs.declared.plan.Course.TheVariants.{Stay, Leave, Go}
-use Rattle.gu_session.specs.declared.plan.Handed.{Handed}
-use Rattle.gu_session.specs.declared.plan.Plan.{Plan}
-use Rattle.gu_session.specs.declared.logged_on.LoggedOn.{LoggedOn}
-use Rattle.gu_session.specs.declared.logged_on.Waiting.{Waiting}
 use Rattle.gu_session.proofs.InOrder.{HandsNext, IsInOrder, frame_in_order}
 
 -- the course of a session in this state: nothing is handed out before a firm logs on, and afterwards in order

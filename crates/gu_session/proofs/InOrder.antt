@@ -1,6 +1,5 @@
 -- What the rules hand out: the request in the message with the expected number.
-use Rattle.std.proofs.Common.{◌≡◌, ◌≤◌, ◌+◌, ℕ, Bool, true, false, cond, nat_le, nat_lt, [], ◌∷◌, Option, None, Some, Result, Ok, Err, codes, refl, arith}
-use Rattle.std.specs.Option.{option_map_or}
+use Rattle.gu_session.proofs.Words.{◌≡◌, ◌≤◌, ◌+◌, ℕ, Bool, true, false, cond, nat_le, nat_lt, [], ◌∷◌, Option, None, Some, Result, Ok, Err, codes, refl, arith, option_map_or, hands, leaves, quiet, repeats, says, Heard, Handed, Plan, LoggedOn}
 use Rattle.gu_msgs.specs.Asking.{asked_on}
 use Rattle.gu_msgs.specs.declared.coded_values.LogoutReason.TheVariants.{BadSeqNum, SeqTooLow}
 use Rattle.gu_msgs.specs.declared.fault.Fault.{Fault}
@@ -11,12 +10,7 @@ use Rattle.gu_msgs.specs.declared.reject_reason.SessionRejectReason.TheVariants.
 use Rattle.gu_msgs.specs.declared.tags.TheConstants.{NEW_SEQ_NO}
 use Rattle.gu_session.specs.FrameRules.{again_in, as_expected, by_number, frame_plan, on_content, on_gap_fill, on_message, on_number, on_reset, on_wrong_party, reject, reset_to, too_high, too_low, wrong_party}
 use Rattle.gu_session.specs.Hearing.{is_given}
-use Rattle.gu_session.specs.Plans.{hands, leaves, quiet, repeats, says}
 use Rattle.gu_session.specs.declared.heard.Heading.{Heading}
-use Rattle.gu_session.specs.declared.heard.Heard.{Heard}
-use Rattle.gu_session.specs.declared.plan.Handed.{Handed}
-use Rattle.gu_session.specs.declared.plan.Plan.{Plan}
-use Rattle.gu_session.specs.declared.logged_on.LoggedOn.{LoggedOn}
 
 -- the request handed out has this number, and the next one is expected after it
 abbrev pub HandsNext : ℕ → Option Handed → LoggedOn → Type 0

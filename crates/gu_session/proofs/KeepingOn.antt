@@ -1,20 +1,5 @@
 -- Kept messages over a run: the last ones sent. No rule is used.
-use Rattle.std.proofs.Common.{◌≡◌, inl, inr, ℕ, ◌-◌, Bool, true, false, List, [], ◌∷◌, ◌++◌, filter_map, length, drop, refl, ap, sym, ◌∙◌, append_assoc, arith}
-use Rattle.std.proofs.lemmas.List.{append-nil, length-append, length-drop, drop-append-le, drop-drop}
-use Rattle.std.proofs.lemmas.List.Elements.{filter_map-append}
-use Rattle.circular_buffer.specs.Buffer.{keep_last}
-use Rattle.gu_msgs.specs.declared.outbound.Outbound.{Outbound}
-use Rattle.gu_session.specs.Encoded.{Response}
-use Rattle.gu_session.specs.Laws.{KeepsTheLastSent}
-use Rattle.gu_session.specs.Runs.{Runs, new_message}
-use Rattle.gu_session.specs.Sending.{behind, given_by, is_over, kept_after, new_of, sent_in}
-use Rattle.gu_session.specs.States.{SessionState, new_session}
-use Rattle.gu_session.specs.Steps.{Steps, responses_of, session_after}
-use Rattle.gu_session.specs.declared.input.Input.{Input}
-use Rattle.gu_session.specs.declared.sent_ring.Sent.{Sent}
-use Rattle.gu_session.specs.declared.plan.Course.{Course}
-use Rattle.gu_session.specs.declared.plan.Course.TheVariants.{Stay, Leave, Go}
-use Rattle.gu_session.specs.declared.plan.Plan.{Plan}
+use Rattle.gu_session.proofs.Words.{◌≡◌, inl, inr, ℕ, ◌-◌, Bool, true, false, List, [], ◌∷◌, ◌++◌, filter_map, length, drop, refl, ap, sym, ◌∙◌, append_assoc, arith, append-nil, length-append, length-drop, drop-append-le, drop-drop, filter_map-append, keep_last, Outbound, Response, KeepsTheLastSent, Runs, new_message, behind, given_by, is_over, kept_after, new_of, sent_in, SessionState, new_session, Steps, responses_of, session_after, Input, Sent, Course, Stay, Leave, Go, Plan}
 use Rattle.gu_session.proofs.GoingOn.{new_messages-plan}
 
 -- keeping the last of those kept and of others is keeping the last of all

@@ -1,22 +1,9 @@
 -- Kept messages after new ones.
-use Rattle.std.proofs.Common.{◌≡◌, ℕ, ◌+◌, ◌-◌, ◌≤◌, ◌<◌, List, [], ◌∷◌, ◌++◌, Option, None, Some, length, take, drop, slice_get, get_or, refl, ap, sym, ◌∙◌, append_assoc, add-one, arith}
+use Rattle.gu_session.proofs.Words.{◌≡◌, ℕ, ◌+◌, ◌-◌, ◌≤◌, ◌<◌, List, [], ◌∷◌, ◌++◌, Option, None, Some, length, take, drop, slice_get, get_or, refl, ap, sym, ◌∙◌, append_assoc, add-one, arith, option_map_or, option_to_list, is_some, if◌then◌else◌, append-nil, length-append, length-drop, filter_map-append, Buffer, buffer, keep_last, Outbound, IsReady, IsSoundState, seen, new_of, sent_by, sent_in, HasRoom, IsSound, extended, SessionState, Sent, Plan, LoggedOn}
 use Rattle.std.specs.List.{filter_map}
-use Rattle.std.specs.Option.{option_map_or, option_to_list}
-use Rattle.std.specs.Prelude.{is_some, if◌then◌else◌}
 use Rattle.std.proofs.Math.Seq.{take-suc}
-use Rattle.std.proofs.lemmas.List.{append-nil, length-append, length-drop}
-use Rattle.std.proofs.lemmas.List.Elements.{filter_map-append}
 use Rattle.std.proofs.lemmas.Option.{get_or_from_slice_get, slice_get_within}
-use Rattle.circular_buffer.specs.Buffer.{Buffer, buffer, keep_last}
-use Rattle.gu_msgs.specs.declared.outbound.Outbound.{Outbound}
-use Rattle.gu_session.specs.Readiness.{IsReady, IsSoundState, seen}
-use Rattle.gu_session.specs.Sending.{new_of, sent_by, sent_in}
-use Rattle.gu_session.specs.Sound.{HasRoom, IsSound, extended}
-use Rattle.gu_session.specs.States.{SessionState}
-use Rattle.gu_session.specs.declared.sent_ring.Sent.{Sent}
-use Rattle.gu_session.specs.declared.plan.Plan.{Plan}
 use Rattle.gu_session.specs.declared.ready.Ready.{Ready}
-use Rattle.gu_session.specs.declared.logged_on.LoggedOn.{LoggedOn}
 use Rattle.gu_session.specs.declared.state.State.{State}
 use Rattle.gu_session.proofs.Ascending.{within-append, within-drop, within-numbered}
 use Rattle.gu_session.proofs.KeepingOn.{keep_last-append}

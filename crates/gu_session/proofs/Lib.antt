@@ -17,3 +17,4 @@ mod HandingOut
 mod Repeating
 mod AnsweringOnce
 mod SteppingOnce
+pub mod Words

@@ -1,8 +1,5 @@
 -- New messages, one by one.
-use Rattle.std.proofs.Common.{◌≡◌, ℕ, ◌+◌, List, [], ◌∷◌, Some, zero, suc, length, slice_get, refl, ap, subst, arith}
-use Rattle.gu_terms.specs.declared.firm.FirmId.{FirmId}
-use Rattle.gu_msgs.specs.declared.outbound.Body.{Body}
-use Rattle.gu_session.specs.Sending.{numbered}
+use Rattle.gu_session.proofs.Words.{◌≡◌, ℕ, ◌+◌, List, [], ◌∷◌, Some, zero, suc, length, slice_get, refl, ap, subst, arith, FirmId, Body, numbered}
 use Rattle.gu_session.specs.Walks.{new_message}
 
 -- the new message at an index

@@ -1,31 +1,11 @@
 -- Messages appended to a text.
-use Rattle.std.proofs.Common.{◌≡◌, inr, ◌<◌, ◌+◌, ◌^◌, ◌||◌, ℕ, Bool, true, false, List, [], ◌∷◌, ◌++◌, Option, None, Some, Result, Ok, Err, Vec, map, length, take, slice_get, refl, ap, sym, ◌∙◌, append_assoc, arith}
-use Rattle.std.specs.Prelude.{OnErr}
-use Rattle.std.specs.List.{filter_map, flat_map, list_any}
-use Rattle.std.specs.Option.{option_to_list}
-use Rattle.std.specs.declared.alloc.Global.{Global}
+use Rattle.gu_session.proofs.Words.{◌≡◌, inr, ◌<◌, ◌+◌, ◌^◌, ◌||◌, ℕ, Bool, true, false, List, [], ◌∷◌, ◌++◌, Option, None, Some, Result, Ok, Err, Vec, map, length, take, slice_get, refl, ap, sym, ◌∙◌, append_assoc, arith, OnErr, flat_map, list_any, option_to_list, Global, append-nil, length-append, filter_map-append, Outbound, FollowText, FollowsText, AreOutputs, Closes, Sends, Follows, FollowsOnto, asked_in, end_outputs, handed_outputs, StepsOnto, bytes_in, handed_in, is_close, IsReady, sent_with, behind, closed, ending_of, given_by, is_over, new_of, numbered, SessionState, IsCourse, responses_of, session_after, Input, Output, Course, Go, Plan}
+use Rattle.std.specs.List.{filter_map}
 use Rattle.std.proofs.lemmas.Grind.{flat_map-append}
-use Rattle.std.proofs.lemmas.List.{append-nil, length-append}
-use Rattle.std.proofs.lemmas.List.Elements.{filter_map-append}
 use Rattle.std.proofs.lemmas.List.Folds.{list_any-append}
-use Rattle.gu_msgs.specs.declared.outbound.Outbound.{Outbound}
-use Rattle.gu_session.specs.Appending.{FollowText, FollowsText}
-use Rattle.gu_session.specs.Encoded.{AreOutputs, Closes, Sends}
-use Rattle.gu_session.specs.Following.{Follows, FollowsOnto}
-use Rattle.gu_session.specs.Given.{asked_in, end_outputs, handed_outputs}
-use Rattle.gu_session.specs.Outputs.{StepsOnto, bytes_in, handed_in, is_close}
-use Rattle.gu_session.specs.Readiness.{IsReady, sent_with}
-use Rattle.gu_session.specs.Sending.{behind, closed, ending_of, given_by, is_over, new_of, numbered}
-use Rattle.gu_session.specs.States.{SessionState}
-use Rattle.gu_session.specs.Steps.{IsCourse, responses_of, session_after}
-use Rattle.gu_session.specs.declared.input.Input.{Input}
 use Rattle.gu_session.specs.declared.output.Asked.{Asked}
-use Rattle.gu_session.specs.declared.output.Output.{Output}
 use Rattle.gu_session.specs.declared.output.Output.TheVariants.{Send, Hand, Close}
 use Rattle.gu_session.specs.declared.output.Taken.{Taken}
-use Rattle.gu_session.specs.declared.plan.Course.{Course}
-use Rattle.gu_session.specs.declared.plan.Course.TheVariants.{Go}
-use Rattle.gu_session.specs.declared.plan.Plan.{Plan}
 use Rattle.gu_session.specs.declared.ready.Ready.{Ready}
 use Rattle.gu_session.proofs.NumberLemmas.{length-numbered}
 use Rattle.gu_session.proofs.OutputLemmas.{AreOutputs-append, buffer_of, ending_is_given, one_more}

@@ -1,14 +1,6 @@
 -- Outputs for responses, part by part.
-use Rattle.std.proofs.Common.{◌≡◌, ◌<◌, ◌+◌, ◌^◌, ℕ, Bool, true, false, List, [], ◌∷◌, ◌++◌, Option, None, Some, Vec, map, length, take, get_or, slice_get, refl, arith}
-use Rattle.std.proofs.lemmas.List.{map_more}
+use Rattle.gu_session.proofs.Words.{◌≡◌, ◌<◌, ◌+◌, ◌^◌, ℕ, Bool, true, false, List, [], ◌∷◌, ◌++◌, Option, None, Some, Vec, map, length, take, get_or, slice_get, refl, arith, map_more, Global, Outbound, AreOutputs, Response, Sends, asked_in, end_outputs, handed_outputs, ending_of, Output, Handed}
 use Rattle.std.proofs.lemmas.Option.{get_or_from_slice_get, slice_get_within}
-use Rattle.std.specs.declared.alloc.Global.{Global}
-use Rattle.gu_msgs.specs.declared.outbound.Outbound.{Outbound}
-use Rattle.gu_session.specs.Encoded.{AreOutputs, Response, Sends}
-use Rattle.gu_session.specs.Given.{asked_in, end_outputs, handed_outputs}
-use Rattle.gu_session.specs.Sending.{ending_of}
-use Rattle.gu_session.specs.declared.output.Output.{Output}
-use Rattle.gu_session.specs.declared.plan.Handed.{Handed}
 
 -- one part after another
 pub AreOutputs-append : (responses more : List Response) (outputs others : List Output) → AreOutputs responses outputs → AreOutputs more others →

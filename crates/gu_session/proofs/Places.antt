@@ -1,10 +1,5 @@
 -- Messages whose numbers ascend, on both sides of a number.
-use Rattle.std.proofs.Common.{◌≡◌, ℕ, ◌+◌, ◌<◌, ◌≤◌, Bool, false, ◌&&◌, nat_le, nat_lt, List, [], ◌∷◌, ◌++◌, None, Some, slice_get, take, drop, zero, suc, refl, ap, sym, subst, ◌∙◌, arith}
-use Rattle.std.proofs.lemmas.List.{take-append-drop}
-use Rattle.std.proofs.lemmas.List.Elements.{filter-append}
-use Rattle.gu_session.specs.Ascending.{AreBelow, AreFrom, AreWithin}
-use Rattle.gu_session.specs.Resending.{sent_within}
-use Rattle.gu_session.specs.declared.sent_ring.Sent.{Sent}
+use Rattle.gu_session.proofs.Words.{◌≡◌, ℕ, ◌+◌, ◌<◌, ◌≤◌, Bool, false, ◌&&◌, nat_le, nat_lt, List, [], ◌∷◌, ◌++◌, None, Some, slice_get, take, drop, zero, suc, refl, ap, sym, subst, ◌∙◌, arith, take-append-drop, filter-append, AreBelow, AreFrom, AreWithin, sent_within, Sent}
 
 -- a message in the list has a number in the range
 pub within-get : (from to : ℕ) (kept : List Sent) (place : ℕ) (sent : Sent) → AreWithin from to kept → slice_get kept place ≡ Some sent → from ≤ sent.number

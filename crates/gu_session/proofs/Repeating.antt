@@ -1,27 +1,7 @@
 -- What is sent again was sent before.
-use Rattle.std.proofs.Common.{◌≡◌, inl, inr, ℕ, ◌+◌, ◌-◌, Bool, cond, true, false, nat_lt, List, [], ◌∷◌, ◌++◌, map, filter, filter_map, drop, length, Option, None, Some, zero, suc, refl, ap, sym, subst, ◌∙◌}
-use Rattle.std.specs.List.{AllByRecursion, cons_option}
-use Rattle.std.proofs.lemmas.List.{append-nil, map-append}
-use Rattle.std.proofs.lemmas.List.Elements.{filter_map-append}
-use Rattle.gu_terms.specs.declared.firm.FirmId.{FirmId}
-use Rattle.gu_msgs.specs.declared.inbound.ResendRequest.{ResendRequest}
-use Rattle.gu_msgs.specs.declared.outbound.Body.{Body}
+use Rattle.gu_session.proofs.Words.{◌≡◌, inl, inr, ℕ, ◌+◌, ◌-◌, Bool, cond, true, false, nat_lt, List, [], ◌∷◌, ◌++◌, map, filter, filter_map, drop, length, Option, None, Some, zero, suc, refl, ap, sym, subst, ◌∙◌, AllByRecursion, cons_option, append-nil, map-append, filter_map-append, FirmId, ResendRequest, Body, Outbound, application_of, Sends, IsAmong, IsOnceMore, ResendsWhatWasSent, WasSent, again, behind_last, gap, gap_fill, sent_within, with_gaps, if_again, new_message, repeated_message, ending_of, given_by, is_over, new_of, numbered, repeats_of, sent_in, SessionState, responses_of, Sent, Course, Stay, Leave, Go, Handed, Plan}
 use Rattle.gu_msgs.specs.declared.outbound.Body.TheVariants as body
-use Rattle.gu_msgs.specs.declared.outbound.Outbound.{Outbound}
-use Rattle.gu_session.specs.Applications.{application_of}
-use Rattle.gu_session.specs.Encoded.{Sends}
-use Rattle.gu_session.specs.Laws.{IsAmong, IsOnceMore, ResendsWhatWasSent, WasSent}
-use Rattle.gu_session.specs.Resending.{again, behind_last, gap, gap_fill, sent_within, with_gaps}
-use Rattle.gu_session.specs.Runs.{if_again, new_message, repeated_message}
-use Rattle.gu_session.specs.Sending.{ending_of, given_by, is_over, new_of, numbered, repeats_of, sent_in}
-use Rattle.gu_session.specs.States.{SessionState}
-use Rattle.gu_session.specs.Steps.{responses_of}
 use Rattle.gu_msgs.specs.declared.outbound.Application.{Application}
-use Rattle.gu_session.specs.declared.sent_ring.Sent.{Sent}
-use Rattle.gu_session.specs.declared.plan.Course.{Course}
-use Rattle.gu_session.specs.declared.plan.Course.TheVariants.{Stay, Leave, Go}
-use Rattle.gu_session.specs.declared.plan.Handed.{Handed}
-use Rattle.gu_session.specs.declared.plan.Plan.{Plan}
 use Rattle.gu_session.proofs.KeepingOn.{keeps_the_last}
 
 -- the message whose application message is known

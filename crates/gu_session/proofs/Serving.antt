@@ -1,22 +1,7 @@
 -- A request is served with messages that cover each number once.
-use Rattle.std.proofs.Common.{◌≡◌, inl, inr, ℕ, ◌+◌, ◌-◌, ◌≤◌, min, Bool, cond, true, false, ◌&&◌, ◌==◌, nat_lt, nat_le, List, [], ◌∷◌, ◌++◌, filter_map, length, refl, ap, ◌∙◌, arith}
-use Rattle.gu_terms.specs.declared.firm.FirmId.{FirmId}
-use Rattle.gu_msgs.specs.declared.inbound.ResendRequest.{ResendRequest}
-use Rattle.gu_session.specs.Encoded.{Response}
-use Rattle.gu_session.specs.Laws.{ServesWhatIsAsked}
-use Rattle.gu_session.specs.Resending.{behind_last, gap_fill, resent, sent_within, with_gaps}
-use Rattle.gu_session.specs.Runs.{Runs}
-use Rattle.gu_session.specs.Sending.{behind, is_over, new_of, sent_in}
-use Rattle.gu_session.specs.States.{SessionState, new_session}
-use Rattle.gu_session.specs.Steps.{Steps, session_after}
-use Rattle.gu_session.specs.declared.input.Input.{Input}
-use Rattle.gu_session.specs.declared.sent_ring.Sent.{Sent}
-use Rattle.gu_session.specs.declared.plan.Course.{Course}
-use Rattle.gu_session.specs.declared.plan.Course.TheVariants.{Stay, Leave, Go}
-use Rattle.gu_session.specs.declared.plan.Plan.{Plan}
+use Rattle.gu_session.proofs.Words.{◌≡◌, inl, inr, ℕ, ◌+◌, ◌-◌, ◌≤◌, min, Bool, cond, true, false, ◌&&◌, ◌==◌, nat_lt, nat_le, List, [], ◌∷◌, ◌++◌, filter_map, length, refl, ap, ◌∙◌, arith, FirmId, ResendRequest, Response, ServesWhatIsAsked, behind_last, gap_fill, resent, sent_within, with_gaps, Runs, behind, is_over, new_of, sent_in, SessionState, new_session, Steps, session_after, Input, Sent, Course, Stay, Leave, Go, Plan, AreWithin}
 use Rattle.gu_session.proofs.Ascending.{within-append, within-drop, within-numbered, within-range}
 use Rattle.gu_session.proofs.Covering.{covers_with_gaps, longest_with_gaps}
-use Rattle.gu_session.specs.Ascending.{AreWithin}
 
 -- the numbers of kept messages ascend below the next number
 abbrev pub IsAscending : SessionState → Type 0

@@ -1,14 +1,6 @@
 -- Steps by what is done.
-use Rattle.std.proofs.Common.{◌≡◌, ℕ, false, inr, Result, Vec, refl, subst}
-use Rattle.std.specs.Prelude.{IfOk}
-use Rattle.std.specs.declared.alloc.Global.{Global}
+use Rattle.gu_session.proofs.Words.{◌≡◌, ℕ, false, inr, Result, Vec, refl, subst, IfOk, Global, Follows, SessionState, IsCourse, StepsWith, responses_of, Input, Output, Course}
 use Rattle.std.proofs.lemmas.Result.{IfOk-weaker}
-use Rattle.gu_session.specs.Following.{Follows}
-use Rattle.gu_session.specs.States.{SessionState}
-use Rattle.gu_session.specs.Steps.{IsCourse, StepsWith, responses_of}
-use Rattle.gu_session.specs.declared.input.Input.{Input}
-use Rattle.gu_session.specs.declared.output.Output.{Output}
-use Rattle.gu_session.specs.declared.plan.Course.{Course}
 
 -- an open session that follows its course steps
 pub performed_steps : {E : Type 0} (s old new : SessionState) (input : Input) (course : Course) (now : ℕ) (result : Result (Vec Output Global) E) → s ≡ old →

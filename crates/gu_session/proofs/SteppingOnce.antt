@@ -1,6 +1,5 @@
 -- There is at most one step.
-use Rattle.std.proofs.Common.{◌≡◌, inl, inr, ℕ, Bool, List, Option, None, Some, Result, Ok, Err, refl, ap, sym, subst, ◌∙◌, arith}
-use Rattle.gu_terms.specs.declared.firm.FirmId.{FirmId}
+use Rattle.gu_session.proofs.Words.{◌≡◌, inl, inr, ℕ, Bool, List, Option, None, Some, Result, Ok, Err, refl, ap, sym, subst, ◌∙◌, arith, FirmId, Response, OneStep, SessionState, IsCourse, StepsOpen, frame_course, responses_of, session_after, Heard, Input, Course}
 use Rattle.gu_fix.specs.TagValue.{TagValue}
 use Rattle.gu_fix.specs.declared.error.FieldFault.{FieldFault}
 use Rattle.gu_fix.proofs.OneReading.{one_reading}
@@ -9,16 +8,9 @@ use Rattle.gu_msgs.specs.declared.inbound.Inbound.{Inbound}
 use Rattle.gu_msgs.proofs.NoFault.{no_fault}
 use Rattle.gu_msgs.proofs.OneFault.{one_fault}
 use Rattle.gu_msgs.proofs.OneMessage.{one_message}
-use Rattle.gu_session.specs.Encoded.{Response}
 use Rattle.gu_session.specs.Hearing.{Hears, IsContent, IsFirmIn, IsHeading, IsNumberIn}
-use Rattle.gu_session.specs.Laws.{OneStep}
-use Rattle.gu_session.specs.States.{SessionState}
-use Rattle.gu_session.specs.Steps.{IsCourse, StepsOpen, frame_course, responses_of, session_after}
 use Rattle.gu_session.specs.declared.heard.Heading.{Heading}
-use Rattle.gu_session.specs.declared.heard.Heard.{Heard}
-use Rattle.gu_session.specs.declared.input.Input.{Input}
 use Rattle.gu_session.specs.declared.input.Input.TheVariants as input
-use Rattle.gu_session.specs.declared.plan.Course.{Course}
 
 -- a text writes one number
 pub one_number : (text : Option (List ℕ)) (number other : Option ℕ) → IsNumberIn text number → IsNumberIn text other → number ≡ other

@@ -1,10 +1,6 @@
 -- Messages sent again, one by one.
-use Rattle.std.proofs.Common.{◌≡◌, ℕ, ◌+◌, Bool, cond, true, false, ◌&&◌, nat_le, nat_lt, List, [], ◌∷◌, ◌++◌, None, Some, slice_get, drop, refl, ap, sym, ◌∙◌, append_assoc, zero, suc, arith}
-use Rattle.gu_terms.specs.declared.firm.FirmId.{FirmId}
-use Rattle.gu_msgs.specs.declared.outbound.Outbound.{Outbound}
-use Rattle.gu_session.specs.Resending.{again, gap, sent_within, with_gaps}
+use Rattle.gu_session.proofs.Words.{◌≡◌, ℕ, ◌+◌, Bool, cond, true, false, ◌&&◌, nat_le, nat_lt, List, [], ◌∷◌, ◌++◌, None, Some, slice_get, drop, refl, ap, sym, ◌∙◌, append_assoc, zero, suc, arith, FirmId, Outbound, again, gap, sent_within, with_gaps, Sent}
 use Rattle.gu_session.specs.Walks.{asked_now, at_after}
-use Rattle.gu_session.specs.declared.sent_ring.Sent.{Sent}
 
 -- the message at an index is the first of those from there on
 pub drop-at : (items : List Sent) (place : ℕ) (sent : Sent) → slice_get items place ≡ Some sent → drop place items ≡ sent ∷ drop (suc place) items

@@ -1,30 +1,8 @@
 -- The meaning of the verdict on takes and a cut.
-use Rattle.std.proofs.Common.{◌≡◌, ℕ, ◌+◌, ◌≤◌, ◌<◌, ◌&&◌, ◌==◌, not, nat_lt, Bool, true, false, cond, List, [], ◌∷◌, Option, Some, None, Result, Ok, Err, length, take, get_or, refl, sym, ap, ◌∙◌, arith, inl, inr}
-use Rattle.std.specs.Prelude.{All, find, sum, sum_by, OnOk}
-use Rattle.std.specs.List.{list_any, zip}
-use Rattle.std.specs.Option.{option_map}
-use Rattle.std.proofs.lemmas.Bool.{cases_Bool, not-false, not_from_true, lt-ltb, le-ltb, ltb-false, ltb-true, eqb-true, eq-eqb, ne_eqb, and_left, and_right}
-use Rattle.std.proofs.lemmas.List.{get_or-take, length-take, get_or_default}
-use Rattle.std.proofs.lemmas.List.Elements.{All-from_recursion, recursion_from_All}
-use Rattle.std.proofs.lemmas.List.Sums.{sum-map, sum_by-le}
-use Rattle.gu_terms.specs.Cuts.{CutLists, has_number}
-use Rattle.gu_terms.specs.LimitKeys.{has_key}
-use Rattle.gu_terms.specs.Takes.{lots_of}
-use Rattle.gu_terms.specs.declared.limit_key.LimitKey.TheVariants.{Agr}
+use Rattle.gu_view.proofs.Words.{◌≡◌, ℕ, ◌+◌, ◌≤◌, ◌<◌, ◌&&◌, ◌==◌, not, nat_lt, Bool, true, false, cond, List, [], ◌∷◌, Option, Some, None, Result, Ok, Err, length, take, get_or, refl, sym, ap, ◌∙◌, arith, inl, inr, All, find, sum, sum_by, OnOk, list_any, zip, option_map, cases_Bool, not-false, not_from_true, lt-ltb, le-ltb, ltb-false, ltb-true, eqb-true, eq-eqb, ne_eqb, and_left, and_right, get_or-take, length-take, get_or_default, All-from_recursion, recursion_from_All, sum-map, sum_by-le, CutLists, has_number, has_key, lots_of, Agr, key_eq-same, key_eq-from, has_offer, has_room, unknown_take, unknown_key, unknown_offer, over_offer, over_limit, has_older_rest, not_oldest_first, uncovered, room_differs, first_found, unless, verdict_of_known, verdict, IsRight, is_covered, room_of, same_agreement, IsMarked, IsGreatest, IsOldestFirst, lots_under, total, GroupView, IsView, RoomDiffers, ViewOffer, Room, Later-from_AllPairs, along, any_none, find_none, none_any, none_found, sum_by-zip, sum_by-zip-le}
 use Rattle.gu_terms.specs.declared.takes.Take.{Take}
-use Rattle.gu_terms.proofs.KeyLemmas.{key_eq-same, key_eq-from}
-use Rattle.gu_view.specs.Check.{has_offer, has_room, unknown_take, unknown_key, unknown_offer, over_offer, over_limit, has_older_rest, not_oldest_first, uncovered, room_differs, first_found, unless, verdict_of_known, verdict, IsRight}
-use Rattle.gu_view.specs.Cut.{is_covered, room_of}
-use Rattle.gu_view.specs.Making.{same_agreement}
-use Rattle.gu_view.specs.Marks.{IsMarked}
-use Rattle.gu_view.specs.Takes.{IsGreatest, IsOldestFirst, lots_under, total}
-use Rattle.gu_view.specs.View.{GroupView, IsView}
 use Rattle.gu_view.specs.declared.error.CutFault.{CutFault}
-use Rattle.gu_view.specs.declared.error.CutFault.TheVariants.{RoomDiffers}
-use Rattle.gu_view.specs.declared.view.ViewOffer.{ViewOffer}
-use Rattle.gu_view.specs.declared.view.Room.{Room}
 use Rattle.gu_view.proofs.CutBounds.{greatest_by_cut}
-use Rattle.gu_terms.proofs.Lists.{Later-from_AllPairs, along, any_none, find_none, none_any, none_found, sum_by-zip, sum_by-zip-le}
 use Rattle.gu_view.proofs.TakesLemmas.{is_too_early, older_is_before}
 
 -- the offers of a view are few and small, and so are its rooms

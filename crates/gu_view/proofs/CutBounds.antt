@@ -1,22 +1,5 @@
 -- No takes exceed the room of a cut that covers.
-use Rattle.std.proofs.Common.{◌≡◌, ℕ, ◌+◌, ◌≤◌, Bool, true, false, cond, List, [], ◌∷◌, sym, subst, arith, inl, inr}
-use Rattle.std.specs.Prelude.{sum_by}
-use Rattle.std.specs.List.{AllByRecursion, list_any}
-use Rattle.std.proofs.lemmas.Bool.{or_cases, or_left, or_right, cond-true}
-use Rattle.std.proofs.lemmas.List.Elements.{recursion_from_All}
-use Rattle.std.proofs.lemmas.List.Folds.{list_any_at}
-use Rattle.std.proofs.lemmas.List.Sums.{sum_by-cons}
-use Rattle.gu_terms.specs.Cuts.{CutLists, has_number}
-use Rattle.gu_terms.specs.LimitKeys.{key_eq, has_key}
-use Rattle.gu_terms.specs.declared.limit_key.LimitKey.{LimitKey}
-use Rattle.gu_terms.proofs.KeyLemmas.{key_eq-same, key_eq-refl}
-use Rattle.gu_view.specs.Check.{has_room}
-use Rattle.gu_view.specs.Cut.{Covers, is_covered, room_of}
-use Rattle.gu_view.specs.Takes.{IsAdmissible, IsGreatest, lots_under, total}
-use Rattle.gu_view.specs.View.{GroupView, IsView}
-use Rattle.gu_view.specs.declared.view.ViewOffer.{ViewOffer}
-use Rattle.gu_view.specs.declared.view.Room.{Room}
-use Rattle.gu_terms.proofs.Lists.{along, along2, sum_by-add, sum_by-mono, sum_by-swap, sum_by-zeros}
+use Rattle.gu_view.proofs.Words.{◌≡◌, ℕ, ◌+◌, ◌≤◌, Bool, true, false, cond, List, [], ◌∷◌, sym, subst, arith, inl, inr, sum_by, AllByRecursion, list_any, or_cases, or_left, or_right, cond-true, recursion_from_All, list_any_at, sum_by-cons, CutLists, has_number, key_eq, has_key, LimitKey, key_eq-same, key_eq-refl, has_room, Covers, is_covered, room_of, IsAdmissible, IsGreatest, lots_under, total, GroupView, IsView, ViewOffer, Room, along, along2, sum_by-add, sum_by-mono, sum_by-swap, sum_by-zeros}
 use Rattle.gu_view.proofs.RoomLemmas.{on_own_path, roomed}
 
 -- a sum over the rooms is at least the term for a key's room

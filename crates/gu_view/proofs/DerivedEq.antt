@@ -1,14 +1,6 @@
 -- The `==` of keys and agreements, with which sets find them.
-use Rattle.std.proofs.Common.{◌≡◌, ℕ, Bool, true, List, ap, ◌∙◌, rules}
-use Rattle.std.specs.List.{list_any}
-use Rattle.std.proofs.lemmas.Slice.Eq.{bytes_eq-Decides}
-use Rattle.gu_terms.specs.LimitKeys.{key_eq, has_key}
+use Rattle.gu_view.proofs.Words.{◌≡◌, ℕ, Bool, true, List, ap, ◌∙◌, rules, list_any, bytes_eq-Decides, key_eq, has_key, AgreementId, LimitKey, Agr, eq, eq_is, key_eq-sym, list_any-agree}
 use Rattle.gu_terms.specs.contracts.agreement.AgreementIdPartialEq.TheImpl as agreement
-use Rattle.gu_terms.specs.declared.agreement.AgreementId.{AgreementId}
-use Rattle.gu_terms.specs.declared.limit_key.LimitKey.{LimitKey}
-use Rattle.gu_terms.specs.declared.limit_key.LimitKey.TheVariants.{Agr}
-use Rattle.gu_terms.proofs.KeyLemmas.{eq, eq_is, key_eq-sym}
-use Rattle.gu_terms.proofs.Lists.{list_any-agree}
 
 -- this key is in the set
 pub has_key-eq : (keys : List LimitKey) (k : LimitKey) → list_any (eq k) keys ≡ has_key keys k

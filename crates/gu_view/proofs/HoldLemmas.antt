@@ -1,20 +1,5 @@
 -- Where a list first passes a test, as a path does for a cut that holds its offer back.
-use Rattle.std.proofs.Common.{◌≡◌, ◌≢◌, ℕ, zero, suc, ◌<◌, ◌≤◌, ◌&&◌, Bool, true, false, List, [], ◌∷◌, Some, length, slice_get, refl, sym, ap, ◌∙◌, arith, inl, inr, one-add}
-use Rattle.std.specs.List.{list_any, position_or_len}
-use Rattle.std.proofs.Math.Bool.{or-false}
-use Rattle.std.proofs.lemmas.Bool.{and_from, cases_Bool, or_cases, or_left, or_right}
-use Rattle.std.proofs.lemmas.List.Folds.{Any-from_list_any, list_any_at}
-use Rattle.std.proofs.lemmas.Option.{slice_get_within, get_or_from_slice_get}
-use Rattle.gu_terms.proofs.KeyLemmas.{key_eq-from, key_eq-refl, key_eq-same}
-use Rattle.gu_terms.proofs.Lists.{position_or_len-within}
-use Rattle.gu_terms.specs.Cuts.{CutLists, has_number}
-use Rattle.gu_terms.specs.LimitKeys.{has_key, key_eq}
-use Rattle.gu_terms.specs.declared.limit_key.LimitKey.{LimitKey}
-use Rattle.gu_terms.specs.declared.limit_key.LimitKey.TheVariants.{Exec, Agr, Acct, Carry, Guar}
-use Rattle.gu_view.specs.Cut.{is_covered}
-use Rattle.gu_view.specs.Nearest.{held_at, holds}
-use Rattle.gu_view.specs.Paths.{step_of}
-use Rattle.gu_view.specs.declared.view.ViewOffer.{ViewOffer}
+use Rattle.gu_view.proofs.Words.{◌≡◌, ◌≢◌, ℕ, zero, suc, ◌<◌, ◌≤◌, ◌&&◌, Bool, true, false, List, [], ◌∷◌, Some, length, slice_get, refl, sym, ap, ◌∙◌, arith, inl, inr, one-add, list_any, position_or_len, or-false, and_from, cases_Bool, or_cases, or_left, or_right, Any-from_list_any, list_any_at, slice_get_within, get_or_from_slice_get, key_eq-from, key_eq-refl, key_eq-same, position_or_len-within, CutLists, has_number, has_key, key_eq, LimitKey, Exec, Agr, Acct, Carry, Guar, is_covered, held_at, holds, step_of, ViewOffer}
 
 -- two equivalent tests
 pub same_test : (b c : Bool) → (b ≡ true → c ≡ true) → (c ≡ true → b ≡ true) → b ≡ c

@@ -1,21 +1,6 @@
 -- The parts that a view stores beside its offers and rooms.
-use Rattle.std.proofs.Common.{◌≡◌, ◌≢◌, ℕ, ◌<◌, ◌≤◌, List, [], ◌∷◌, Some, length, map, get_or, slice_get, refl, sym, ap, subst, ◌∙◌, arith, false, inl, inr}
-use Rattle.std.specs.Prelude.{All, AllPairs}
-use Rattle.std.specs.List.{flat_map}
-use Rattle.std.proofs.lemmas.Bool.{both_ways}
-use Rattle.std.proofs.lemmas.List.{get_or-map, length-map}
-use Rattle.std.proofs.lemmas.List.Folds.{list_any_at}
-use Rattle.std.proofs.lemmas.Option.{get_or_from_slice_get, slice_get-get_or, slice_get_cases, slice_get_within}
-use Rattle.gu_terms.specs.LimitKeys.{has_key, key_eq}
+use Rattle.gu_view.proofs.Words.{◌≡◌, ◌≢◌, ℕ, ◌<◌, ◌≤◌, List, [], ◌∷◌, Some, length, map, get_or, slice_get, refl, sym, ap, subst, ◌∙◌, arith, false, inl, inr, All, AllPairs, flat_map, both_ways, get_or-map, length-map, list_any_at, get_or_from_slice_get, slice_get-get_or, slice_get_cases, slice_get_within, has_key, key_eq, LimitKey, key_eq-from, key_eq-refl, MakesView, in_order, view_of, IsIndexed, IsKeyed, GroupView, IsPath, IsView, keys_of, place_among, place_of, places_under, ViewOffer, Room, Later, list_any-map, position_or_len-map, position_or_len-within}
 use Rattle.gu_terms.specs.declared.group.Group.{Group}
-use Rattle.gu_terms.specs.declared.limit_key.LimitKey.{LimitKey}
-use Rattle.gu_terms.proofs.KeyLemmas.{key_eq-from, key_eq-refl}
-use Rattle.gu_view.specs.Making.{MakesView, in_order, view_of}
-use Rattle.gu_view.specs.Keeping.{IsIndexed, IsKeyed}
-use Rattle.gu_view.specs.View.{GroupView, IsPath, IsView, keys_of, place_among, place_of, places_under}
-use Rattle.gu_view.specs.declared.view.ViewOffer.{ViewOffer}
-use Rattle.gu_view.specs.declared.view.Room.{Room}
-use Rattle.gu_terms.proofs.Lists.{Later, list_any-map, position_or_len-map, position_or_len-within}
 use Rattle.gu_view.proofs.MakingLemmas.{even_paths, good_offers, in_order-own}
 use Rattle.gu_view.proofs.RoomLemmas.{apart, apart-firsts, on_path_at, places_are_within, roomed}
 use Rattle.gu_view.proofs.WholePaths.{places_apart}

@@ -18,3 +18,4 @@ pub mod RoomLemmas
 pub mod SameViews
 pub mod TakesLemmas
 pub mod WholePaths
+pub mod Words

@@ -1,12 +1,6 @@
 -- Lists stored one after another in one list.
-use Rattle.std.proofs.Common.{◌≡◌, ℕ, zero, suc, ◌-◌, ◌<◌, ◌≤◌, List, [], ◌∷◌, ◌++◌, Some, length, take, drop, get_or, arith, length-append, ap, ◌∙◌, refl, sym}
-use Rattle.std.specs.List.{AllByRecursion}
-use Rattle.std.specs.Prelude.{slice_range, slice_get}
+use Rattle.gu_view.proofs.Words.{◌≡◌, ℕ, zero, suc, ◌-◌, ◌<◌, ◌≤◌, List, [], ◌∷◌, ◌++◌, Some, length, take, drop, get_or, arith, length-append, ap, ◌∙◌, refl, sym, AllByRecursion, slice_range, slice_get, get_or_append_left, drop_at, drop-append-le, take_all, take-append-le, length-drop, option_map, slice_get-get_or, slice_get-map, lists_at, lists_from, AreEnds}
 use Rattle.std.proofs.Math.Seq.{get_or-append_seam}
-use Rattle.std.proofs.lemmas.List.{get_or_append_left, drop_at, drop-append-le, take_all, take-append-le, length-drop}
-use Rattle.std.specs.Option.{option_map}
-use Rattle.std.proofs.lemmas.Option.{slice_get-get_or, slice_get-map}
-use Rattle.gu_view.specs.Keeping.{lists_at, lists_from, AreEnds}
 
 -- the part after the first of two joined lists
 range-behind : (joined list : List ℕ) (from : ℕ) → from ≡ length joined → slice_range (joined ++ list) from (length (joined ++ list)) ≡ list

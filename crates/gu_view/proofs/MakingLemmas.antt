@@ -1,43 +1,9 @@
 -- Making a view.
-use Rattle.std.proofs.Common.{◌≡◌, ◌≢◌, ℕ, suc, ◌+◌, ◌<◌, ◌≤◌, ◌||◌, ◌&&◌, not, Bool, true, false, cond, List, [], ◌∷◌, ◌++◌, Option, Some, None, length, map, take, drop, get_or, refl, sym, ap, ◌∙◌, subst, arith, inl, inr}
-use Rattle.std.specs.Prelude.{All, AllPairs, find, Any, nat_lt}
-use Rattle.std.specs.List.{AllByRecursion, list_any, zip}
-use Rattle.std.specs.Option.{option_map}
+use Rattle.gu_view.proofs.Words.{◌≡◌, ◌≢◌, ℕ, suc, ◌+◌, ◌<◌, ◌≤◌, ◌||◌, ◌&&◌, not, Bool, true, false, cond, List, [], ◌∷◌, ◌++◌, Option, Some, None, length, map, take, drop, get_or, refl, sym, ap, ◌∙◌, subst, arith, inl, inr, All, AllPairs, find, Any, nat_lt, AllByRecursion, list_any, zip, option_map, cases_Bool, or_right, or_from, and_from, and_left, and_right, take_more, drop_more, get_or_default, get_or-take, length-take, All-more, All-from_recursion, recursion_from_All, list_any_more, list_any_kept, list_any_at, Any-from_list_any, bytes_eq-Decides, slice_eq-Decides, key_eq, has_key, AgreementId, LimitKey, Agr, key_eq-same, key_eq-refl, key_eq-from, take_all, slice_get_past, bad_offer, numbered, is_bad, is_own, has_other_path, same_agreement, path_differs, zero, ◌==◌, nat_le, option_map_or, slice_get, or_parts, leb-false, ltb-false, not-false, length-map, slice_get_cases, ViewOffer, Room, Ok, Err, Result, IfOk, MatchOption, is_some, option_or, unwrap_or, both_ways, map_more, find-append, has_room, IsGiven, AreRooms, in_order, lots_given, Later, AllPairs-from_Later, Later-from_AllPairs, along, any_none, find_more, find_none, none_any, none_found}
 use Rattle.std.specs.Cmp.Lexicographic.{pointwise}
-use Rattle.std.proofs.lemmas.Bool.{cases_Bool, or_right, or_from, and_from, and_left, and_right}
-use Rattle.std.proofs.lemmas.List.{take_more, drop_more, get_or_default, get_or-take, length-take}
-use Rattle.std.proofs.lemmas.List.Elements.{All-more, All-from_recursion, recursion_from_All}
-use Rattle.std.proofs.lemmas.List.Folds.{list_any_more, list_any_kept, list_any_at, Any-from_list_any}
-use Rattle.std.proofs.lemmas.Slice.Eq.{bytes_eq-Decides, slice_eq-Decides}
-use Rattle.gu_terms.specs.LimitKeys.{key_eq, has_key}
-use Rattle.gu_terms.specs.declared.agreement.AgreementId.{AgreementId}
-use Rattle.gu_terms.specs.declared.limit_key.LimitKey.{LimitKey}
-use Rattle.gu_terms.specs.declared.limit_key.LimitKey.TheVariants.{Agr}
-use Rattle.gu_terms.proofs.KeyLemmas.{key_eq-same, key_eq-refl, key_eq-from}
-use Rattle.std.proofs.lemmas.List.{take_all}
-use Rattle.std.proofs.lemmas.Option.{slice_get_past}
-use Rattle.gu_view.specs.Making.{bad_offer, numbered, is_bad, is_own, has_other_path, same_agreement, path_differs}
 use Rattle.gu_terms.specs.Numbers.{IsLots}
-use Rattle.std.proofs.Common.{zero, ◌==◌, nat_le}
-use Rattle.std.specs.Option.{option_map_or}
-use Rattle.std.specs.Prelude.{slice_get}
-use Rattle.std.proofs.lemmas.Bool.{or_parts, leb-false, ltb-false, not-false}
-use Rattle.std.proofs.lemmas.List.{length-map}
-use Rattle.std.proofs.lemmas.Option.{slice_get_cases}
-use Rattle.gu_view.specs.declared.view.ViewOffer.{ViewOffer}
-use Rattle.gu_view.specs.declared.view.Room.{Room}
-use Rattle.std.proofs.Common.{Ok, Err, Result}
-use Rattle.std.specs.Prelude.{IfOk, MatchOption}
-use Rattle.std.specs.Option.{is_some, option_or, unwrap_or}
 use Rattle.std.specs.Map.{lookup}
-use Rattle.std.proofs.lemmas.Bool.{both_ways}
-use Rattle.std.proofs.lemmas.List.{map_more}
-use Rattle.std.proofs.lemmas.List.Folds.{find-append}
 use Rattle.std.proofs.lemmas.List.Quantifiers.{all_pairs_push}
-use Rattle.gu_view.specs.Check.{has_room}
-use Rattle.gu_view.specs.Keeping.{IsGiven}
-use Rattle.gu_view.specs.Making.{AreRooms, in_order, lots_given}
-use Rattle.gu_terms.proofs.Lists.{Later, AllPairs-from_Later, Later-from_AllPairs, along, any_none, find_more, find_none, none_any, none_found}
 use Rattle.gu_view.proofs.TakesLemmas.{older_is_before}
 
 -- the first bad offer among those after a number

@@ -1,30 +1,8 @@
 -- Marks for the rooms and offers that a cut names.
-use Rattle.std.proofs.Common.{◌≡◌, ℕ, ◌+◌, ◌<◌, ◌||◌, ◌==◌, not, Bool, true, false, List, [], ◌∷◌, Some, None, length, map, take, get_or, set, refl, sym, ap, ◌∙◌, arith, inl, inr}
-use Rattle.std.specs.Prelude.{AllPairs, find, position}
-use Rattle.std.specs.List.{AllByRecursion, list_any, position_or_len}
-use Rattle.std.proofs.lemmas.Bool.{cases_order, ne_eqb, eqb-true, eq-eqb, lt-ltb, le-ltb, ltb-true, or_left, false_from_ne_true}
-use Rattle.std.proofs.Common.{◌≤◌, nat_lt}
-use Rattle.std.specs.List.{AllWithin}
+use Rattle.gu_view.proofs.Words.{◌≡◌, ℕ, ◌+◌, ◌<◌, ◌||◌, ◌==◌, not, Bool, true, false, List, [], ◌∷◌, Some, None, length, map, take, get_or, set, refl, sym, ap, ◌∙◌, arith, inl, inr, AllPairs, find, position, AllByRecursion, list_any, position_or_len, cases_order, ne_eqb, eqb-true, eq-eqb, lt-ltb, le-ltb, ltb-true, or_left, false_from_ne_true, ◌≤◌, nat_lt, AllWithin, recursion_from_All, prefix_len_is, or-true, or-false, list_any_more, list_any_at, LimitKey, has_number, key_eq, has_key, key_eq-same, key_eq-refl, ViewOffer, Room, GroupView, IsView, place_of, along, marked, position_or_len-within, replicate, take-replicate, get_or-map, CutLists, is_covered, AreMarks}
 use Rattle.std.specs.List.Sorted.{IsPartitionedBy}
 use Rattle.std.proofs.Math.Nat.{eq-or-lt_of_le}
-use Rattle.std.proofs.lemmas.List.Elements.{recursion_from_All}
-use Rattle.std.proofs.lemmas.List.Sums.{prefix_len_is}
-use Rattle.std.proofs.Math.Bool.{or-true, or-false}
-use Rattle.std.proofs.lemmas.List.Folds.{list_any_more, list_any_at}
 use Rattle.std.proofs.lemmas.List.Quantifiers.{position-Some}
-use Rattle.gu_terms.specs.declared.limit_key.LimitKey.{LimitKey}
-use Rattle.gu_terms.specs.Cuts.{has_number}
-use Rattle.gu_terms.specs.LimitKeys.{key_eq, has_key}
-use Rattle.gu_terms.proofs.KeyLemmas.{key_eq-same, key_eq-refl}
-use Rattle.gu_view.specs.declared.view.ViewOffer.{ViewOffer}
-use Rattle.gu_view.specs.declared.view.Room.{Room}
-use Rattle.gu_view.specs.View.{GroupView, IsView, place_of}
-use Rattle.gu_terms.proofs.Lists.{along, marked, position_or_len-within}
-use Rattle.std.proofs.Common.{replicate}
-use Rattle.std.proofs.lemmas.List.{take-replicate, get_or-map}
-use Rattle.gu_terms.specs.Cuts.{CutLists}
-use Rattle.gu_view.specs.Cut.{is_covered}
-use Rattle.gu_view.specs.Marks.{AreMarks}
 use Rattle.gu_view.proofs.TakesLemmas.{key_at_place}
 use Rattle.gu_view.proofs.RoomLemmas.{apart, on_own_path, roomed}
 

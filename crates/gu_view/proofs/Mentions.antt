@@ -1,19 +1,5 @@
 -- Keys in order of mention, and their indexes.
-use Rattle.std.proofs.Common.{◌≡◌, ℕ, ◌+◌, ◌-◌, ◌<◌, ◌≤◌, ◌||◌, not, Bool, true, false, cond, List, [], ◌∷◌, ◌++◌, length, map, take, get_or, refl, sym, ap, ◌∙◌, subst, arith, inl, inr, append-nil, append_assoc, length-append}
-use Rattle.std.specs.Prelude.{filter}
-use Rattle.std.specs.List.{AllByRecursion, flat_map, list_any, position_or_len}
-use Rattle.std.proofs.lemmas.Bool.{cases_Bool, or_left, or_right}
-use Rattle.std.proofs.lemmas.List.{flat_map_more, get_or-map, get_or-take, length-map, length-take, map_more, take_more}
-use Rattle.std.proofs.lemmas.List.Elements.{All-from_recursion, All-more, recursion_from_All, filter-append}
-use Rattle.std.proofs.lemmas.List.Folds.{list_any_at, list_any-append}
-use Rattle.gu_terms.proofs.KeyLemmas.{eq, eq_is, key_eq-refl, key_eq-sym}
-use Rattle.gu_terms.proofs.Lists.{along, list_any-agree, position_or_len-agree}
-use Rattle.gu_terms.specs.LimitKeys.{key_eq, has_key}
-use Rattle.gu_terms.specs.Paths.{path_through}
-use Rattle.gu_terms.specs.declared.limit_key.LimitKey.{LimitKey}
-use Rattle.gu_view.specs.Keeping.{AreMentioned}
-use Rattle.gu_view.specs.View.{IsPath, firsts, keys_of, place_among}
-use Rattle.gu_view.specs.declared.view.ViewOffer.{ViewOffer}
+use Rattle.gu_view.proofs.Words.{◌≡◌, ℕ, ◌+◌, ◌-◌, ◌<◌, ◌≤◌, ◌||◌, not, Bool, true, false, cond, List, [], ◌∷◌, ◌++◌, length, map, take, get_or, refl, sym, ap, ◌∙◌, subst, arith, inl, inr, append-nil, append_assoc, length-append, filter, AllByRecursion, flat_map, list_any, position_or_len, cases_Bool, or_left, or_right, flat_map_more, get_or-map, get_or-take, length-map, length-take, map_more, take_more, All-from_recursion, All-more, recursion_from_All, filter-append, list_any_at, list_any-append, eq, eq_is, key_eq-refl, key_eq-sym, along, list_any-agree, position_or_len-agree, key_eq, has_key, path_through, LimitKey, AreMentioned, IsPath, firsts, keys_of, place_among, ViewOffer}
 use Rattle.gu_view.proofs.RoomLemmas.{has_key-others, has_key-keys_of, on_own_path}
 
 -- one more key is mentioned

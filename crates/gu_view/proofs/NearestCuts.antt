@@ -1,21 +1,8 @@
 -- A view has one nearest cut.
-use Rattle.std.proofs.Common.{◌≡◌, ℕ, ◌<◌, ◌≤◌, ◌==◌, ◌&&◌, true, List, Some, length, get_or, slice_get, sym, ap, ◌∙◌, subst, arith, inl, inr}
-use Rattle.std.specs.Prelude.{All}
+use Rattle.gu_view.proofs.Words.{◌≡◌, ℕ, ◌<◌, ◌≤◌, ◌==◌, ◌&&◌, true, List, Some, length, get_or, slice_get, sym, ap, ◌∙◌, subst, arith, inl, inr, All, and_parts, eqb-true, or_cases, Any-from_list_any, list_any_at, key_eq-same, CutLists, has_number, has_key, key_eq, LimitKey, Agr, AreSame, IsConcise, IsHeldBy, IsNearestCut, held_at, holds, lots_with, GroupView, IsView, ViewOffer, Room}
 use Rattle.std.specs.List.{Any}
-use Rattle.std.proofs.lemmas.Bool.{and_parts, eqb-true, or_cases}
-use Rattle.std.proofs.lemmas.List.Folds.{Any-from_list_any, list_any_at}
-use Rattle.gu_terms.proofs.KeyLemmas.{key_eq-same}
-use Rattle.gu_terms.specs.Cuts.{CutLists, has_number}
-use Rattle.gu_terms.specs.LimitKeys.{has_key, key_eq}
-use Rattle.gu_terms.specs.declared.limit_key.LimitKey.{LimitKey}
-use Rattle.gu_terms.specs.declared.limit_key.LimitKey.TheVariants.{Agr}
 use Rattle.gu_view.proofs.HoldLemmas.{hits_at, on_path, same_test}
 use Rattle.gu_view.proofs.RoomLemmas.{roomed}
-use Rattle.gu_view.specs.Nearest.{AreSame, IsConcise, IsHeldBy, IsNearestCut, held_at, holds}
-use Rattle.gu_view.specs.Takes.{lots_with}
-use Rattle.gu_view.specs.View.{GroupView, IsView}
-use Rattle.gu_view.specs.declared.view.ViewOffer.{ViewOffer}
-use Rattle.gu_view.specs.declared.view.Room.{Room}
 
 -- what holds of each key of a list, and of each number
 pub of_key : (P : LimitKey → Type 0) (keys : List LimitKey) (k : LimitKey) → All P keys → has_key keys k ≡ true → P k

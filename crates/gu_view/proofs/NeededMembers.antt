@@ -1,30 +1,9 @@
 -- A cut that needs each of its members lets no offer round, so the nearest cut holds each offer back as early.
-use Rattle.std.proofs.Common.{◌≡◌, ◌≢◌, ℕ, zero, suc, ◌+◌, ◌-◌, ◌<◌, ◌≤◌, ◌==◌, ◌&&◌, not, true, false, Option, Some, None, length, get_or, slice_get, refl, sym, ap, ◌∙◌, subst, arith, inl, inr}
-use Rattle.std.specs.Prelude.{All}
-use Rattle.std.specs.List.{list_any}
-use Rattle.std.proofs.Math.Bool.{or-false}
-use Rattle.std.proofs.lemmas.Bool.{and_parts, cases_Bool, cases_eq, cases_lt, cases_order, eqb-true, false_from_ne_true, ne_eqb, not_from_false, or_cases, or_left, or_right}
-use Rattle.std.proofs.lemmas.List.{get_or_default}
-use Rattle.std.proofs.lemmas.List.Folds.{Any-from_list_any, list_any_at}
+use Rattle.gu_view.proofs.Words.{◌≡◌, ◌≢◌, ℕ, zero, suc, ◌+◌, ◌-◌, ◌<◌, ◌≤◌, ◌==◌, ◌&&◌, not, true, false, Option, Some, None, length, get_or, slice_get, refl, sym, ap, ◌∙◌, subst, arith, inl, inr, All, list_any, or-false, and_parts, cases_Bool, cases_eq, cases_lt, cases_order, eqb-true, false_from_ne_true, ne_eqb, not_from_false, or_cases, or_left, or_right, get_or_default, Any-from_list_any, list_any_at, slice_get_cases, slice_get_past, slice_get-get_or, key_eq-same, CutLists, has_number, has_key, key_eq, path_through, AccountId, AgreementId, FirmId, LimitKey, Exec, Agr, Acct, Carry, Guar, Covers, is_covered, IsLeastCut, IsNearestCut, IsTight, NeedsEach, held_at, holds, without_key, without_offer, step_of, GroupView, IsNested, IsPath, IsView, ViewOffer}
 use Rattle.std.proofs.lemmas.Map.Views.{any-filter_same}
-use Rattle.std.proofs.lemmas.Option.{slice_get_cases, slice_get_past, slice_get-get_or}
-use Rattle.gu_terms.proofs.KeyLemmas.{key_eq-same}
-use Rattle.gu_terms.specs.Cuts.{CutLists, has_number}
-use Rattle.gu_terms.specs.LimitKeys.{has_key, key_eq}
-use Rattle.gu_terms.specs.Paths.{path_through}
-use Rattle.gu_terms.specs.declared.account.AccountId.{AccountId}
-use Rattle.gu_terms.specs.declared.agreement.AgreementId.{AgreementId}
-use Rattle.gu_terms.specs.declared.firm.FirmId.{FirmId}
-use Rattle.gu_terms.specs.declared.limit_key.LimitKey.{LimitKey}
-use Rattle.gu_terms.specs.declared.limit_key.LimitKey.TheVariants.{Exec, Agr, Acct, Carry, Guar}
 use Rattle.gu_view.proofs.HoldLemmas.{any_key, first_hit, held, hits_at, holds_by_key, on_path}
 use Rattle.gu_view.proofs.NearestCuts.{IsIn, of_key, of_number}
 use Rattle.gu_view.proofs.NestingLemmas.{after_on}
-use Rattle.gu_view.specs.Cut.{Covers, is_covered, IsLeastCut}
-use Rattle.gu_view.specs.Nearest.{IsNearestCut, IsTight, NeedsEach, held_at, holds, without_key, without_offer}
-use Rattle.gu_view.specs.Paths.{step_of}
-use Rattle.gu_view.specs.View.{GroupView, IsNested, IsPath, IsView}
-use Rattle.gu_view.specs.declared.view.ViewOffer.{ViewOffer}
 use Rattle.gu_view.proofs.WholePaths.{step_is}
 
 -- on a whole path nothing follows the fifth key, and one agreement's key is there

@@ -1,25 +1,5 @@
 -- Nested offers, through tests of their rooms.
-use Rattle.std.proofs.Common.{◌≡◌, ℕ, ◌<◌, Bool, true, false, List, [], ◌∷◌, Option, None, Some, length, get_or, slice_get, refl, sym, ap, ◌∙◌, zero-add, inl, inr}
-use Rattle.std.specs.Prelude.{All}
-use Rattle.std.specs.List.{AllByRecursion, list_all, list_any}
-use Rattle.std.specs.Option.{option_and_then, option_map_or}
-use Rattle.std.proofs.lemmas.Bool.{false≢true, or_cases}
-use Rattle.std.proofs.lemmas.List.Elements.{All-from_recursion, recursion_from_All}
-use Rattle.std.proofs.lemmas.List.Sums.{AllPass-from_list_all, list_all-from_AllPass}
-use Rattle.std.proofs.lemmas.Option.{slice_get-get_or}
-use Rattle.gu_terms.specs.LimitKeys.{key_eq, has_key}
-use Rattle.gu_terms.specs.declared.account.AccountId.{AccountId}
-use Rattle.gu_terms.specs.declared.agreement.AgreementId.{AgreementId}
-use Rattle.gu_terms.specs.declared.firm.FirmId.{FirmId}
-use Rattle.gu_terms.specs.declared.limit_key.LimitKey.{LimitKey}
-use Rattle.gu_terms.specs.declared.limit_key.LimitKey.TheVariants.{Exec, Agr, Acct, Carry, Guar}
-use Rattle.gu_terms.specs.Paths.{path_through}
-use Rattle.gu_terms.proofs.KeyLemmas.{key_eq-same, key_eq-refl}
-use Rattle.gu_view.specs.Paths.{behind, have_one_key, key_on, room_agrees, same_key}
-use Rattle.gu_view.specs.View.{GoOnAlike, GroupView, IsNested, IsPath, IsView, next_key, place_of, places_under}
-use Rattle.gu_view.specs.declared.view.ViewOffer.{ViewOffer}
-use Rattle.gu_view.specs.declared.view.Room.{Room}
-use Rattle.gu_terms.proofs.Lists.{along, position_or_len-within}
+use Rattle.gu_view.proofs.Words.{◌≡◌, ℕ, ◌<◌, Bool, true, false, List, [], ◌∷◌, Option, None, Some, length, get_or, slice_get, refl, sym, ap, ◌∙◌, zero-add, inl, inr, All, AllByRecursion, list_all, list_any, option_and_then, option_map_or, false≢true, or_cases, All-from_recursion, recursion_from_All, AllPass-from_list_all, list_all-from_AllPass, slice_get-get_or, key_eq, has_key, AccountId, AgreementId, FirmId, LimitKey, Exec, Agr, Acct, Carry, Guar, path_through, key_eq-same, key_eq-refl, behind, have_one_key, key_on, room_agrees, same_key, GoOnAlike, GroupView, IsNested, IsPath, IsView, next_key, place_of, places_under, ViewOffer, Room, along, position_or_len-within}
 use Rattle.gu_view.proofs.PassingPlaces.{at_places, each_place}
 use Rattle.gu_view.proofs.RoomLemmas.{on_path_at, roomed}
 use Rattle.gu_view.proofs.TakesLemmas.{key_at_place}

@@ -1,17 +1,5 @@
 -- Among all greatest takes, one is oldest first over the group, and it is oldest first within each agreement.
-use Rattle.std.proofs.Common.{◌≡◌, ◌≢◌, ℕ, zero, suc, ◌+◌, ◌-◌, ◌<◌, ◌≤◌, ◌==◌, Bool, true, false, cond, List, [], ◌∷◌, length, get_or, refl, sym, ap, ◌∙◌, arith, inl, inr}
-use Rattle.std.specs.Prelude.{All, AllPairs, sum_by}
-use Rattle.std.specs.List.{AllByRecursion}
-use Rattle.std.proofs.lemmas.Bool.{cases_eq, cases_lt, cond-true, cond-false, eq-eqb, ne_eqb}
-use Rattle.std.proofs.lemmas.List.{get_or_default}
-use Rattle.std.proofs.lemmas.List.Elements.{recursion_from_All, All-from_recursion}
-use Rattle.std.proofs.lemmas.List.Sums.{sum_by-cons}
-use Rattle.gu_terms.specs.LimitKeys.{has_key}
-use Rattle.gu_terms.specs.declared.limit_key.LimitKey.{LimitKey}
-use Rattle.gu_terms.proofs.Lists.{sum_by-add, sum_by-zeros}
-use Rattle.gu_view.specs.Takes.{AgreeOnOlder, IsGreatest, IsOldestFirst, IsOldestGreatest}
-use Rattle.gu_view.specs.View.{GroupView, IsView}
-use Rattle.gu_view.specs.declared.view.ViewOffer.{ViewOffer}
+use Rattle.gu_view.proofs.Words.{◌≡◌, ◌≢◌, ℕ, zero, suc, ◌+◌, ◌-◌, ◌<◌, ◌≤◌, ◌==◌, Bool, true, false, cond, List, [], ◌∷◌, length, get_or, refl, sym, ap, ◌∙◌, arith, inl, inr, All, AllPairs, sum_by, AllByRecursion, cases_eq, cases_lt, cond-true, cond-false, eq-eqb, ne_eqb, get_or_default, recursion_from_All, All-from_recursion, sum_by-cons, has_key, LimitKey, sum_by-add, sum_by-zeros, AgreeOnOlder, IsGreatest, IsOldestFirst, IsOldestGreatest, GroupView, IsView, ViewOffer}
 
 module _ (view : GroupView) (lots others : ℕ → ℕ) (mine : IsOldestGreatest view lots) (theirs : IsOldestGreatest view others) where
   agree : (n i : ℕ) (d : ViewOffer) → (get_or view.offers i d).number < n → i < length view.offers → others (get_or view.offers i d).number ≡ lots (get_or view.offers i d).number

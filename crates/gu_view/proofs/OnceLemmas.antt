@@ -1,11 +1,5 @@
 -- Lists of numbers without repetition.
-use Rattle.std.proofs.Common.{◌≡◌, ◌≢◌, ℕ, zero, suc, ◌+◌, ◌<◌, ◌==◌, ◌||◌, Bool, true, false, cond, List, [], ◌∷◌, length, take, get_or, set, refl, sym, ap, ◌∙◌, arith, inl, inr}
-use Rattle.std.specs.Prelude.{AllPairs}
-use Rattle.std.specs.List.{list_any}
-use Rattle.std.proofs.lemmas.Bool.{cases_order, cond-false, cond-true, eq-eqb, ne_eqb, or_from, or_right}
-use Rattle.std.proofs.lemmas.List.{get_or-set_other}
-use Rattle.std.proofs.lemmas.List.Folds.{list_any_more}
-use Rattle.std.proofs.lemmas.Grind.{get_or-set_at}
+use Rattle.gu_view.proofs.Words.{◌≡◌, ◌≢◌, ℕ, zero, suc, ◌+◌, ◌<◌, ◌==◌, ◌||◌, Bool, true, false, cond, List, [], ◌∷◌, length, take, get_or, set, refl, sym, ap, ◌∙◌, arith, inl, inr, AllPairs, list_any, cases_order, cond-false, cond-true, eq-eqb, ne_eqb, or_from, or_right, get_or-set_other, list_any_more, get_or-set_at}
 use Rattle.gu_view.proofs.MemberLemmas.{has}
 
 -- in a list of distinct numbers, none occurs before its index

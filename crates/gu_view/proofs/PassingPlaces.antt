@@ -1,11 +1,5 @@
 -- The indexes at which the elements of a list pass a test, and sums over them.
-use Rattle.std.proofs.Common.{◌≡◌, ℕ, zero, suc, ◌+◌, ◌<◌, ◌≤◌, Bool, true, false, cond, List, [], ◌∷◌, length, get_or, refl, sym, ap, subst, ◌∙◌, arith, add-zero, inl, inr}
-use Rattle.std.specs.Prelude.{All, sum, sum_by}
-use Rattle.std.specs.List.{AllByRecursion}
-use Rattle.std.proofs.lemmas.Bool.{cases_Bool}
-use Rattle.std.proofs.lemmas.List.Elements.{All-from_recursion}
-use Rattle.std.proofs.lemmas.List.Sums.{sum_by-cons}
-use Rattle.gu_terms.proofs.Lists.{part-le}
+use Rattle.gu_view.proofs.Words.{◌≡◌, ℕ, zero, suc, ◌+◌, ◌<◌, ◌≤◌, Bool, true, false, cond, List, [], ◌∷◌, length, get_or, refl, sym, ap, subst, ◌∙◌, arith, add-zero, inl, inr, All, sum, sum_by, AllByRecursion, cases_Bool, All-from_recursion, sum_by-cons, part-le}
 use Rattle.gu_view.specs.Places.{places_from, places_where}
 
 -- a sum whose first number is kept or dropped

@@ -1,24 +1,6 @@
 -- The rooms of a view: one for each key on a path.
-use Rattle.std.proofs.Common.{◌≡◌, ◌≢◌, ℕ, ◌<◌, ◌||◌, not, Bool, true, false, List, [], ◌∷◌, Some, length, map, slice_get, refl, sym, ap, ◌∙◌, arith, inl, inr}
-use Rattle.std.specs.Prelude.{All, AllPairs, filter}
-use Rattle.std.specs.List.{AllByRecursion, list_any, position, flat_map}
-use Rattle.std.proofs.lemmas.Bool.{cases_Bool, or_left, or_right}
-use Rattle.std.proofs.lemmas.List.{length-map, get_or-map}
-use Rattle.std.proofs.lemmas.List.Elements.{All-from_recursion, recursion_from_All}
-use Rattle.std.specs.Option.{option_map}
-use Rattle.std.proofs.lemmas.List.Folds.{list_any_at}
-use Rattle.std.proofs.lemmas.Option.{slice_get_cases, slice_get_within, get_or_from_slice_get, slice_get-map, same_Some}
-use Rattle.gu_terms.specs.declared.limit_key.LimitKey.{LimitKey}
-use Rattle.gu_terms.specs.LimitKeys.{key_eq, has_key}
-use Rattle.gu_terms.proofs.KeyLemmas.{key_eq-same, key_eq-refl, key_eq-sym}
-use Rattle.std.proofs.Common.{get_or}
-use Rattle.std.proofs.lemmas.Bool.{not-true, cases_order}
-use Rattle.std.proofs.lemmas.List.Elements.{All-filter, filter_passes}
-use Rattle.gu_view.specs.Check.{has_room}
-use Rattle.gu_view.specs.declared.view.ViewOffer.{ViewOffer}
-use Rattle.gu_view.specs.declared.view.Room.{Room}
-use Rattle.gu_view.specs.View.{GroupView, IsView, firsts, keys_of, place_of, places_under}
-use Rattle.gu_terms.proofs.Lists.{Later, AllPairs-from_Later, along, list_any-map, list_any-flat_map, position_or_len-agree, position_or_len-map, position_or_len-within}
+use Rattle.gu_view.proofs.Words.{◌≡◌, ◌≢◌, ℕ, ◌<◌, ◌||◌, not, Bool, true, false, List, [], ◌∷◌, Some, length, map, slice_get, refl, sym, ap, ◌∙◌, arith, inl, inr, All, AllPairs, filter, AllByRecursion, list_any, flat_map, cases_Bool, or_left, or_right, length-map, get_or-map, All-from_recursion, recursion_from_All, option_map, list_any_at, slice_get_cases, slice_get_within, get_or_from_slice_get, slice_get-map, same_Some, LimitKey, key_eq, has_key, key_eq-same, key_eq-refl, key_eq-sym, get_or, not-true, cases_order, All-filter, filter_passes, has_room, ViewOffer, Room, GroupView, IsView, firsts, keys_of, place_of, places_under, Later, AllPairs-from_Later, along, list_any-map, list_any-flat_map, position_or_len-agree, position_or_len-map, position_or_len-within}
+use Rattle.std.specs.List.{position}
 use Rattle.gu_view.proofs.PassingPlaces.{places_where-within}
 
 -- removing a key removes no other key

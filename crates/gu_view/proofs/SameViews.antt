@@ -1,16 +1,11 @@
 -- The `==` of offers and of rooms is equality, and so is that of a view's four parts.
-use Rattle.std.proofs.Common.{◌≡◌, ◌&&◌, ◌==◌, Bool, refl, ap, ◌∙◌}
+use Rattle.gu_view.proofs.Words.{◌≡◌, ◌&&◌, ◌==◌, Bool, refl, ap, ◌∙◌, bytes_eq-Decides, slice_eq-Decides, eq, eq-Decides, ViewOffer, Room, GroupView}
 use Rattle.std.specs.Bool.{Decides}
 use Rattle.std.specs.Cmp.Lexicographic.{pointwise}
 use Rattle.std.specs.Str.{bytes_eq}
 use Rattle.std.proofs.lemmas.Bool.Decides.{Decides-and, Decides-eqb}
-use Rattle.std.proofs.lemmas.Slice.Eq.{bytes_eq-Decides, slice_eq-Decides}
-use Rattle.gu_terms.proofs.KeyLemmas.{eq, eq-Decides}
 use Rattle.gu_view.specs.contracts.view.ViewOfferPartialEq.TheImpl as offer
 use Rattle.gu_view.specs.contracts.view.RoomPartialEq.TheImpl as room
-use Rattle.gu_view.specs.declared.view.ViewOffer.{ViewOffer}
-use Rattle.gu_view.specs.declared.view.Room.{Room}
-use Rattle.gu_view.specs.View.{GroupView}
 
 -- the `==` of offers, and that of rooms
 abbrev pub offer_eq : ViewOffer → ViewOffer → Bool

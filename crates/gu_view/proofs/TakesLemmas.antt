@@ -1,38 +1,8 @@
 -- Takes next to the offers of a view.
-use Rattle.std.proofs.Common.{◌≡◌, ℕ, zero, suc, ◌+◌, ◌<◌, ◌≤◌, ◌||◌, ◌&&◌, ◌==◌, not, nat_lt, Bool, true, false, List, [], ◌∷◌, ◌++◌, Option, Some, None, length, map, take, drop, get_or, set, refl, sym, ap, ◌∙◌, arith, inl, inr}
-use Rattle.std.specs.Prelude.{AllPairs, find}
-use Rattle.std.specs.List.{AllByRecursion, list_any}
-use Rattle.std.specs.Option.{option_map, unwrap_or}
-use Rattle.std.proofs.lemmas.Bool.{cases_Bool, cases_order, eq-eqb, ne_eqb, lt-ltb, le-ltb, not-false}
-use Rattle.std.proofs.lemmas.List.{drop_more, take_more_set, map_more, length-drop, get_or-drop, get_or_default}
-use Rattle.std.proofs.lemmas.List.Elements.{recursion_from_All, All-from_recursion}
+use Rattle.gu_view.proofs.Words.{◌≡◌, ℕ, zero, suc, ◌+◌, ◌<◌, ◌≤◌, ◌||◌, ◌&&◌, ◌==◌, not, nat_lt, Bool, true, false, List, [], ◌∷◌, ◌++◌, Option, Some, None, length, map, take, drop, get_or, set, refl, sym, ap, ◌∙◌, arith, inl, inr, AllPairs, find, AllByRecursion, list_any, option_map, unwrap_or, cases_Bool, cases_order, eq-eqb, ne_eqb, lt-ltb, le-ltb, not-false, drop_more, take_more_set, map_more, length-drop, get_or-drop, get_or_default, recursion_from_All, All-from_recursion, IsAscending, lots_of, ViewOffer, Unknown, Offer as UnknownOffer, LimitKey, key_eq-same, key_eq-from, same_agreement, list_any_more, prefix_len_stops, sum_by_more, or-false, key_eq, Agr, Room, has_offer, has_older_rest, unknown_take, has_key, AreLots, split_of, lots_under, GroupView, IsView, place_of, places_under, IfSome, slice_get, sum_by, sum, zero-add, get_or-map, slice_get_cases, slice_get_within, slice_get-map, get_or_from_slice_get, IfSome_then, marked, find_more, Later, Later-from_AllPairs, along, none_any, none_found}
 use Rattle.gu_terms.specs.declared.takes.Take.{Take}
-use Rattle.gu_terms.specs.Takes.{IsAscending, lots_of}
-use Rattle.gu_view.specs.declared.view.ViewOffer.{ViewOffer}
 use Rattle.gu_view.specs.declared.error.CutFault.{CutFault}
-use Rattle.gu_view.specs.declared.error.CutFault.TheVariants.{Unknown}
-use Rattle.gu_view.specs.declared.error.Unknown.TheVariants.{Offer as UnknownOffer}
-use Rattle.gu_terms.specs.declared.limit_key.LimitKey.{LimitKey}
-use Rattle.gu_terms.proofs.KeyLemmas.{key_eq-same, key_eq-from}
 use Rattle.gu_view.proofs.RoomLemmas.{apart}
-use Rattle.gu_view.specs.Making.{same_agreement}
-use Rattle.std.proofs.lemmas.List.Folds.{list_any_more}
-use Rattle.std.proofs.lemmas.List.Sums.{prefix_len_stops, sum_by_more}
-use Rattle.std.proofs.Math.Bool.{or-false}
-use Rattle.gu_terms.specs.LimitKeys.{key_eq}
-use Rattle.gu_terms.specs.declared.limit_key.LimitKey.TheVariants.{Agr}
-use Rattle.gu_view.specs.declared.view.Room.{Room}
-use Rattle.gu_view.specs.Check.{has_offer, has_older_rest, unknown_take}
-use Rattle.gu_terms.specs.LimitKeys.{has_key}
-use Rattle.gu_view.specs.Marks.{AreLots, split_of}
-use Rattle.gu_view.specs.Takes.{lots_under}
-use Rattle.gu_view.specs.View.{GroupView, IsView, place_of, places_under}
-use Rattle.std.specs.Option.{IfSome}
-use Rattle.std.specs.Prelude.{slice_get, sum_by, sum}
-use Rattle.std.proofs.Common.{zero-add}
-use Rattle.std.proofs.lemmas.List.{get_or-map}
-use Rattle.std.proofs.lemmas.Option.{slice_get_cases, slice_get_within, slice_get-map, get_or_from_slice_get, IfSome_then}
-use Rattle.gu_terms.proofs.Lists.{marked, find_more, Later, Later-from_AllPairs, along, none_any, none_found}
 use Rattle.gu_view.proofs.PassingPlaces.{sum_by-places, sum_by-places-le}
 
 -- among offers with greater numbers none has a smaller one

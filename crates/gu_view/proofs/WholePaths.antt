@@ -1,19 +1,5 @@
 -- Whole paths: each key is at its step, so none is there twice, and each has an index of its own among the rooms.
-use Rattle.std.proofs.Common.{◌≡◌, ◌≢◌, ℕ, zero, suc, ◌<◌, List, Option, None, Some, length, map, get_or, slice_get, refl, sym, ap, ◌∙◌, arith}
-use Rattle.std.specs.Prelude.{AllPairs}
-use Rattle.std.proofs.lemmas.List.{get_or-map, length-map}
-use Rattle.std.proofs.lemmas.List.Elements.{All-from_recursion}
-use Rattle.std.proofs.lemmas.Option.{slice_get-get_or}
-use Rattle.gu_terms.specs.Paths.{path_through, ArePathKeys}
-use Rattle.gu_terms.specs.declared.account.AccountId.{AccountId}
-use Rattle.gu_terms.specs.declared.agreement.AgreementId.{AgreementId}
-use Rattle.gu_terms.specs.declared.firm.FirmId.{FirmId}
-use Rattle.gu_terms.specs.declared.limit_key.LimitKey.{LimitKey}
-use Rattle.gu_terms.specs.declared.limit_key.LimitKey.TheVariants.{Exec, Agr, Acct, Carry, Guar}
-use Rattle.gu_view.specs.Paths.{step_of}
-use Rattle.gu_view.specs.View.{IsPath, place_of}
-use Rattle.gu_view.specs.declared.view.Room.{Room}
-use Rattle.gu_view.specs.declared.view.ViewOffer.{ViewOffer}
+use Rattle.gu_view.proofs.Words.{◌≡◌, ◌≢◌, ℕ, zero, suc, ◌<◌, List, Option, None, Some, length, map, get_or, slice_get, refl, sym, ap, ◌∙◌, arith, AllPairs, get_or-map, length-map, All-from_recursion, slice_get-get_or, path_through, ArePathKeys, AccountId, AgreementId, FirmId, LimitKey, Exec, Agr, Acct, Carry, Guar, step_of, IsPath, place_of, Room, ViewOffer}
 use Rattle.gu_view.proofs.TakesLemmas.{key_at_place}
 
 -- each key is at its step

@@ -1,3 +1,4 @@
 pub mod ServeLemmas
 pub mod ValueLemmas
 pub mod WordLemmas
+pub mod Words

@@ -1,5 +1,4 @@
-use Rattle.std.proofs.Common.{Err, inl, inr, ap}
-use Rattle.gu_streams.proofs.Writing.{error_passed, on_err_from}
+use Rattle.gu_engine.proofs.Words.{Err, inl, inr, ap, error_passed, on_err_from}
 use Rattle.gu_engine.proofs.conversing.converse.Goals as goal
 
 pub returns-in_err-run-clause-answered : goal.returns-in_err-run-clause-answered

@@ -1,6 +1,4 @@
-use Rattle.std.proofs.Common.{arith, refl}
-use Rattle.std.proofs.lemmas.List.{take_rest, length-drop}
-use Rattle.gu_streams.proofs.Writing.{sent_more, sent_part, keeps_from_zero}
+use Rattle.gu_engine.proofs.Words.{arith, refl, take_rest, length-drop, sent_more, sent_part, keeps_from_zero}
 use Rattle.gu_engine.proofs.gate.write_some.Goals as goal
 
 pub parts-preserved : goal.parts-preserved

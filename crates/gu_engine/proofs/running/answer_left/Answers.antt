@@ -1,7 +1,4 @@
-use Rattle.std.proofs.Common.{◌<◌, ◌≤◌, ◌∷◌, [], ℕ, List, length, inl, inr, refl, sym, ap, subst, rules}
-use Rattle.gu_streams.proofs.Writing.{on_err_from}
-use Rattle.gu_engine.specs.Sends.{GivesAnswers, GivesPart, GivesSome}
-use Rattle.gu_engine.specs.declared.backlog.Backlog.{Backlog}
+use Rattle.gu_engine.proofs.Words.{◌<◌, ◌≤◌, ◌∷◌, [], ℕ, List, length, inl, inr, refl, sym, ap, subst, rules, on_err_from, GivesAnswers, GivesPart, GivesSome, Backlog}
 use Rattle.gu_engine.specs.declared.held.Held.{Held}
 use Rattle.gu_engine.proofs.Answering.{idle_now, so_far_begins, so_far_cut, so_far_ends, so_far_fails, so_far_more, so_far_none, so_far_part}
 use Rattle.gu_engine.proofs.Holding.{some_given, some_then}

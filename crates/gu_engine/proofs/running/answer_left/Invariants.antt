@@ -1,6 +1,4 @@
-use Rattle.std.proofs.Common.{◌≡◌, ◌⊎◌, ◌<◌, ◌≤◌, length, true}
-use Rattle.gu_engine.specs.Backlogs.{steps_left}
-use Rattle.gu_engine.specs.Sends.{GivesSome, IsReady}
+use Rattle.gu_engine.proofs.Words.{◌≡◌, ◌⊎◌, ◌<◌, ◌≤◌, length, true, steps_left, GivesSome, IsReady}
 use Rattle.gu_engine.proofs.Answering.{SoFar}
 use Rattle.gu_engine.proofs.running.answer_left.Given as goal
 

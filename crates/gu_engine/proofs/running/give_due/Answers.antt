@@ -1,5 +1,4 @@
-use Rattle.std.proofs.Common.{◌<◌, [], ◌++◌, length, inl, inr, sym, rules}
-use Rattle.gu_streams.proofs.Writing.{on_err_from}
+use Rattle.gu_engine.proofs.Words.{◌<◌, [], ◌++◌, length, inl, inr, sym, rules, on_err_from}
 use Rattle.gu_engine.proofs.Answering.{due_gives, due_more, part_more_due, some_none}
 use Rattle.gu_engine.proofs.Holding.{gives_nothing, gives_then}
 use Rattle.gu_engine.proofs.running.give_due.Goals as goal

@@ -1,6 +1,4 @@
-use Rattle.std.proofs.Common.{◌≡◌, ◌≤◌, [], ℕ, List, length, true}
-use Rattle.gu_engine.specs.Running.{AnswersSome}
-use Rattle.gu_engine.specs.Sends.{Gives}
+use Rattle.gu_engine.proofs.Words.{◌≡◌, ◌≤◌, [], ℕ, List, length, true, AnswersSome, Gives}
 use Rattle.gu_engine.proofs.running.give_due.Given as goal
 
 -- some of what is due was given

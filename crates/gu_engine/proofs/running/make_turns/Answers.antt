@@ -1,5 +1,4 @@
-use Rattle.std.proofs.Common.{◌≡◌, true, false, inl, inr, refl, subst, ap}
-use Rattle.gu_engine.specs.Turned.{IsTurned, is_last}
+use Rattle.gu_engine.proofs.Words.{◌≡◌, true, false, inl, inr, refl, subst, ap, IsTurned, is_last}
 use Rattle.gu_engine.proofs.Servings.{first_pause, is_first, none_is_held, part_of_served, part_of_so_far, part_of_turn, served_last, serving_none, serving_on, so_far_stopped}
 use Rattle.gu_engine.proofs.running.make_turns.Goals as goal
 

@@ -1,6 +1,4 @@
-use Rattle.std.proofs.Common.{◌≡◌, ◌+◌, None}
-use Rattle.gu_streams.specs.Reads.{reads_left, waits_left}
-use Rattle.gu_engine.specs.Turns.{IsPause, Pause}
+use Rattle.gu_engine.proofs.Words.{◌≡◌, ◌+◌, None, reads_left, waits_left, IsPause, Pause}
 use Rattle.gu_engine.proofs.Servings.{Serving}
 use Rattle.gu_engine.proofs.running.make_turns.Given as goal
 

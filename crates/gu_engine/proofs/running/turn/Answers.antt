@@ -1,8 +1,4 @@
-use Rattle.std.proofs.Common.{◌<◌, ◌≤◌, [], length, None, Some, inr, refl, sym, subst, ◌∙◌, rules}
-use Rattle.gu_streams.proofs.Writing.{on_err_from}
-use Rattle.gu_engine.specs.Sends.{Gives}
-use Rattle.gu_engine.specs.Turned.{TurnsToPart, work_of}
-use Rattle.gu_engine.specs.declared.backlog.Backlog.{Backlog}
+use Rattle.gu_engine.proofs.Words.{◌<◌, ◌≤◌, [], length, None, Some, inr, refl, sym, subst, ◌∙◌, rules, on_err_from, Gives, TurnsToPart, work_of, Backlog}
 use Rattle.gu_engine.specs.declared.held.Held.{Held}
 use Rattle.gu_engine.proofs.Answering.{part_some}
 use Rattle.gu_engine.proofs.Holding.{fewer_held, gives_nothing, gives_then, some_given, some_then}

@@ -1,5 +1,4 @@
-use Rattle.std.proofs.Common.{◌∙◌, ap, sym}
-use Rattle.std.specs.Option.{option_map}
+use Rattle.gu_limits.proofs.Words.{◌∙◌, ap, sym, option_map}
 use Rattle.gu_limits.proofs.RowsBetween.{partner-none, partner-path}
 use Rattle.gu_limits.proofs.paths.path_between.Goals as goal
 

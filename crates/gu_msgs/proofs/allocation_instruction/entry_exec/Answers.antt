@@ -1,9 +1,4 @@
-use Rattle.std.proofs.Common.{◌∙◌, [], Some, ap, arith, refl}
-use Rattle.std.proofs.lemmas.Result.{err_from_is_err_and}
-use Rattle.gu_msgs.specs.Tables.{entry_rows}
-use Rattle.gu_msgs.specs.declared.row.Kind.TheVariants.{Id}
-use Rattle.gu_msgs.specs.declared.row.Row.TheVariants.{Required}
-use Rattle.gu_msgs.specs.declared.tags.TheConstants.{EXEC_ID, NO_EXECS}
+use Rattle.gu_msgs.proofs.Words.{◌∙◌, [], Some, ap, arith, refl, err_from_is_err_and, entry_rows, Id, Required, EXEC_ID, NO_EXECS}
 use Rattle.gu_msgs.proofs.OutlineLemmas.{entry_first, entry_refused, entry_sound, tag_stands}
 use Rattle.gu_msgs.proofs.allocation_instruction.entry_exec.Goals as goal
 

@@ -1,11 +1,4 @@
-use Rattle.std.proofs.Common.{◌≡◌, ◌<◌, ◌∙◌, List, ap, arith, length, refl, subst}
-use Rattle.std.proofs.lemmas.Result.{err_from_is_err_and}
-use Rattle.std.specs.List.{flat_map}
-use Rattle.gu_msgs.specs.Groups.{entries_by}
-use Rattle.gu_msgs.specs.Items.{Item, items_of}
-use Rattle.gu_msgs.specs.Outlines.{IsRefusedOf, entries_at, entry_rows_at}
-use Rattle.gu_msgs.specs.Tables.{body_rows, entry_rows, header_rows, outer_rows}
-use Rattle.gu_msgs.specs.declared.tags.TheConstants.{ALLOC_ACCOUNT, NO_ALLOCS}
+use Rattle.gu_msgs.proofs.Words.{◌≡◌, ◌<◌, ◌∙◌, List, ap, arith, length, refl, subst, err_from_is_err_and, flat_map, entries_by, Item, items_of, IsRefusedOf, entries_at, entry_rows_at, body_rows, entry_rows, header_rows, outer_rows, ALLOC_ACCOUNT, NO_ALLOCS}
 use Rattle.gu_msgs.proofs.AllocLemmas.{length-allocs}
 use Rattle.gu_msgs.proofs.OutlineLemmas.{group_refused}
 use Rattle.gu_msgs.proofs.allocation_instruction.lines.Goals as goal

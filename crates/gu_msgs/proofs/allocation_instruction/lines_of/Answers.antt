@@ -1,11 +1,4 @@
-use Rattle.std.proofs.Common.{◌∷◌, [], None, Some, List, ap, append_assoc, arith, length}
-use Rattle.std.proofs.lemmas.List.{append-nil}
-use Rattle.std.proofs.lemmas.Result.{err_from_is_err_and}
-use Rattle.std.specs.List.{flat_map}
-use Rattle.gu_msgs.specs.Groups.{entries_by}
-use Rattle.gu_msgs.specs.Items.{Item, items_of}
-use Rattle.gu_msgs.specs.Tables.{entry_rows}
-use Rattle.gu_msgs.specs.declared.tags.TheConstants.{ALLOC_ACCOUNT, NO_ALLOCS}
+use Rattle.gu_msgs.proofs.Words.{◌∷◌, [], None, Some, List, ap, append_assoc, arith, length, append-nil, err_from_is_err_and, flat_map, entries_by, Item, items_of, entry_rows, ALLOC_ACCOUNT, NO_ALLOCS}
 use Rattle.gu_msgs.proofs.ItemLemmas.{behind_sound, fault_before}
 use Rattle.gu_msgs.proofs.OutlineLemmas.{entries_refused, later_tags}
 use Rattle.gu_msgs.proofs.allocation_instruction.lines_of.Goals as goal

@@ -1,14 +1,5 @@
 use Rattle.std.specs.Vec.{vec_capacity, vec_len}
-use Rattle.std.proofs.Common.{◌≡◌, ◌≤◌, ◌+◌, ◌++◌, List, Option, None, length}
-use Rattle.std.specs.List.{flat_map}
-use Rattle.gu_terms.specs.declared.lines.Line.{Line}
-use Rattle.gu_msgs.specs.Groups.{entries_by}
-use Rattle.gu_msgs.specs.Items.{items_of}
-use Rattle.gu_msgs.specs.Messages.{AreAllocs}
-use Rattle.gu_msgs.specs.Shape.{entries_fault}
-use Rattle.gu_msgs.specs.Tables.{entry_rows}
-use Rattle.gu_msgs.specs.declared.fault.Fault.{Fault}
-use Rattle.gu_msgs.specs.declared.tags.TheConstants.{ALLOC_ACCOUNT, NO_ALLOCS}
+use Rattle.gu_msgs.proofs.Words.{◌≡◌, ◌≤◌, ◌+◌, ◌++◌, List, Option, None, length, flat_map, Line, entries_by, items_of, AreAllocs, entries_fault, entry_rows, Fault, ALLOC_ACCOUNT, NO_ALLOCS}
 use Rattle.gu_msgs.proofs.ItemLemmas.{HasFirst}
 use Rattle.gu_msgs.proofs.allocation_instruction.lines_of.Given as goal
 

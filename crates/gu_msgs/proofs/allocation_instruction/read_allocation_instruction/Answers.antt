@@ -1,13 +1,4 @@
-use Rattle.std.proofs.Common.{◌≡◌, ◌∙◌, ℕ, Some, ap, inr, map, subst, sym}
-use Rattle.std.proofs.lemmas.Result.{err_from_is_err_and}
-use Rattle.gu_terms.specs.Lines.{lots_in_all}
-use Rattle.gu_terms.specs.NumberText.{MeansLots}
-use Rattle.gu_terms.specs.declared.lines.Line.{Line}
-use Rattle.gu_msgs.specs.Tables.{body_rows, header_rows}
-use Rattle.gu_msgs.specs.Values.{Holds}
-use Rattle.gu_msgs.specs.declared.fault.Fault.{Fault}
-use Rattle.gu_msgs.specs.declared.msg_type.MsgType.TheVariants.{AllocationInstruction}
-use Rattle.gu_msgs.specs.declared.tags.TheConstants.{QUANTITY}
+use Rattle.gu_msgs.proofs.Words.{◌≡◌, ◌∙◌, ℕ, Some, ap, inr, map, subst, sym, err_from_is_err_and, lots_in_all, MeansLots, Line, body_rows, header_rows, Holds, Fault, AllocationInstruction, QUANTITY}
 use Rattle.gu_msgs.proofs.AllocLemmas.{quantities, sum_of_lines}
 use Rattle.gu_msgs.proofs.OutlineLemmas.{of_type, refused, sound_values}
 use Rattle.gu_msgs.proofs.allocation_instruction.read_allocation_instruction.Goals as goal

@@ -1,5 +1,4 @@
-use Rattle.std.proofs.Common.{◌≡◌, ◌∙◌, ◌+◌, ◌++◌, ◌∷◌, [], drop, arith, ap, sym, append_assoc}
-use Rattle.std.proofs.lemmas.List.{at_drop_more}
+use Rattle.gu_msgs.proofs.Words.{◌≡◌, ◌∙◌, ◌+◌, ◌++◌, ◌∷◌, [], drop, arith, ap, sym, append_assoc, at_drop_more}
 use Rattle.gu_msgs.specs.Answering.{position_report, reports_from}
 use Rattle.gu_msgs.proofs.answering.push_reports.Goals as goal
 

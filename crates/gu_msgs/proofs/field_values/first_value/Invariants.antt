@@ -1,5 +1,4 @@
-use Rattle.std.proofs.Common.{◌≡◌}
-use Rattle.gu_msgs.specs.Values.{first_value}
+use Rattle.gu_msgs.proofs.Words.{◌≡◌, first_value}
 use Rattle.gu_msgs.proofs.field_values.first_value.Given as goal
 
 abbrev pub invariant-loop-field : goal.invariant-loop-field

@@ -1,5 +1,4 @@
-use Rattle.std.proofs.Common.{◌≡◌, ◌==◌, length}
-use Rattle.gu_msgs.specs.Groups.{entries_by}
+use Rattle.gu_msgs.proofs.Words.{◌≡◌, ◌==◌, length, entries_by}
 use Rattle.gu_msgs.proofs.groups.has_entries.Given as goal
 
 abbrev pub invariant-loop-field : goal.invariant-loop-field

@@ -1,7 +1,4 @@
-use Rattle.std.proofs.Common.{◌≡◌, ◌+◌, length}
-use Rattle.gu_msgs.specs.Groups.{up_to}
-use Rattle.gu_msgs.specs.Rows.{is_listed}
-use Rattle.gu_msgs.specs.Tables.{outer_rows}
+use Rattle.gu_msgs.proofs.Words.{◌≡◌, ◌+◌, length, up_to, is_listed, outer_rows}
 use Rattle.gu_msgs.proofs.groups.left_from_outer.Given as goal
 
 abbrev pub invariant-loop-field : goal.invariant-loop-field

@@ -1,5 +1,4 @@
-use Rattle.std.proofs.Common.{◌≡◌, ◌+◌, ◌==◌, length}
-use Rattle.gu_msgs.specs.Groups.{up_to}
+use Rattle.gu_msgs.proofs.Words.{◌≡◌, ◌+◌, ◌==◌, length, up_to}
 use Rattle.gu_msgs.proofs.groups.left_from_tag.Given as goal
 
 abbrev pub invariant-loop-field : goal.invariant-loop-field

@@ -1,5 +1,4 @@
-use Rattle.gu_fix.specs.TagValue.{tag_value}
-use Rattle.std.proofs.Common.{◌∙◌}
+use Rattle.gu_msgs.proofs.Words.{tag_value, ◌∙◌}
 use Rattle.gu_msgs.proofs.GroupLemmas.{entry_in_front}
 use Rattle.gu_msgs.proofs.groups.next_entry.Goals as goal
 

@@ -1,5 +1,4 @@
-use Rattle.std.proofs.Common.{◌≡◌}
-use Rattle.gu_msgs.specs.Groups.{entries_by}
+use Rattle.gu_msgs.proofs.Words.{◌≡◌, entries_by}
 use Rattle.gu_msgs.proofs.groups.next_entry.Given as goal
 
 abbrev pub invariant-loop-field : goal.invariant-loop-field

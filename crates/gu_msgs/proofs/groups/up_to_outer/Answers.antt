@@ -1,6 +1,4 @@
-use Rattle.std.proofs.Common.{◌∙◌}
-use Rattle.gu_msgs.specs.Rows.{is_listed}
-use Rattle.gu_msgs.specs.Tables.{outer_rows}
+use Rattle.gu_msgs.proofs.Words.{◌∙◌, is_listed, outer_rows}
 use Rattle.gu_msgs.proofs.GroupLemmas.{first_up_to}
 use Rattle.gu_msgs.proofs.groups.up_to_outer.Goals as goal
 

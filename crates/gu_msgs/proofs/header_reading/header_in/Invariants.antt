@@ -1,7 +1,5 @@
-use Rattle.std.proofs.Common.{◌≡◌}
+use Rattle.gu_msgs.proofs.Words.{◌≡◌, only_value, MSG_SEQ_NUM, POSS_DUP_FLAG, SENDER_COMP_ID, TARGET_COMP_ID}
 use Rattle.gu_msgs.specs.HeaderWalk.{only_after}
-use Rattle.gu_msgs.specs.Values.{only_value}
-use Rattle.gu_msgs.specs.declared.tags.TheConstants.{MSG_SEQ_NUM, POSS_DUP_FLAG, SENDER_COMP_ID, TARGET_COMP_ID}
 use Rattle.gu_msgs.proofs.header_reading.header_in.Given as goal
 
 abbrev pub invariant-loop-field : goal.invariant-loop-field

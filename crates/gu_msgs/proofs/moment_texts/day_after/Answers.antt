@@ -1,5 +1,4 @@
-use Rattle.std.proofs.Common.{FitsSigned, w16, arith, rules}
-use Rattle.std.proofs.lemmas.Int.{ints, to_z-of_z}
+use Rattle.gu_msgs.proofs.Words.{FitsSigned, w16, arith, rules, ints, to_z-of_z}
 use Rattle.gu_msgs.proofs.DateLemmas.{is_day, late_year, year_number}
 use Rattle.gu_msgs.proofs.moment_texts.day_after.Goals as goal
 

@@ -1,5 +1,4 @@
-use Rattle.std.proofs.Common.{◌≡◌, ◌++◌, ◌∷◌, [], ℕ, List, length, take, drop, append_assoc, arith, ap, sym}
-use Rattle.std.proofs.lemmas.List.{append-nil, drop_at, length-append, take_at}
+use Rattle.gu_msgs.proofs.Words.{◌≡◌, ◌++◌, ◌∷◌, [], ℕ, List, length, take, drop, append_assoc, arith, ap, sym, append-nil, drop_at, length-append, take_at}
 use Rattle.gu_msgs.proofs.moment_texts.joined.Goals as goal
 
 -- twelve bytes to be overwritten

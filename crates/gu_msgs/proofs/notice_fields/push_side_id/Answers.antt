@@ -1,6 +1,4 @@
-use Rattle.std.proofs.Common.{◌≤◌, arith}
-use Rattle.gu_terms.specs.declared.side.Side.{Side}
-use Rattle.gu_terms.specs.declared.side.Side.TheVariants.{Buy, Sell}
+use Rattle.gu_msgs.proofs.Words.{◌≤◌, arith, Side, Buy, Sell}
 use Rattle.gu_msgs.specs.CodedValues.{side_letter}
 use Rattle.gu_msgs.proofs.PlainTexts.{plain_side_id}
 use Rattle.gu_msgs.proofs.notice_fields.push_side_id.Goals as goal

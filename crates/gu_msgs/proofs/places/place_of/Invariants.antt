@@ -1,5 +1,4 @@
-use Rattle.std.proofs.Common.{◌≡◌, false, take}
-use Rattle.gu_msgs.specs.Rows.{is_listed}
+use Rattle.gu_msgs.proofs.Words.{◌≡◌, false, take, is_listed}
 use Rattle.gu_msgs.proofs.places.place_of.Given as goal
 
 abbrev pub invariant-loop-place : goal.invariant-loop-place

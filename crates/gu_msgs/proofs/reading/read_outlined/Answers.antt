@@ -1,8 +1,4 @@
-use Rattle.std.proofs.Common.{◌≡◌, ◌<◌, [], arith, length, refl}
-use Rattle.gu_msgs.specs.Items.{IsSoundItem, item_of}
-use Rattle.gu_msgs.specs.Outlines.{row, tag_at}
-use Rattle.gu_msgs.specs.Tables.{body_rows, entry_rows, header_rows, outer_rows}
-use Rattle.gu_msgs.specs.declared.msg_type.MsgType.TheVariants.{Heartbeat, Logout, Reject}
+use Rattle.gu_msgs.proofs.Words.{◌≡◌, ◌<◌, [], arith, length, refl, IsSoundItem, item_of, row, tag_at, body_rows, entry_rows, header_rows, outer_rows, Heartbeat, Logout, Reject}
 use Rattle.gu_msgs.proofs.OutlineLemmas.{any_text, of_type, one_more}
 use Rattle.gu_msgs.proofs.reading.read_outlined.Goals as goal
 

@@ -1,7 +1,4 @@
-use Rattle.std.proofs.Common.{◌∙◌, ap, arith, inl, inr, sym}
-use Rattle.gu_msgs.specs.Tables.{body_rows, header_rows}
-use Rattle.gu_msgs.specs.declared.fault.Fault.{Fault}
-use Rattle.gu_msgs.specs.declared.msg_type.MsgType.TheVariants.{ResendRequest}
+use Rattle.gu_msgs.proofs.Words.{◌∙◌, ap, arith, inl, inr, sym, body_rows, header_rows, Fault, ResendRequest}
 use Rattle.gu_msgs.proofs.OutlineLemmas.{of_type, sound_values}
 use Rattle.gu_msgs.proofs.session_messages.read_resend_request.Goals as goal
 

@@ -1,6 +1,4 @@
-use Rattle.std.proofs.Common.{◌≡◌, length}
-use Rattle.gu_msgs.specs.Groups.{entries_by}
-use Rattle.gu_msgs.specs.Shape.{entries_fault}
+use Rattle.gu_msgs.proofs.Words.{◌≡◌, length, entries_by, entries_fault}
 use Rattle.gu_msgs.proofs.shape.entries_fault.Given as goal
 
 abbrev pub invariant-loop-entry : goal.invariant-loop-entry

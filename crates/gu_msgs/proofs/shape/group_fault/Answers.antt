@@ -1,5 +1,4 @@
-use Rattle.std.proofs.Common.{subst, sym}
-use Rattle.gu_msgs.specs.Standings.{IsTable}
+use Rattle.gu_msgs.proofs.Words.{subst, sym, IsTable}
 use Rattle.gu_msgs.proofs.TableLemmas.{entry_table}
 use Rattle.gu_msgs.proofs.shape.group_fault.Goals as goal
 

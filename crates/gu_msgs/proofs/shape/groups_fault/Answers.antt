@@ -1,12 +1,4 @@
-use Rattle.std.proofs.Common.{◌≡◌, ◌∙◌, List, Option, ap, sym}
-use Rattle.std.specs.Option.{option_or}
-use Rattle.gu_fix.specs.TagValue.{TagValue}
-use Rattle.gu_msgs.specs.Shape.{group_fault, groups_fault}
-use Rattle.gu_msgs.specs.Tables.{body_rows}
-use Rattle.gu_msgs.specs.declared.fault.Fault.{Fault}
-use Rattle.gu_msgs.specs.declared.msg_type.MsgType.{MsgType}
-use Rattle.gu_msgs.specs.declared.msg_type.MsgType.TheVariants.{AllocationInstruction}
-use Rattle.gu_msgs.specs.declared.tags.TheConstants.{NO_ALLOCS, NO_EXECS, NO_SIDES}
+use Rattle.gu_msgs.proofs.Words.{◌≡◌, ◌∙◌, List, Option, ap, sym, option_or, TagValue, group_fault, groups_fault, body_rows, Fault, MsgType, AllocationInstruction, NO_ALLOCS, NO_EXECS, NO_SIDES}
 use Rattle.gu_msgs.proofs.GroupFaults.{executions_stand, give_up_groups, lines_stand, no_groups, report_groups, sides_stand}
 use Rattle.gu_msgs.proofs.shape.groups_fault.Goals as goal
 

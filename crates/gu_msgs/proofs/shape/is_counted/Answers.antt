@@ -1,7 +1,4 @@
-use Rattle.std.proofs.Common.{arith, sym, length}
-use Rattle.std.specs.Str.Parse.{digits_value}
-use Rattle.std.proofs.lemmas.Bool.{ne_eqb}
-use Rattle.gu_msgs.specs.Groups.{entries_by}
+use Rattle.gu_msgs.proofs.Words.{arith, sym, length, digits_value, ne_eqb, entries_by}
 use Rattle.gu_msgs.proofs.GroupLemmas.{length-entries_by}
 use Rattle.gu_msgs.proofs.shape.is_counted.Goals as goal
 

@@ -1,5 +1,4 @@
-use Rattle.std.proofs.Common.{subst, sym}
-use Rattle.gu_msgs.specs.Standings.{IsTable}
+use Rattle.gu_msgs.proofs.Words.{subst, sym, IsTable}
 use Rattle.gu_msgs.proofs.TableLemmas.{outer_table}
 use Rattle.gu_msgs.proofs.shape.typed_fault.Goals as goal
 

@@ -1,7 +1,4 @@
-use Rattle.std.proofs.Common.{◌≡◌, ◌&&◌, not, false, ap, sym, ◌∙◌, slice_index}
-use Rattle.gu_msgs.specs.Rows.{is_required, tag_of}
-use Rattle.gu_msgs.specs.Standings.{row_at}
-use Rattle.gu_msgs.specs.Values.{stands}
+use Rattle.gu_msgs.proofs.Words.{◌≡◌, ◌&&◌, not, false, ap, sym, ◌∙◌, slice_index, is_required, tag_of, row_at, stands}
 use Rattle.gu_msgs.proofs.StandingLemmas.{and_false, not_missing, stands_numbered}
 use Rattle.gu_msgs.proofs.standings.missing.Goals as goal
 use Rattle.gu_msgs.proofs.standings.missing.Goals.{else-is_required-via-then-is_required+else-numbers-place-eq0, else-is_required-via-else-is_required}

@@ -1,7 +1,4 @@
-use Rattle.std.proofs.Common.{◌≡◌, List, drop}
-use Rattle.gu_fix.specs.TagValue.{TagValue}
-use Rattle.gu_msgs.specs.Shape.{missing}
-use Rattle.gu_msgs.specs.Standings.{AreStandings}
+use Rattle.gu_msgs.proofs.Words.{◌≡◌, List, drop, TagValue, missing, AreStandings}
 use Rattle.gu_msgs.proofs.standings.missing.Given as goal
 
 abbrev pub invariant-loop-place : goal.invariant-loop-place

@@ -1,5 +1,4 @@
-use Rattle.std.proofs.Common.{arith}
-use Rattle.gu_fix.specs.TagValue.{tag_value}
+use Rattle.gu_msgs.proofs.Words.{arith, tag_value}
 use Rattle.gu_msgs.proofs.StandingLemmas.{found_again, noted_on}
 use Rattle.gu_msgs.proofs.standings.standings.Goals as goal
 

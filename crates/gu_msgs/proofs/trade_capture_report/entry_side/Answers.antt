@@ -1,10 +1,4 @@
-use Rattle.std.proofs.Common.{◌∙◌, ◌∷◌, [], Some, ap, arith, refl}
-use Rattle.std.proofs.lemmas.Result.{err_from_is_err_and}
-use Rattle.gu_msgs.specs.Items.{IsSoundItem, item_of}
-use Rattle.gu_msgs.specs.Tables.{entry_rows}
-use Rattle.gu_msgs.specs.declared.row.Kind.TheVariants.{Name, Number}
-use Rattle.gu_msgs.specs.declared.row.Row.TheVariants.{Required}
-use Rattle.gu_msgs.specs.declared.tags.TheConstants.{ACCOUNT, NO_SIDES, SIDE}
+use Rattle.gu_msgs.proofs.Words.{◌∙◌, ◌∷◌, [], Some, ap, arith, refl, err_from_is_err_and, IsSoundItem, item_of, entry_rows, Name, Number, Required, ACCOUNT, NO_SIDES, SIDE}
 use Rattle.gu_msgs.proofs.OutlineLemmas.{entry_first, entry_refused, entry_second, entry_sound, tag_stands}
 use Rattle.gu_msgs.proofs.trade_capture_report.entry_side.Goals as goal
 

@@ -1,7 +1,4 @@
-use Rattle.std.proofs.Common.{◌≡◌, ◌<◌, arith, length, refl}
-use Rattle.gu_msgs.specs.Outlines.{entry_rows_at}
-use Rattle.gu_msgs.specs.Tables.{body_rows, entry_rows, header_rows, outer_rows}
-use Rattle.gu_msgs.specs.declared.tags.TheConstants.{NO_SIDES}
+use Rattle.gu_msgs.proofs.Words.{◌≡◌, ◌<◌, arith, length, refl, entry_rows_at, body_rows, entry_rows, header_rows, outer_rows, NO_SIDES}
 use Rattle.gu_msgs.proofs.OutlineLemmas.{one_entry_read}
 use Rattle.gu_msgs.proofs.trade_capture_report.one_side.Goals as goal
 

@@ -1,11 +1,4 @@
-use Rattle.std.proofs.Common.{◌≡◌, ◌∙◌, Option, None, Some, ap, sym}
-use Rattle.gu_terms.specs.Days.{WritesDay}
-use Rattle.gu_terms.specs.declared.day.Day.{Day}
-use Rattle.gu_msgs.specs.Messages.{GivesDay}
-use Rattle.gu_msgs.specs.Outlines.{MayMean, Outlined}
-use Rattle.gu_msgs.specs.Tables.{body_rows, header_rows}
-use Rattle.gu_msgs.specs.declared.msg_type.MsgType.TheVariants.{TradeCaptureReport}
-use Rattle.gu_msgs.specs.declared.tags.TheConstants.{TRADE_DATE}
+use Rattle.gu_msgs.proofs.Words.{◌≡◌, ◌∙◌, Option, None, Some, ap, sym, WritesDay, Day, GivesDay, MayMean, Outlined, body_rows, header_rows, TradeCaptureReport, TRADE_DATE}
 use Rattle.gu_msgs.proofs.OutlineLemmas.{of_type}
 use Rattle.gu_msgs.proofs.trade_capture_report.read_trade_capture_report.Goals as goal
 

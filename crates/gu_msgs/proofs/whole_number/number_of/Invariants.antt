@@ -1,5 +1,4 @@
-use Rattle.std.proofs.Common.{◌≡◌, take}
-use Rattle.std.specs.Str.Parse.{digits_value}
+use Rattle.gu_msgs.proofs.Words.{◌≡◌, take, digits_value}
 use Rattle.gu_msgs.proofs.whole_number.number_of.Given as goal
 
 abbrev pub invariant-loop-digit : goal.invariant-loop-digit

@@ -1,9 +1,5 @@
-use Rattle.std.proofs.Common.{◌≡◌, ◌<◌, get_or, subst, take, ◌∙◌, ap, sym, arith}
-use Rattle.std.proofs.lemmas.Int.Digits.{digits_value_more, digits_more}
-use Rattle.std.proofs.lemmas.List.{take_all}
+use Rattle.gu_msgs.proofs.Words.{◌≡◌, ◌<◌, get_or, subst, take, ◌∙◌, ap, sym, arith, digits_value_more, digits_more, take_all, digit_value, AllDigits, digits_value}
 use Rattle.std.proofs.lemmas.Str.{digit_value_digit}
-use Rattle.std.specs.Char.{digit_value}
-use Rattle.std.specs.Str.Parse.{AllDigits, digits_value}
 use Rattle.gu_msgs.proofs.Numerals.{numeral_from_digits, value_short}
 use Rattle.gu_msgs.proofs.whole_number.short_number.Goals as goal
 

@@ -1,7 +1,5 @@
-use Rattle.std.proofs.Common.{sym}
-use Rattle.gu_positions.specs.Kept.{same_key}
+use Rattle.gu_positions.proofs.Words.{sym, same_key, lookup-standing}
 use Rattle.gu_positions.proofs.Places.{same_key-laws, same_key-true}
-use Rattle.gu_terms.proofs.Standing.{lookup-standing}
 use Rattle.gu_positions.proofs.positions.held_at.Goals as goal
 
 pub returns : goal.returns

@@ -1,10 +1,5 @@
-use Rattle.std.proofs.Common.{◌∙◌, [], ◌∷◌, Some, slice_get, sym}
-use Rattle.indexmap.proofs.CallerLemmas.{insert_entry-new}
-use Rattle.gu_terms.specs.declared.symbol.Symbol.{Symbol}
-use Rattle.gu_terms.specs.Same.{same_symbol}
+use Rattle.gu_positions.proofs.Words.{◌∙◌, [], ◌∷◌, Some, slice_get, sym, insert_entry-new, Symbol, same_symbol, same_symbol-true, found_key}
 use Rattle.gu_terms.proofs.Found.{by_name}
-use Rattle.gu_terms.proofs.SameNames.{same_symbol-true}
-use Rattle.gu_terms.proofs.Standing.{found_key}
 use Rattle.gu_positions.proofs.RowNumbers.{slice_get-append, slice_get-last}
 use Rattle.gu_positions.proofs.positions.know.Goals as goal
 

@@ -1,7 +1,5 @@
-use Rattle.std.proofs.Common.{◌∙◌, Some}
-use Rattle.gu_positions.specs.Kept.{same_key}
+use Rattle.gu_positions.proofs.Words.{◌∙◌, Some, same_key, found_key}
 use Rattle.gu_positions.proofs.Places.{same_key-laws, same_key-true}
-use Rattle.gu_terms.proofs.Standing.{found_key}
 use Rattle.gu_positions.proofs.positions.number_of.Goals as goal
 
 pub returns-clause-at : goal.returns-clause-at

@@ -1,12 +1,5 @@
-use Rattle.std.proofs.Common.{◌≡◌, ◌+◌, ◌-◌, ℕ, Some, ap, arith, slice_get, subst, sym, unwrap_or}
-use Rattle.indexmap.specs.IndexMap.{IndexMap, IsUnique, Updates, get, values, with_value_at}
-use Rattle.indexmap.proofs.CallerLemmas.{updates-with_value_at}
-use Rattle.gu_terms.specs.declared.symbol.Symbol.{Symbol}
-use Rattle.gu_terms.specs.Same.{same_symbol}
-use Rattle.gu_terms.specs.Standing.{StandsAt}
+use Rattle.gu_positions.proofs.Words.{◌≡◌, ◌+◌, ◌-◌, ℕ, Some, ap, arith, slice_get, subst, sym, unwrap_or, IndexMap, IsUnique, Updates, get, values, with_value_at, updates-with_value_at, Symbol, same_symbol, StandsAt, same_symbol-true, lookup-standing}
 use Rattle.gu_terms.proofs.Found.{by_name}
-use Rattle.gu_terms.proofs.SameNames.{same_symbol-true}
-use Rattle.gu_terms.proofs.Standing.{lookup-standing}
 use Rattle.gu_positions.proofs.RowNumbers.{stands-set_value_at}
 use Rattle.gu_positions.proofs.positions.settle.Goals as goal
 

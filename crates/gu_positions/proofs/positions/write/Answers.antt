@@ -1,7 +1,5 @@
-use Rattle.indexmap.proofs.CallerLemmas.{updates-with_value_at}
-use Rattle.gu_positions.specs.Kept.{same_key}
+use Rattle.gu_positions.proofs.Words.{updates-with_value_at, same_key, set_value_at-standing}
 use Rattle.gu_positions.proofs.Places.{same_key-laws, same_key-true}
-use Rattle.gu_terms.proofs.Standing.{set_value_at-standing}
 use Rattle.gu_positions.proofs.positions.write.Goals as goal
 
 pub returns-clause-entries : goal.returns-clause-entries

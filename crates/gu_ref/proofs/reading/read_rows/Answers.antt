@@ -1,8 +1,4 @@
-use Rattle.std.proofs.Common.{◌∙◌, sym, refl, ap, inl, inr, []}
-use Rattle.std.specs.Option.{option_map}
-use Rattle.csv.specs.Reading.{Reached, error_kind, strip_bom}
-use Rattle.csv.specs.Records.{fields_of}
-use Rattle.gu_ref.specs.Growth.{row_count}
+use Rattle.gu_ref.proofs.Words.{◌∙◌, sym, refl, ap, inl, inr, [], option_map, Reached, error_kind, strip_bom, fields_of, row_count}
 use Rattle.gu_ref.proofs.FileLemmas.{accepted-none}
 use Rattle.gu_ref.proofs.ReadSoFar.{more, passed_on, refused_row, refuses-failure, stops-flexible, whole}
 use Rattle.gu_ref.proofs.reading.read_rows.Goals as goal

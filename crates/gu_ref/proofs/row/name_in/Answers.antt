@@ -1,6 +1,4 @@
-use Rattle.std.proofs.Common.{◌∙◌, sym, ap}
-use Rattle.std.specs.Option.{option_map}
-use Rattle.gu_ref.specs.Rows.{name_in}
+use Rattle.gu_ref.proofs.Words.{◌∙◌, sym, ap, option_map, name_in}
 use Rattle.gu_terms.proofs.NameTests.{name_made}
 use Rattle.gu_ref.proofs.row.name_in.Goals as goal
 

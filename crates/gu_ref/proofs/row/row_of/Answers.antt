@@ -1,6 +1,4 @@
-use Rattle.std.proofs.Common.{◌∙◌, sym, ap}
-use Rattle.std.specs.Option.{option_map}
-use Rattle.gu_ref.specs.Rows.{name_in}
+use Rattle.gu_ref.proofs.Words.{◌∙◌, sym, ap, option_map, name_in}
 use Rattle.gu_ref.proofs.RowReading.{no_kind, no_first, one, no_second, two, no_third, three_names, too_long}
 use Rattle.gu_ref.proofs.row.row_of.Goals as goal
 

@@ -1,5 +1,4 @@
-use Rattle.std.proofs.Common.{◌≡◌, drop}
-use Rattle.gu_session.specs.AnswerRules.{asked_by}
+use Rattle.gu_session.proofs.Words.{◌≡◌, drop, asked_by}
 use Rattle.gu_session.proofs.answers.asked_by.Given as goal
 
 -- none of the earlier ones has the reference

@@ -1,6 +1,5 @@
-use Rattle.std.proofs.Common.{◌==◌, not, rules}
+use Rattle.gu_session.proofs.Words.{◌==◌, not, rules, Waiting}
 use Rattle.std.proofs.lemmas.Fn.{filter_same}
-use Rattle.gu_session.specs.declared.logged_on.Waiting.{Waiting}
 use Rattle.gu_session.proofs.carrying.forget.Goals as goal
 
 pub returns-in-Some : goal.returns-in-Some

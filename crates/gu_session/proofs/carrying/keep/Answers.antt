@@ -1,10 +1,5 @@
-use Rattle.std.proofs.Common.{◌≤◌, List, length, sym, ap, ◌∙◌, arith}
+use Rattle.gu_session.proofs.Words.{◌≤◌, List, length, sym, ap, ◌∙◌, arith, take_all, outbound_of, Outbound, numbered, sent_in, extended}
 use Rattle.std.specs.List.{filter_map}
-use Rattle.std.proofs.lemmas.List.{take_all}
-use Rattle.gu_msgs.specs.Written.{outbound_of}
-use Rattle.gu_msgs.specs.declared.outbound.Outbound.{Outbound}
-use Rattle.gu_session.specs.Sending.{numbered, sent_in}
-use Rattle.gu_session.specs.Sound.{extended}
 use Rattle.gu_session.proofs.KeptLemmas.{extended-few, extended-more, extended-none}
 use Rattle.gu_session.proofs.NumberLemmas.{length-numbered}
 use Rattle.gu_session.proofs.carrying.keep.Goals as goal

@@ -1,7 +1,5 @@
-use Rattle.std.proofs.Common.{◌≡◌, take}
+use Rattle.gu_session.proofs.Words.{◌≡◌, take, numbered, sent_in, extended}
 use Rattle.std.specs.List.{filter_map}
-use Rattle.gu_session.specs.Sending.{numbered, sent_in}
-use Rattle.gu_session.specs.Sound.{extended}
 use Rattle.gu_session.proofs.carrying.keep.Given as goal
 
 -- the messages so far that are to be kept are kept

@@ -1,5 +1,4 @@
-use Rattle.std.proofs.Common.{◌≡◌, drop, find}
-use Rattle.gu_terms.specs.declared.firm.FirmId.{FirmId}
+use Rattle.gu_session.proofs.Words.{◌≡◌, drop, find, FirmId}
 use Rattle.gu_session.specs.FrameRules.{is_sender}
 use Rattle.gu_session.proofs.logon.find_firm.Given as goal
 

@@ -1,7 +1,4 @@
-use Rattle.std.proofs.Common.{◌≡◌, ◌++◌, ℕ, List, None, Some, slice_get, drop, sym, ap, ◌∙◌}
-use Rattle.std.specs.Option.{option_copied}
-use Rattle.gu_session.specs.Resending.{sent_within, with_gaps}
-use Rattle.gu_session.specs.declared.sent_ring.Sent.{Sent}
+use Rattle.gu_session.proofs.Words.{◌≡◌, ◌++◌, ℕ, List, None, Some, slice_get, drop, sym, ap, ◌∙◌, option_copied, sent_within, with_gaps, Sent}
 use Rattle.gu_session.proofs.Places.{from-past, none_above, past_below}
 use Rattle.gu_session.proofs.WalkLemmas.{walk_on, walk_past}
 use Rattle.gu_session.proofs.resending.resent.Goals as goal

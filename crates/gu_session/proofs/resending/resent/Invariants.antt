@@ -1,5 +1,4 @@
-use Rattle.std.proofs.Common.{◌≡◌, ◌++◌, drop}
-use Rattle.gu_session.specs.Resending.{sent_within, with_gaps}
+use Rattle.gu_session.proofs.Words.{◌≡◌, ◌++◌, drop, sent_within, with_gaps}
 use Rattle.gu_session.proofs.resending.resent.Given as goal
 
 -- with what the remaining messages add, everything is there

@@ -1,5 +1,4 @@
-use Rattle.std.proofs.Common.{arith, ◌∙◌, ap, sym, length, refl}
-use Rattle.gu_terms.specs.Takes.{lots_of}
+use Rattle.gu_view.proofs.Words.{arith, ◌∙◌, ap, sym, length, refl, lots_of}
 use Rattle.gu_view.proofs.MarkLemmas.{fresh_marks}
 use Rattle.gu_view.proofs.Checked.{verdict_known}
 use Rattle.gu_view.proofs.checker.answer.Goals as goal

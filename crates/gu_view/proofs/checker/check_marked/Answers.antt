@@ -1,5 +1,4 @@
-use Rattle.std.proofs.Common.{rules, arith, ◌≡◌, ◌∙◌, sym, None}
-use Rattle.gu_view.specs.Check.{over_offer}
+use Rattle.gu_view.proofs.Words.{rules, arith, ◌≡◌, ◌∙◌, sym, None, over_offer}
 use Rattle.gu_view.proofs.Checked.{lots_small, keys_small, offers_small, known_ok, known_differs}
 use Rattle.gu_view.proofs.checker.check_marked.Goals as goal
 

@@ -1,10 +1,4 @@
-use Rattle.std.proofs.Common.{◌≡◌, refl, length, sym, ◌∙◌, true, not}
-use Rattle.std.proofs.lemmas.Bool.{or_from, or_right, not_from_true, not_from_false}
-use Rattle.std.proofs.lemmas.Option.{slice_get_read}
-use Rattle.gu_view.specs.Cut.{is_covered}
-use Rattle.gu_view.specs.declared.error.CutFault.TheVariants.{Uncovered}
-use Rattle.gu_view.specs.declared.view.ViewOffer.{ViewOffer}
-use Rattle.gu_terms.proofs.Lists.{found_here, found_later}
+use Rattle.gu_view.proofs.Words.{◌≡◌, refl, length, sym, ◌∙◌, true, not, or_from, or_right, not_from_true, not_from_false, slice_get_read, is_covered, Uncovered, ViewOffer, found_here, found_later}
 use Rattle.gu_view.proofs.MarkLemmas.{cover_told, cover_any}
 use Rattle.gu_view.proofs.checker.first_uncovered.Goals as goal
 use Rattle.gu_view.proofs.checker.first_uncovered.Goals.{else-not-numbers-place-via-then-not-numbers-place+else-not-is_marked, else-not-numbers-place-via-else-not-numbers-place}

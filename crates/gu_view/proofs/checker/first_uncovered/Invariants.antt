@@ -1,8 +1,4 @@
-use Rattle.std.proofs.Common.{◌≡◌, None, find, not, take}
-use Rattle.gu_terms.specs.Cuts.{CutLists, has_number}
-use Rattle.gu_terms.specs.LimitKeys.{has_key}
-use Rattle.gu_view.specs.Cut.{is_covered}
-use Rattle.gu_view.specs.Marks.{AreMarks}
+use Rattle.gu_view.proofs.Words.{◌≡◌, None, find, not, take, CutLists, has_number, has_key, is_covered, AreMarks}
 use Rattle.gu_view.proofs.checker.first_uncovered.Given as goal
 
 abbrev pub invariant-loop-place : goal.invariant-loop-place

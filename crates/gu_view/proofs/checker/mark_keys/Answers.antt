@@ -1,12 +1,4 @@
-use Rattle.std.proofs.Common.{◌∙◌, ap, sym, not, set, true}
-use Rattle.std.proofs.lemmas.Bool.{not_from_true, not_from_false}
-use Rattle.gu_terms.specs.LimitKeys.{key_eq}
-use Rattle.gu_terms.specs.declared.limit_key.LimitKey.{LimitKey}
-use Rattle.gu_view.specs.Check.{has_room}
-use Rattle.gu_view.specs.declared.error.CutFault.TheVariants.{Unknown}
-use Rattle.gu_view.specs.declared.error.Unknown.TheVariants.{Key}
-use Rattle.gu_view.specs.declared.view.Room.{Room}
-use Rattle.gu_terms.proofs.Lists.{found_here, found_later}
+use Rattle.gu_view.proofs.Words.{◌∙◌, ap, sym, not, set, true, not_from_true, not_from_false, key_eq, LimitKey, has_room, Unknown, Key, Room, found_here, found_later}
 use Rattle.gu_view.proofs.MarkLemmas.{not_there, there, mark_key}
 use Rattle.gu_view.proofs.checker.mark_keys.Goals as goal
 

@@ -1,7 +1,5 @@
-use Rattle.std.proofs.Common.{take}
-use Rattle.gu_terms.specs.LimitKeys.{has_key}
+use Rattle.gu_view.proofs.Words.{take, has_key, has_room}
 use Rattle.gu_view.proofs.MarkLemmas.{AreMarked}
-use Rattle.gu_view.specs.Check.{has_room}
 use Rattle.gu_view.proofs.checker.mark_keys.Given as goal
 
 abbrev pub invariant-loop-key : goal.invariant-loop-key

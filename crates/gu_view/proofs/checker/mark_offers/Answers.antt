@@ -1,10 +1,4 @@
-use Rattle.std.proofs.Common.{◌∙◌, ap, sym, not, set, true, ◌==◌, ℕ}
-use Rattle.std.proofs.lemmas.Bool.{not_from_true, not_from_false}
-use Rattle.gu_view.specs.Check.{has_offer}
-use Rattle.gu_view.specs.declared.error.CutFault.TheVariants.{Unknown}
-use Rattle.gu_view.specs.declared.error.Unknown.TheVariants.{Offer as UnknownOffer}
-use Rattle.gu_view.specs.declared.view.ViewOffer.{ViewOffer}
-use Rattle.gu_terms.proofs.Lists.{found_here, found_later}
+use Rattle.gu_view.proofs.Words.{◌∙◌, ap, sym, not, set, true, ◌==◌, ℕ, not_from_true, not_from_false, has_offer, Unknown, Offer as UnknownOffer, ViewOffer, found_here, found_later}
 use Rattle.gu_view.proofs.MarkLemmas.{not_there, there, mark_offer}
 use Rattle.gu_view.proofs.checker.mark_offers.Goals as goal
 

@@ -1,6 +1,4 @@
-use Rattle.std.proofs.Common.{take}
-use Rattle.gu_terms.specs.Cuts.{has_number}
-use Rattle.gu_view.specs.Check.{has_offer}
+use Rattle.gu_view.proofs.Words.{take, has_number, has_offer}
 use Rattle.gu_view.proofs.MarkLemmas.{AreMarked}
 use Rattle.gu_view.proofs.checker.mark_offers.Given as goal
 

@@ -1,7 +1,4 @@
-use Rattle.std.proofs.Common.{◌∙◌, ap, sym, get_or}
-use Rattle.std.proofs.lemmas.Bool.{eqb-true, eqb-false}
-use Rattle.std.proofs.lemmas.List.{get_or_default}
-use Rattle.gu_view.specs.declared.view.ViewOffer.{ViewOffer}
+use Rattle.gu_view.proofs.Words.{◌∙◌, ap, sym, get_or, eqb-true, eqb-false, get_or_default, ViewOffer}
 use Rattle.gu_view.proofs.MarkLemmas.{place_found, place_past, place_other}
 use Rattle.gu_view.proofs.checker.offer_place.Goals as goal
 use Rattle.gu_view.proofs.checker.offer_place.Goals.{else-place-offers-via-then-place-offers+else-eq, else-place-offers-via-else-place-offers}

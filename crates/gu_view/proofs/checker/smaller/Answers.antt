@@ -1,7 +1,5 @@
-use Rattle.std.proofs.Common.{rules, nat_lt}
-use Rattle.std.proofs.lemmas.Bool.{ltb-true, ltb-false}
+use Rattle.gu_view.proofs.Words.{rules, nat_lt, ltb-true, ltb-false, ViewOffer}
 use Rattle.std.proofs.lemmas.List.Sorted.{IsPartitionPoint-from_clause}
-use Rattle.gu_view.specs.declared.view.ViewOffer.{ViewOffer}
 use Rattle.gu_view.proofs.MarkLemmas.{smaller_first}
 use Rattle.gu_view.proofs.checker.smaller.Goals as goal
 

@@ -1,10 +1,4 @@
-use Rattle.std.proofs.Common.{◌≡◌, ◌∙◌, ap, arith, length, subst, sym, take, true}
-use Rattle.std.proofs.Math.ListN.{length-set}
-use Rattle.std.proofs.lemmas.List.{take_more_set}
-use Rattle.std.proofs.lemmas.List.Elements.{All-more, recursion_from_All}
-use Rattle.gu_terms.specs.LimitKeys.{has_key}
-use Rattle.gu_terms.specs.declared.limit_key.LimitKey.{LimitKey}
-use Rattle.gu_view.specs.View.{place_among}
+use Rattle.gu_view.proofs.Words.{◌≡◌, ◌∙◌, ap, arith, length, subst, sym, take, true, length-set, take_more_set, All-more, recursion_from_All, has_key, LimitKey, place_among}
 use Rattle.gu_view.proofs.Mentions.{with_key, has_key-stay, has_key-with_key, length-with_key, mention_more, place_among-stay, place_put, places-stay, places_more}
 use Rattle.gu_view.proofs.keyed_offers.mention.Goals as goal
 

@@ -1,8 +1,4 @@
-use Rattle.std.proofs.Common.{◌≡◌, ◌≤◌, ◌+◌, ◌++◌, true, List, length, map, take}
-use Rattle.std.specs.Prelude.{All}
-use Rattle.gu_terms.specs.LimitKeys.{has_key}
-use Rattle.gu_terms.specs.declared.limit_key.LimitKey.{LimitKey}
-use Rattle.gu_view.specs.View.{firsts, place_among}
+use Rattle.gu_view.proofs.Words.{◌≡◌, ◌≤◌, ◌+◌, ◌++◌, true, List, length, map, take, All, has_key, LimitKey, firsts, place_among}
 use Rattle.gu_view.proofs.keyed_offers.mention.Given as goal
 
 abbrev pub invariant-loop-at : goal.invariant-loop-at

@@ -1,5 +1,4 @@
-use Rattle.std.proofs.Common.{take}
-use Rattle.gu_view.specs.Keeping.{AreMentioned}
+use Rattle.gu_view.proofs.Words.{take, AreMentioned}
 use Rattle.gu_view.proofs.keyed_offers.mention_all.Given as goal
 
 abbrev pub invariant-loop-at : goal.invariant-loop-at

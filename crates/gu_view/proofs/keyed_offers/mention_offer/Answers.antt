@@ -1,14 +1,5 @@
-use Rattle.std.proofs.Common.{◌≡◌, ◌∙◌, ◌+◌, ◌-◌, ◌++◌, List, Some, ap, arith, map, slice_get, subst, sym, take, true}
-use Rattle.std.specs.List.{AllByRecursion, flat_map}
-use Rattle.std.proofs.lemmas.List.{get_or_default, length-take}
-use Rattle.std.proofs.lemmas.List.Elements.{All-more}
+use Rattle.gu_view.proofs.Words.{◌≡◌, ◌∙◌, ◌+◌, ◌-◌, ◌++◌, List, Some, ap, arith, map, slice_get, subst, sym, take, true, AllByRecursion, flat_map, get_or_default, length-take, All-more, has_key, LimitKey, Agr, AreMentioned, IsPath, firsts, place_among, ViewOffer}
 use Rattle.std.proofs.lemmas.Result.{on_ok_weaker}
-use Rattle.gu_terms.specs.LimitKeys.{has_key}
-use Rattle.gu_terms.specs.declared.limit_key.LimitKey.{LimitKey}
-use Rattle.gu_terms.specs.declared.limit_key.LimitKey.TheVariants.{Agr}
-use Rattle.gu_view.specs.Keeping.{AreMentioned}
-use Rattle.gu_view.specs.View.{IsPath, firsts, place_among}
-use Rattle.gu_view.specs.declared.view.ViewOffer.{ViewOffer}
 use Rattle.gu_view.proofs.DerivedEq.{same, same-one}
 use Rattle.gu_view.proofs.Mentions.{all_known, all_places-more, all_places-stay, keys_of-more, mentioned_again}
 use Rattle.gu_view.proofs.WholePaths.{whole_path}

@@ -1,6 +1,4 @@
-use Rattle.std.proofs.Common.{◌≡◌, ℕ, find, drop}
-use Rattle.gu_view.specs.Making.{is_bad, numbered}
-use Rattle.gu_view.specs.declared.view.ViewOffer.{ViewOffer}
+use Rattle.gu_view.proofs.Words.{◌≡◌, ℕ, find, drop, is_bad, numbered, ViewOffer}
 use Rattle.gu_view.proofs.MakingLemmas.{bad_after}
 use Rattle.gu_view.proofs.making.first_bad.Given as goal
 

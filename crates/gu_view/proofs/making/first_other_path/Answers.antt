@@ -1,11 +1,5 @@
-use Rattle.std.proofs.Common.{◌≡◌, ◌∙◌, sym, ap, Some, cond}
-use Rattle.indexmap.specs.IndexMap.{get}
-use Rattle.std.proofs.lemmas.Bool.{or_left, or_right, not_from_false, not-false, not-true}
-use Rattle.gu_view.specs.declared.view.ViewOffer.{ViewOffer}
-use Rattle.gu_terms.proofs.KeyLemmas.{eq, eq_is}
+use Rattle.gu_view.proofs.Words.{◌≡◌, ◌∙◌, sym, ap, Some, cond, get, or_left, or_right, not_from_false, not-false, not-true, ViewOffer, eq, eq_is, key_eq, found_here}
 use Rattle.gu_view.proofs.DerivedEq.{same, same_is}
-use Rattle.gu_terms.specs.LimitKeys.{key_eq}
-use Rattle.gu_terms.proofs.Lists.{found_here}
 use Rattle.gu_view.proofs.MakingLemmas.{agreement_eq, is_odd, odd_known, seen_known, seen_new, lookup-agree, path_eq-same, pointwise-agree}
 use Rattle.gu_view.proofs.making.first_other_path.Goals as goal
 use Rattle.gu_view.proofs.making.first_other_path.Goals.{in-Some+else-ne, in-None+in_ok-insert-in-None}

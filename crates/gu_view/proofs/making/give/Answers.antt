@@ -1,7 +1,4 @@
-use Rattle.std.proofs.Common.{arith, ◌∙◌, sym, ap, Some, cond}
-use Rattle.indexmap.specs.IndexMap.{get}
-use Rattle.gu_terms.specs.LimitKeys.{key_eq}
-use Rattle.gu_terms.proofs.KeyLemmas.{eq, eq_is}
+use Rattle.gu_view.proofs.Words.{arith, ◌∙◌, sym, ap, Some, cond, get, key_eq, eq, eq_is}
 use Rattle.gu_view.proofs.DerivedEq.{has_key-eq}
 use Rattle.gu_view.proofs.MakingLemmas.{needless, given_twice, given_more, lookup-agree, some_value, no_value}
 use Rattle.gu_view.proofs.making.give.Goals as goal

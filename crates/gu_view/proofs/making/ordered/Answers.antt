@@ -1,7 +1,4 @@
-use Rattle.std.proofs.Common.{◌∙◌, sym}
-use Rattle.std.proofs.lemmas.List.{take_all}
-use Rattle.gu_terms.specs.LimitKeys.{key_eq}
-use Rattle.gu_terms.proofs.KeyLemmas.{eq, eq_is}
+use Rattle.gu_view.proofs.Words.{◌∙◌, sym, take_all, key_eq, eq, eq_is}
 use Rattle.gu_view.proofs.MakingLemmas.{key_missing, ordered_more, lookup-agree}
 use Rattle.gu_view.proofs.making.ordered.Goals as goal
 

@@ -1,11 +1,4 @@
-use Rattle.std.proofs.Common.{◌≡◌, List, take}
-use Rattle.std.specs.Prelude.{All, IsTrue}
-use Rattle.indexmap.specs.IndexMap.{get}
-use Rattle.gu_terms.specs.LimitKeys.{key_eq}
-use Rattle.gu_terms.specs.declared.limit_key.LimitKey.{LimitKey}
-use Rattle.gu_view.specs.Check.{has_room}
-use Rattle.gu_view.specs.Making.{in_order, lots_given}
-use Rattle.gu_view.specs.declared.view.Room.{Room}
+use Rattle.gu_view.proofs.Words.{◌≡◌, List, take, All, IsTrue, get, key_eq, LimitKey, has_room, in_order, lots_given, Room}
 use Rattle.gu_view.proofs.making.ordered.Given as goal
 
 abbrev pub invariant-loop-key : goal.invariant-loop-key

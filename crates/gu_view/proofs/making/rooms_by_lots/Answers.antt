@@ -1,5 +1,4 @@
-use Rattle.indexmap.specs.IndexMap.{get}
-use Rattle.gu_terms.specs.LimitKeys.{key_eq}
+use Rattle.gu_view.proofs.Words.{get, key_eq}
 use Rattle.gu_view.proofs.MakingLemmas.{rooms_made}
 use Rattle.gu_view.proofs.making.rooms_by_lots.Goals as goal
 

@@ -1,9 +1,4 @@
-use Rattle.std.proofs.Common.{◌≡◌, ◌≤◌, ◌∙◌, ◌∷◌, [], ℕ, Bool, List, Option, ap, arith, drop, get_or, length}
-use Rattle.std.proofs.lemmas.List.{take_rest}
-use Rattle.std.specs.List.{list_all}
-use Rattle.gu_terms.specs.declared.limit_key.LimitKey.{LimitKey}
-use Rattle.gu_view.specs.Paths.{have_one_key, key_on, same_key}
-use Rattle.gu_view.specs.declared.view.ViewOffer.{ViewOffer}
+use Rattle.gu_view.proofs.Words.{◌≡◌, ◌≤◌, ◌∙◌, ◌∷◌, [], ℕ, Bool, List, Option, ap, arith, drop, get_or, length, take_rest, list_all, LimitKey, have_one_key, key_on, same_key, ViewOffer}
 use Rattle.gu_view.proofs.nesting.have_one_key.Goals as goal
 
 -- the others have the key of the first

@@ -1,7 +1,4 @@
-use Rattle.std.proofs.Common.{◌≡◌, false, length, refl, sym, ap, ◌∙◌}
-use Rattle.std.proofs.lemmas.List.Folds.{list_all_at, list_all_more}
-use Rattle.std.proofs.lemmas.Option.{slice_get_read}
-use Rattle.gu_view.specs.Paths.{room_agrees}
+use Rattle.gu_view.proofs.Words.{◌≡◌, false, length, refl, sym, ap, ◌∙◌, list_all_at, list_all_more, slice_get_read, room_agrees}
 use Rattle.gu_view.proofs.nesting.keys_agree.Goals as goal
 
 pub agrees-requires : goal.agrees-requires

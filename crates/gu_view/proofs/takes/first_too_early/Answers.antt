@@ -1,12 +1,4 @@
-use Rattle.std.proofs.Common.{arith, ◌≡◌, refl, length, sym, ap, ◌∙◌, true, false, ◌||◌, get_or}
-use Rattle.std.specs.Prelude.{nat_lt}
-use Rattle.std.proofs.lemmas.Bool.{lt-ltb, le-ltb, and_from, and_left, and_right, or_right}
-use Rattle.std.proofs.Math.Bool.{or-false}
-use Rattle.std.proofs.lemmas.List.{set-get_or}
-use Rattle.std.proofs.lemmas.Option.{slice_get_read}
-use Rattle.gu_view.specs.declared.error.CutFault.TheVariants.{NotOldestFirst}
-use Rattle.gu_view.specs.declared.view.ViewOffer.{ViewOffer}
-use Rattle.gu_terms.proofs.Lists.{found_here}
+use Rattle.gu_view.proofs.Words.{arith, ◌≡◌, refl, length, sym, ap, ◌∙◌, true, false, ◌||◌, get_or, nat_lt, lt-ltb, le-ltb, and_from, and_left, and_right, or_right, or-false, set-get_or, slice_get_read, NotOldestFirst, ViewOffer, found_here}
 use Rattle.gu_view.proofs.TakesLemmas.{is_too_early, mark_says, walked_more, lots_here}
 use Rattle.gu_view.proofs.takes.first_too_early.Goals as goal
 use Rattle.gu_view.proofs.takes.first_too_early.Goals.{then-taken-place, else-taken-place, else-taken-place-gt0-via-then-taken-place-gt0+else-short-agreement, else-taken-place-gt0-via-else-taken-place-gt0}

@@ -1,5 +1,4 @@
-use Rattle.std.proofs.Common.{ℕ}
-use Rattle.gu_view.specs.Marks.{AreLots}
+use Rattle.gu_view.proofs.Words.{ℕ, AreLots}
 use Rattle.gu_view.proofs.TakesLemmas.{IsWalked}
 use Rattle.gu_view.proofs.takes.first_too_early.Given as goal
 

@@ -1,11 +1,4 @@
-use Rattle.std.proofs.Common.{arith, ◌≡◌, refl, length}
-use Rattle.std.specs.Prelude.{nat_lt}
-use Rattle.std.proofs.lemmas.Bool.{lt-ltb, le-ltb}
-use Rattle.std.proofs.lemmas.Option.{slice_get_read}
-use Rattle.gu_view.specs.Takes.{lots_under}
-use Rattle.gu_view.specs.declared.error.CutFault.TheVariants.{OverLimit}
-use Rattle.gu_view.specs.declared.view.Room.{Room}
-use Rattle.gu_terms.proofs.Lists.{found_here, found_later}
+use Rattle.gu_view.proofs.Words.{arith, ◌≡◌, refl, length, nat_lt, lt-ltb, le-ltb, slice_get_read, lots_under, OverLimit, Room, found_here, found_later}
 use Rattle.gu_view.proofs.takes.over_limit.Goals as goal
 
 pub returns-then-room-taken_under : goal.returns-then-room-taken_under

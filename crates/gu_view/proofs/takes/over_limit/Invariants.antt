@@ -1,6 +1,4 @@
-use Rattle.std.proofs.Common.{◌≡◌, ℕ, None, find, nat_lt, take}
-use Rattle.gu_view.specs.Marks.{AreLots}
-use Rattle.gu_view.specs.Takes.{lots_under}
+use Rattle.gu_view.proofs.Words.{◌≡◌, ℕ, None, find, nat_lt, take, AreLots, lots_under}
 use Rattle.gu_view.proofs.takes.over_limit.Given as goal
 
 abbrev pub invariant-loop-place : goal.invariant-loop-place

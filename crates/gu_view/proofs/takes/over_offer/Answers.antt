@@ -1,9 +1,4 @@
-use Rattle.std.proofs.Common.{arith}
-use Rattle.std.specs.Prelude.{nat_lt}
-use Rattle.std.proofs.lemmas.Bool.{lt-ltb, le-ltb}
-use Rattle.gu_view.specs.declared.error.CutFault.TheVariants.{OverOffer}
-use Rattle.gu_view.specs.declared.view.ViewOffer.{ViewOffer}
-use Rattle.gu_terms.proofs.Lists.{found_here, found_later}
+use Rattle.gu_view.proofs.Words.{arith, nat_lt, lt-ltb, le-ltb, OverOffer, ViewOffer, found_here, found_later}
 use Rattle.gu_view.proofs.TakesLemmas.{lots_here, sum_more}
 use Rattle.gu_view.proofs.takes.over_offer.Goals as goal
 

@@ -1,6 +1,4 @@
-use Rattle.std.proofs.Common.{◌≡◌, ℕ, ◌≤◌, None, find, nat_lt, take}
-use Rattle.std.specs.Prelude.{sum, sum_by}
-use Rattle.gu_view.specs.Marks.{AreLots}
+use Rattle.gu_view.proofs.Words.{◌≡◌, ℕ, ◌≤◌, None, find, nat_lt, take, sum, sum_by, AreLots}
 use Rattle.gu_view.proofs.takes.over_offer.Given as goal
 
 abbrev pub invariant-loop-place : goal.invariant-loop-place

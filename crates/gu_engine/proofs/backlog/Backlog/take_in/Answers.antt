@@ -1,5 +1,4 @@
-use Rattle.std.proofs.Common.{◌<◌, ◌≤◌, length, take, refl, arith}
-use Rattle.std.proofs.lemmas.List.{length-take}
+use Rattle.gu_engine.proofs.Words.{◌<◌, ◌≤◌, length, take, refl, arith, length-take}
 use Rattle.gu_engine.proofs.Leaving.{finds_bytes, finds_silence, reads_bytes}
 use Rattle.gu_engine.proofs.backlog.Backlog.take_in.Goals as goal
 

@@ -1,5 +1,4 @@
-use Rattle.std.proofs.Common.{◌++◌, ℕ, List, refl, ap, ◌∙◌, append_assoc}
-use Rattle.gu_streams.proofs.Writing.{on_ok_then}
+use Rattle.gu_engine.proofs.Words.{◌++◌, ℕ, List, refl, ap, ◌∙◌, append_assoc, on_ok_then}
 use Rattle.gu_engine.proofs.connection.Connection.answer_frame.Goals as goal
 
 pub returns : goal.returns

@@ -1,7 +1,6 @@
-use Rattle.std.proofs.Common.{◌≡◌, ◌++◌, ◌∷◌, [], List, ℕ, refl, ap, sym, subst, ◌∙◌, append_assoc, append-nil}
+use Rattle.gu_engine.proofs.Words.{◌≡◌, ◌++◌, ◌∷◌, [], List, ℕ, refl, ap, sym, subst, ◌∙◌, append_assoc, SendsNotice, AnswersEach}
+use Rattle.std.proofs.Common.{append-nil}
 use Rattle.gu_terms.specs.declared.notice.Notice.{Notice}
-use Rattle.gu_engine.specs.Exchange.{SendsNotice}
-use Rattle.gu_engine.specs.Running.{AnswersEach}
 use Rattle.gu_engine.specs.declared.connection.Connection.{Connection}
 use Rattle.gu_engine.proofs.InTurn.{all_taken, each_more}
 use Rattle.gu_engine.proofs.connection.Connection.send_all.Goals as goal

@@ -1,6 +1,4 @@
-use Rattle.std.proofs.Common.{◌≡◌, ◌++◌, ℕ, List}
-use Rattle.gu_engine.specs.Exchange.{SendsNotice}
-use Rattle.gu_engine.specs.Running.{AnswersEach}
+use Rattle.gu_engine.proofs.Words.{◌≡◌, ◌++◌, ℕ, List, SendsNotice, AnswersEach}
 use Rattle.gu_engine.proofs.connection.Connection.send_all.Given as goal
 
 -- the notices so far are sent

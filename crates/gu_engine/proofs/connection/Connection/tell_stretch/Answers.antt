@@ -1,5 +1,4 @@
-use Rattle.std.proofs.Common.{sym}
-use Rattle.gu_streams.proofs.Writing.{on_ok_then}
+use Rattle.gu_engine.proofs.Words.{sym, on_ok_then}
 use Rattle.gu_engine.proofs.connection.Connection.tell_stretch.Goals as goal
 
 pub returns-clause-told : goal.returns-clause-told

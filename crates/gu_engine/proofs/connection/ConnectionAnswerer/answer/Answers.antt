@@ -1,6 +1,4 @@
-use Rattle.std.proofs.Common.{ap, ◌∙◌}
-use Rattle.gu_streams.proofs.Writing.{on_ok_both}
-use Rattle.gu_engine.specs.Running.{is_more}
+use Rattle.gu_engine.proofs.Words.{ap, ◌∙◌, on_ok_both, is_more}
 use Rattle.gu_engine.proofs.Exchanging.{fewer_parts}
 use Rattle.gu_engine.proofs.connection.ConnectionAnswerer.answer.Goals as goal
 

@@ -1,6 +1,4 @@
-use Rattle.std.proofs.Common.{List, ℕ, take, subst}
-use Rattle.gu_streams.proofs.Writing.{on_err_from}
-use Rattle.gu_streams.specs.Written.{WrotePart}
+use Rattle.gu_engine.proofs.Words.{List, ℕ, take, subst, on_err_from, WrotePart}
 use Rattle.gu_engine.proofs.FirstParts.{wrote_first}
 use Rattle.gu_engine.proofs.gate.GateOutlet.let_go.Goals as goal
 

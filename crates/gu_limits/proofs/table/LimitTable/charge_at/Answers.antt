@@ -1,6 +1,4 @@
-use Rattle.std.proofs.Common.{◌∙◌, ◌+◌, ◌-◌, sym, ap, subst, arith}
-use Rattle.std.proofs.lemmas.List.{take_all}
-use Rattle.gu_limits.specs.Changes.{Charges, limits_after_charge}
+use Rattle.gu_limits.proofs.Words.{◌∙◌, ◌+◌, ◌-◌, sym, ap, subst, arith, take_all, Charges, limits_after_charge}
 use Rattle.gu_limits.proofs.Bookings.{after-none, charged}
 use Rattle.gu_limits.proofs.LimitPlaces.{charge-fits, charge-known, charge-none, charge-one}
 use Rattle.gu_limits.proofs.table.LimitTable.charge_at.Goals as goal

@@ -1,10 +1,4 @@
-use Rattle.std.proofs.Common.{◌∙◌, ◌+◌, ◌-◌, ap, sym, slice_get, map, [], ◌∷◌, arith}
-use Rattle.indexmap.specs.IndexMap.{set_value_at}
-use Rattle.gu_limits.specs.Changes.{limits_after_charge}
-use Rattle.gu_limits.specs.Kept.{limit_on, used_on}
-use Rattle.gu_limits.specs.Limits.{GroupLimit}
-use Rattle.gu_limits.specs.declared.table.GroupKey.{GroupKey}
-use Rattle.gu_limits.specs.declared.table.KeptLimit.{KeptLimit}
+use Rattle.gu_limits.proofs.Words.{◌∙◌, ◌+◌, ◌-◌, ap, sym, slice_get, map, [], ◌∷◌, arith, set_value_at, limits_after_charge, limit_on, used_on, GroupLimit, GroupKey, KeptLimit}
 use Rattle.gu_limits.proofs.LimitPlaces.{charge-at, kept-at, value-at, with_room, within-at, written-within}
 use Rattle.gu_limits.proofs.table.LimitTable.charge_limit.Goals as goal
 

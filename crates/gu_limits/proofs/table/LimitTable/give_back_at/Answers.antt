@@ -1,6 +1,4 @@
-use Rattle.std.proofs.Common.{◌∙◌, ◌+◌, ◌-◌, sym, ap, subst, arith}
-use Rattle.std.proofs.lemmas.List.{take_all}
-use Rattle.gu_limits.specs.Changes.{Returns, limits_after_return}
+use Rattle.gu_limits.proofs.Words.{◌∙◌, ◌+◌, ◌-◌, sym, ap, subst, arith, take_all, Returns, limits_after_return}
 use Rattle.gu_limits.proofs.Bookings.{after-none, returned}
 use Rattle.gu_limits.proofs.LimitPlaces.{return-fits, return-known, return-none, return-one}
 use Rattle.gu_limits.proofs.table.LimitTable.give_back_at.Goals as goal

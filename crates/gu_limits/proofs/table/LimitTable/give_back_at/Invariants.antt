@@ -1,7 +1,4 @@
-use Rattle.std.proofs.Common.{◌≡◌, List, take}
-use Rattle.gu_terms.specs.declared.group.Group.{Group}
-use Rattle.gu_terms.specs.declared.limit_key.LimitKey.{LimitKey}
-use Rattle.gu_limits.specs.Changes.{MayReturn, limits_after_return}
+use Rattle.gu_limits.proofs.Words.{◌≡◌, List, take, Group, LimitKey, MayReturn, limits_after_return}
 use Rattle.gu_limits.proofs.table.LimitTable.give_back_at.Given as goal
 
 abbrev pub invariant-loop-number : goal.invariant-loop-number

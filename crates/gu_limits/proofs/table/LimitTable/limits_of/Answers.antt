@@ -1,7 +1,5 @@
-use Rattle.std.proofs.Common.{◌≡◌, ◌∙◌, ◌<◌, ℕ, List, [], ◌∷◌, None, Some, find, nat_lt, refl, arith}
-use Rattle.std.proofs.lemmas.Bool.{le-ltb}
-use Rattle.gu_terms.specs.declared.limit_key.LimitKey.{LimitKey}
-use Rattle.gu_limits.specs.Limits.{room_in}
+use Rattle.gu_limits.proofs.Words.{◌≡◌, ◌∙◌, ◌<◌, ℕ, List, [], ◌∷◌, None, Some, nat_lt, refl, arith, le-ltb, LimitKey, room_in}
+use Rattle.std.proofs.Common.{find}
 use Rattle.gu_limits.proofs.table.LimitTable.limits_of.Goals as goal
 
 -- no key has less room than 0 lots

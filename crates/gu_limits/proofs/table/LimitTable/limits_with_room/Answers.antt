@@ -1,10 +1,6 @@
-use Rattle.std.proofs.Common.{◌≡◌, ◌≢◌, ◌∙◌, ◌<◌, ◌==◌, ℕ, zero, suc, List, [], ◌∷◌, Some, ap, sym, refl, inl, inr, arith, nat_lt, rules, find, get_or, length, set, slice_get, slice_index, take, true, false, Bool, add-one, eq-eqb}
-use Rattle.std.specs.Option.{option_map_or}
-use Rattle.std.proofs.lemmas.Bool.{cases_Bool, eqb-true, le-ltb, lt-ltb}
-use Rattle.std.proofs.lemmas.List.{get_or-set_other, get_or-set_same}
+use Rattle.gu_limits.proofs.Words.{◌≡◌, ◌≢◌, ◌∙◌, ◌<◌, ◌==◌, ℕ, zero, suc, List, [], ◌∷◌, Some, ap, sym, refl, inl, inr, arith, nat_lt, rules, get_or, length, set, slice_get, slice_index, take, true, false, Bool, add-one, eq-eqb, option_map_or, cases_Bool, eqb-true, le-ltb, lt-ltb, get_or-set_other, get_or-set_same, LimitKey, number_in, room_in}
+use Rattle.std.proofs.Common.{find}
 use Rattle.gu_terms.proofs.Lists.{find_here, found_later}
-use Rattle.gu_terms.specs.declared.limit_key.LimitKey.{LimitKey}
-use Rattle.gu_limits.specs.Limits.{number_in, room_in}
 use Rattle.gu_limits.proofs.table.LimitTable.limits_with_room.Goals as goal
 
 -- the keys before an index, followed by the next one

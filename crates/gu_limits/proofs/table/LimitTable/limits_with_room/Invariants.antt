@@ -1,6 +1,5 @@
-use Rattle.std.proofs.Common.{◌≡◌, ℕ, ◌<◌, None, find, length, nat_lt, slice_get, slice_index, take}
-use Rattle.std.specs.Option.{option_map_or}
-use Rattle.gu_limits.specs.Limits.{number_in, room_in}
+use Rattle.gu_limits.proofs.Words.{◌≡◌, ℕ, ◌<◌, None, length, nat_lt, slice_get, slice_index, take, option_map_or, number_in, room_in}
+use Rattle.std.proofs.Common.{find}
 use Rattle.gu_limits.proofs.table.LimitTable.limits_with_room.Given as goal
 
 abbrev pub invariant-loop-at : goal.invariant-loop-at

@@ -1,7 +1,4 @@
-use Rattle.std.proofs.Common.{◌∙◌, ap, map}
-use Rattle.gu_limits.specs.Changes.{limits_of_new_day}
-use Rattle.gu_limits.specs.Kept.{limit_on}
-use Rattle.gu_limits.specs.Limits.{used_in}
+use Rattle.gu_limits.proofs.Words.{◌∙◌, ap, map, limits_of_new_day, limit_on, used_in}
 use Rattle.gu_limits.proofs.Bookings.{new_day-limits, new_day-used}
 use Rattle.gu_limits.proofs.KeptLimits.{first-day, next-day, within-unused}
 use Rattle.gu_limits.proofs.table.LimitTable.new_day.Goals as goal

@@ -1,10 +1,4 @@
-use Rattle.std.proofs.Common.{◌∙◌, ◌+◌, ◌-◌, ap, sym, slice_get, map, [], ◌∷◌, arith}
-use Rattle.indexmap.specs.IndexMap.{set_value_at}
-use Rattle.gu_limits.specs.Changes.{limits_after_return}
-use Rattle.gu_limits.specs.Kept.{limit_on, used_on}
-use Rattle.gu_limits.specs.Limits.{GroupLimit}
-use Rattle.gu_limits.specs.declared.table.GroupKey.{GroupKey}
-use Rattle.gu_limits.specs.declared.table.KeptLimit.{KeptLimit}
+use Rattle.gu_limits.proofs.Words.{◌∙◌, ◌+◌, ◌-◌, ap, sym, slice_get, map, [], ◌∷◌, arith, set_value_at, limits_after_return, limit_on, used_on, GroupLimit, GroupKey, KeptLimit}
 use Rattle.gu_limits.proofs.KeptLimits.{used_on-le}
 use Rattle.gu_limits.proofs.LimitPlaces.{kept-at, return-at, value-at, with_use, within-at, written-within}
 use Rattle.gu_limits.proofs.table.LimitTable.return_to_limit.Goals as goal

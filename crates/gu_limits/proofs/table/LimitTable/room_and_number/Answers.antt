@@ -1,10 +1,4 @@
-use Rattle.std.proofs.Common.{◌∙◌, ◌-◌, sym, ap, arith, Some, None, add-one, suc}
-use Rattle.std.specs.Option.{option_map_or}
-use Rattle.std.specs.Map.{keys_of}
-use Rattle.std.proofs.lemmas.List.{length-map}
-use Rattle.gu_limits.specs.Limits.{number_in, room_in}
-use Rattle.gu_limits.specs.declared.table.GroupKey.{GroupKey}
-use Rattle.gu_limits.specs.declared.table.KeptLimit.{KeptLimit}
+use Rattle.gu_limits.proofs.Words.{◌∙◌, ◌-◌, sym, ap, arith, Some, None, add-one, suc, option_map_or, keys_of, length-map, number_in, room_in, GroupKey, KeptLimit}
 use Rattle.gu_limits.proofs.KeptLimits.{room-kept, same}
 use Rattle.gu_limits.proofs.LimitPlaces.{number-kept, placed}
 use Rattle.gu_limits.proofs.table.LimitTable.room_and_number.Goals as goal

@@ -1,8 +1,4 @@
-use Rattle.std.proofs.Common.{◌∙◌, sym, ap, refl, subst}
-use Rattle.std.specs.Map.{lookup}
-use Rattle.gu_limits.specs.Changes.{Sets, limits_after_setting}
-use Rattle.gu_limits.specs.Kept.{IsWithin, set_to}
-use Rattle.gu_limits.specs.declared.table.GroupKey.{GroupKey}
+use Rattle.gu_limits.proofs.Words.{◌∙◌, sym, ap, refl, subst, lookup, Sets, limits_after_setting, IsWithin, set_to, GroupKey}
 use Rattle.gu_limits.proofs.KeptLimits.{All-inserted, same, set-kept, set-within}
 use Rattle.gu_limits.proofs.LimitLemmas.{known-setting, limit-setting, used-setting}
 use Rattle.gu_limits.proofs.table.LimitTable.set_within.Goals as goal

@@ -1,7 +1,4 @@
-use Rattle.std.proofs.Common.{◌≡◌, ◌∙◌, ap, slice_get}
-use Rattle.gu_limits.specs.Kept.{limit_on, used_on}
-use Rattle.gu_limits.specs.Limits.{GroupLimit}
-use Rattle.gu_limits.specs.declared.table.KeptLimit.{KeptLimit}
+use Rattle.gu_limits.proofs.Words.{◌≡◌, ◌∙◌, ap, slice_get, limit_on, used_on, GroupLimit, KeptLimit}
 use Rattle.gu_limits.proofs.LimitPlaces.{kept-at, value-at}
 use Rattle.gu_limits.proofs.table.LimitTable.used_at.Goals as goal
 

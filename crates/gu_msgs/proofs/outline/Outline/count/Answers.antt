@@ -1,7 +1,4 @@
-use Rattle.std.proofs.Common.{◌≡◌, None, ap, subst}
-use Rattle.gu_msgs.specs.Outlines.{Outlined}
-use Rattle.gu_msgs.specs.Rows.{kind_of}
-use Rattle.gu_msgs.specs.Shape.{shape_fault}
+use Rattle.gu_msgs.proofs.Words.{◌≡◌, None, ap, subst, Outlined, kind_of, shape_fault}
 use Rattle.gu_msgs.proofs.OutlineLemmas.{count_of_entries, value_fault}
 use Rattle.gu_msgs.proofs.outline.Outline.count.Goals as goal
 

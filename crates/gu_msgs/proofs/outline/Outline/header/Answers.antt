@@ -1,5 +1,4 @@
-use Rattle.std.proofs.Common.{arith, refl}
-use Rattle.gu_msgs.specs.Tables.{entry_rows, header_rows}
+use Rattle.gu_msgs.proofs.Words.{arith, refl, entry_rows, header_rows}
 use Rattle.gu_msgs.proofs.OutlineLemmas.{any_text, first_texts, in_header, one_more}
 use Rattle.gu_msgs.proofs.outline.Outline.header.Goals as goal
 

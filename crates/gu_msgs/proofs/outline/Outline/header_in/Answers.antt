@@ -1,8 +1,4 @@
-use Rattle.std.proofs.Common.{◌≡◌, ◌<◌, ◌∙◌, ℕ, None, arith, refl, subst, sym}
-use Rattle.gu_msgs.specs.Outlines.{Outlined, tag_at}
-use Rattle.gu_msgs.specs.Shape.{shape_fault}
-use Rattle.gu_msgs.specs.Tables.{header_rows}
-use Rattle.gu_msgs.specs.Values.{first_value, only_value}
+use Rattle.gu_msgs.proofs.Words.{◌≡◌, ◌<◌, ◌∙◌, ℕ, None, arith, refl, subst, sym, Outlined, tag_at, shape_fault, header_rows, first_value, only_value}
 use Rattle.gu_msgs.proofs.OnlyValues.{matched, only_is_first}
 use Rattle.gu_msgs.proofs.OutlineLemmas.{in_header}
 use Rattle.gu_msgs.proofs.outline.Outline.header_in.Goals as goal

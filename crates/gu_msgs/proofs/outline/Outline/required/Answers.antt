@@ -1,5 +1,4 @@
-use Rattle.std.proofs.Common.{◌∙◌, arith}
-use Rattle.gu_fix.specs.TagValue.{tag_value}
+use Rattle.gu_msgs.proofs.Words.{◌∙◌, arith, tag_value}
 use Rattle.gu_msgs.proofs.OutlineLemmas.{few, numbered_value, some_number}
 use Rattle.gu_msgs.proofs.outline.Outline.required.Goals as goal
 

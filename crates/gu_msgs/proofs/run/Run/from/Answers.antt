@@ -1,5 +1,4 @@
-use Rattle.std.proofs.Common.{◌∙◌, ◌≤◌, List, length, drop, ap, sym, subst}
-use Rattle.gu_fix.specs.TagValue.{TagValue}
+use Rattle.gu_msgs.proofs.Words.{◌∙◌, ◌≤◌, List, length, drop, ap, sym, subst, TagValue}
 use Rattle.gu_msgs.proofs.RunLemmas.{dropped_between}
 use Rattle.gu_msgs.proofs.run.Run.from.Goals as goal
 

@@ -1,5 +1,4 @@
-use Rattle.std.proofs.Common.{◌≡◌, ◌<◌, ◌-◌, ◌+◌, ◌∙◌, ap, sym, subst, List, length, slice_get, arith}
-use Rattle.gu_fix.specs.TagValue.{TagValue}
+use Rattle.gu_msgs.proofs.Words.{◌≡◌, ◌<◌, ◌-◌, ◌+◌, ◌∙◌, ap, sym, subst, List, length, slice_get, arith, TagValue}
 use Rattle.gu_msgs.proofs.RunLemmas.{field_between, length_between}
 use Rattle.gu_msgs.proofs.run.Run.get.Goals as goal
 

@@ -1,5 +1,4 @@
-use Rattle.std.proofs.Common.{◌<◌, arith, sym, ◌∙◌}
-use Rattle.gu_fix.specs.TagValue.{tag_value}
+use Rattle.gu_msgs.proofs.Words.{◌<◌, arith, sym, ◌∙◌, tag_value}
 use Rattle.gu_msgs.proofs.RunLemmas.{first_between}
 use Rattle.gu_msgs.proofs.run.RunIterator.next.Goals as goal
 

@@ -1,10 +1,4 @@
-use Rattle.std.proofs.Common.{◌≡◌, ◌∙◌, ap, subst}
-use Rattle.std.specs.List.{IsDistinct}
-use Rattle.gu_positions.specs.Changes.{more_in, with_more}
-use Rattle.gu_positions.specs.Kept.{IsKept, place_of, rows_of}
-use Rattle.gu_positions.specs.Numbers.{account_at, is_numbered, symbol_at}
-use Rattle.gu_positions.specs.Rows.{has_row, lots_in, lots_on, same_row}
-use Rattle.gu_positions.specs.declared.positions.Positions.TheInside.{Inside}
+use Rattle.gu_positions.proofs.Words.{◌≡◌, ◌∙◌, ap, subst, IsDistinct, more_in, with_more, IsKept, place_of, rows_of, account_at, is_numbered, symbol_at, has_row, lots_in, lots_on, same_row, Inside}
 use Rattle.gu_positions.proofs.Adding.{few-more, fits, keeps-written, row_of-more, settles}
 use Rattle.gu_positions.proofs.Changed.{has_row-changed, keeps-more, lots_in-with_more, lots_on-with_more}
 use Rattle.gu_positions.proofs.RowNumbers.{has_row-numbered, numbered-changed, numbered-made, numbered-row_of, row_of-numbered, stands}

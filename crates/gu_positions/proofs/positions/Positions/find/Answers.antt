@@ -1,6 +1,4 @@
-use Rattle.std.proofs.Common.{◌∙◌, ap, is_some, sym}
-use Rattle.gu_positions.specs.Numbers.{is_numbered}
-use Rattle.gu_positions.specs.Rows.{has_row}
+use Rattle.gu_positions.proofs.Words.{◌∙◌, ap, is_some, sym, is_numbered, has_row}
 use Rattle.gu_positions.proofs.KeptLots.{has_row-lookup}
 use Rattle.gu_positions.proofs.RowNumbers.{numbered-kept, row_of-numbered}
 use Rattle.gu_positions.proofs.positions.Positions.find.Goals as goal

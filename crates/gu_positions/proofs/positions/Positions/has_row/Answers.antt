@@ -1,5 +1,4 @@
-use Rattle.std.proofs.Common.{◌∙◌, sym, ap}
-use Rattle.gu_positions.specs.Rows.{has_row}
+use Rattle.gu_positions.proofs.Words.{◌∙◌, sym, ap, has_row}
 use Rattle.gu_positions.proofs.KeptLots.{has_row-lookup}
 use Rattle.gu_positions.proofs.positions.Positions.has_row.Goals as goal
 

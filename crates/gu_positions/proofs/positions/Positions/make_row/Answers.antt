@@ -1,10 +1,5 @@
-use Rattle.std.proofs.Common.{◌≡◌, ◌∙◌, true, false, length, sym, ap, subst, [], ◌∷◌, ◌++◌, if◌then◌else◌}
+use Rattle.gu_positions.proofs.Words.{◌≡◌, ◌∙◌, true, false, length, sym, ap, subst, [], ◌∷◌, ◌++◌, if◌then◌else◌, KeepsLots, empty_row, IsKept, row_of, rows_of, is_numbered, has_row, Inside}
 use Rattle.std.proofs.lemmas.List.{length-map}
-use Rattle.gu_positions.specs.Changes.{KeepsLots, empty_row}
-use Rattle.gu_positions.specs.Kept.{IsKept, row_of, rows_of}
-use Rattle.gu_positions.specs.Numbers.{is_numbered}
-use Rattle.gu_positions.specs.Rows.{has_row}
-use Rattle.gu_positions.specs.declared.positions.Positions.TheInside.{Inside}
 use Rattle.gu_positions.proofs.KeptLots.{has_row-lookup}
 use Rattle.gu_positions.proofs.OneRowMore.{has_row-one_more, has_row-present, keeps_lots-one_more, kept-one_more}
 use Rattle.gu_positions.proofs.Places.{same_place-own}

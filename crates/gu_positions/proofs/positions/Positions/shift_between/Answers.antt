@@ -1,12 +1,5 @@
-use Rattle.std.proofs.Common.{◌≡◌, ◌∙◌, ◌+◌, ◌<◌, ◌^◌, ◌&&◌, ℕ, true, arith, refl, subst, sym, if◌then◌else◌}
+use Rattle.gu_positions.proofs.Words.{◌≡◌, ◌∙◌, ◌+◌, ◌<◌, ◌^◌, ◌&&◌, ℕ, true, arith, refl, subst, sym, if◌then◌else◌, Side, Buy, Sell, Symbol, same_side, lots_at, lots_at_side, with_less, with_more, account_at, symbol_at, lots_on}
 use Rattle.std.proofs.lemmas.Slice.Eq.{bytes_eq-Decides}
-use Rattle.gu_terms.specs.declared.side.Side.{Side}
-use Rattle.gu_terms.specs.declared.side.Side.TheVariants.{Buy, Sell}
-use Rattle.gu_terms.specs.declared.symbol.Symbol.{Symbol}
-use Rattle.gu_terms.specs.Same.{same_side}
-use Rattle.gu_positions.specs.Changes.{lots_at, lots_at_side, with_less, with_more}
-use Rattle.gu_positions.specs.Numbers.{account_at, symbol_at}
-use Rattle.gu_positions.specs.Rows.{lots_on}
 use Rattle.gu_positions.proofs.Changed.{with_more-with_less}
 use Rattle.gu_positions.proofs.positions.Positions.shift_between.Goals as goal
 

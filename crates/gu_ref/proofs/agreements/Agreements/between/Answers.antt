@@ -1,7 +1,4 @@
-use Rattle.std.proofs.Common.{◌∙◌, ap}
-use Rattle.gu_ref.specs.Kept.{pair_of}
-use Rattle.gu_ref.specs.Listed.{agreement_for}
-use Rattle.gu_terms.proofs.Found.{by_names}
+use Rattle.gu_ref.proofs.Words.{◌∙◌, ap, pair_of, agreement_for, by_names}
 use Rattle.gu_ref.proofs.Lookups.{lookup-by_key}
 use Rattle.gu_ref.proofs.agreements.Agreements.between.Goals as goal
 

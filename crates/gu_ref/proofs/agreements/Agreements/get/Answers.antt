@@ -1,7 +1,4 @@
-use Rattle.std.proofs.Common.{◌∙◌, ap}
-use Rattle.gu_ref.specs.Listed.{agreement_in}
-use Rattle.gu_terms.specs.Same.{same_agreement}
-use Rattle.gu_terms.proofs.Found.{by_name}
+use Rattle.gu_ref.proofs.Words.{◌∙◌, ap, agreement_in, same_agreement, by_name}
 use Rattle.gu_ref.proofs.Lookups.{lookup-by_key}
 use Rattle.gu_ref.proofs.agreements.Agreements.get.Goals as goal
 

@@ -1,7 +1,4 @@
-use Rattle.std.proofs.Common.{◌∙◌, ap}
-use Rattle.gu_ref.specs.Listed.{guarantor_for}
-use Rattle.gu_terms.specs.Same.{same_firm}
-use Rattle.gu_terms.proofs.Found.{by_name}
+use Rattle.gu_ref.proofs.Words.{◌∙◌, ap, guarantor_for, same_firm, by_name}
 use Rattle.gu_ref.proofs.Lookups.{lookup-by_key}
 use Rattle.gu_ref.proofs.guarantors.Guarantors.get.Goals as goal
 

@@ -1,6 +1,4 @@
-use Rattle.std.proofs.Common.{◌∙◌, ap, sym}
-use Rattle.csv.specs.Records.{fields_of}
-use Rattle.gu_ref.specs.Growth.{outcome_of}
+use Rattle.gu_ref.proofs.Words.{◌∙◌, ap, sym, fields_of, outcome_of}
 use Rattle.gu_ref.proofs.Growing.{passes-no_fault}
 use Rattle.gu_ref.proofs.RowNames.{row_named}
 use Rattle.gu_ref.proofs.reference.Reference.accept.Goals as goal

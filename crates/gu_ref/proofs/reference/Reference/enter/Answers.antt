@@ -1,5 +1,4 @@
-use Rattle.gu_terms.specs.Same.{same_symbol}
-use Rattle.std.specs.Result.{is_ok}
+use Rattle.gu_ref.proofs.Words.{same_symbol, is_ok}
 use Rattle.gu_ref.proofs.Growing.{firm-pushed, group-pushed, instrument-pushed, account-pushed, agreement-pushed, guarantor-pushed, no_instrument}
 use Rattle.gu_ref.proofs.reference.Reference.enter.Goals as goal
 

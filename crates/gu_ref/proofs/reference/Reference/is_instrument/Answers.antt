@@ -1,8 +1,5 @@
-use Rattle.std.proofs.Common.{◌∙◌, ap}
-use Rattle.gu_terms.specs.Same.{same_symbol}
+use Rattle.gu_ref.proofs.Words.{◌∙◌, ap, same_symbol, Tables, is_some-find}
 use Rattle.gu_ref.specs.Reference.{is_instrument}
-use Rattle.gu_ref.specs.Tables.{Tables}
-use Rattle.gu_terms.proofs.Found.{is_some-find}
 use Rattle.gu_ref.proofs.reference.Reference.is_instrument.Goals as goal
 
 pub returns : goal.returns

@@ -1,11 +1,6 @@
-use Rattle.std.proofs.Common.{ap}
-use Rattle.std.specs.Option.{option_map}
+use Rattle.gu_ref.proofs.Words.{ap, option_map, Agreement, Guarantor, same_account, same_firm, by_name, by_names, found_by_own_name}
 use Rattle.gu_ref.specs.declared.accounts.Account.{Account}
-use Rattle.gu_ref.specs.declared.agreements.Agreement.{Agreement}
-use Rattle.gu_ref.specs.declared.guarantors.Guarantor.{Guarantor}
 use Rattle.gu_ref.specs.Rules.{same_pair}
-use Rattle.gu_terms.specs.Same.{same_account, same_firm}
-use Rattle.gu_terms.proofs.Found.{by_name, by_names, found_by_own_name}
 use Rattle.gu_ref.proofs.reference.Reference.rules.Goals as goal
 
 pub returns : goal.returns

@@ -1,5 +1,4 @@
-use Rattle.std.proofs.Common.{◌∙◌, ap, is_some}
-use Rattle.std.specs.List.{find}
+use Rattle.gu_ref.proofs.Words.{◌∙◌, ap, is_some, find}
 use Rattle.gu_ref.proofs.Lookups.{lookup-by_key}
 use Rattle.gu_ref.proofs.table.Table.contains.Goals as goal
 

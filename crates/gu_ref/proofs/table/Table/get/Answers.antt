@@ -1,5 +1,4 @@
-use Rattle.std.proofs.Common.{◌∙◌, ap}
-use Rattle.std.specs.List.{find}
+use Rattle.gu_ref.proofs.Words.{◌∙◌, ap, find}
 use Rattle.gu_ref.proofs.Lookups.{lookup-by_key}
 use Rattle.gu_ref.proofs.table.Table.get.Goals as goal
 

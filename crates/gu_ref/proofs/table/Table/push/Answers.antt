@@ -1,5 +1,4 @@
-use Rattle.std.proofs.Common.{◌≡◌, ◌++◌, ◌∷◌, [], map}
-use Rattle.std.specs.Map.{keys_of, values_of}
+use Rattle.gu_ref.proofs.Words.{◌≡◌, ◌++◌, ◌∷◌, [], map, keys_of, values_of}
 use Rattle.gu_ref.proofs.Lookups.{pushed}
 use Rattle.gu_ref.proofs.table.Table.push.Given.{Over}
 use Rattle.gu_ref.proofs.table.Table.push.Goals as goal

@@ -1,9 +1,4 @@
-use Rattle.std.proofs.Common.{◌≤◌, List, length, map, subst, arith}
-use Rattle.std.proofs.lemmas.List.{take_all}
-use Rattle.gu_msgs.specs.Written.{outbound_of}
-use Rattle.gu_msgs.specs.declared.outbound.Outbound.{Outbound}
-use Rattle.gu_session.specs.Encoded.{AreOutputs, Sends}
-use Rattle.gu_session.specs.Readiness.{sent_with}
+use Rattle.gu_session.proofs.Words.{◌≤◌, List, length, map, subst, arith, take_all, outbound_of, Outbound, AreOutputs, Sends, sent_with}
 use Rattle.gu_session.proofs.OntoLemmas.{length-sent_with}
 use Rattle.gu_session.proofs.OutputLemmas.{one_more}
 use Rattle.gu_session.proofs.sending.Pen.outputs.Goals as goal

@@ -1,6 +1,4 @@
-use Rattle.std.proofs.Common.{map, take}
-use Rattle.gu_session.specs.Encoded.{AreOutputs, Sends}
-use Rattle.gu_session.specs.Readiness.{sent_with}
+use Rattle.gu_session.proofs.Words.{map, take, AreOutputs, Sends, sent_with}
 use Rattle.gu_session.proofs.sending.Pen.outputs.Given as goal
 
 -- the messages so far

@@ -1,11 +1,4 @@
-use Rattle.std.proofs.Common.{◌≤◌, List, length, subst, ◌∙◌, arith}
-use Rattle.std.specs.List.{flat_map}
-use Rattle.std.proofs.lemmas.List.{take_all}
-use Rattle.gu_msgs.specs.Written.{outbound_of}
-use Rattle.gu_msgs.specs.declared.outbound.Outbound.{Outbound}
-use Rattle.gu_session.specs.Appending.{FollowText}
-use Rattle.gu_session.specs.Outputs.{bytes_in}
-use Rattle.gu_session.specs.Readiness.{sent_with}
+use Rattle.gu_session.proofs.Words.{◌≤◌, List, length, subst, ◌∙◌, arith, flat_map, take_all, outbound_of, Outbound, FollowText, bytes_in, sent_with}
 use Rattle.gu_session.proofs.OntoLemmas.{follow-more, length-sent_with, on_err_from}
 use Rattle.gu_session.proofs.sending.Pen.push_all.Goals as goal
 

@@ -1,6 +1,4 @@
-use Rattle.std.proofs.Common.{take}
-use Rattle.gu_session.specs.Appending.{FollowText}
-use Rattle.gu_session.specs.Readiness.{sent_with}
+use Rattle.gu_session.proofs.Words.{take, FollowText, sent_with}
 use Rattle.gu_session.proofs.sending.Pen.push_all.Given as goal
 
 -- the messages so far

@@ -1,6 +1,4 @@
-use Rattle.std.proofs.Common.{◌≡◌, ◌+◌, ◌-◌, ◌/◌, ℕ, Some, None, suc, take, slice_get, sym, ap, ◌∙◌, subst, arith}
-use Rattle.std.specs.Option.{option_copied}
-use Rattle.gu_session.specs.Ascending.{AreBelow}
+use Rattle.gu_session.proofs.Words.{◌≡◌, ◌+◌, ◌-◌, ◌/◌, ℕ, Some, None, suc, take, slice_get, sym, ap, ◌∙◌, subst, arith, option_copied, AreBelow}
 use Rattle.gu_session.proofs.Places.{below-take, from-drop-at, from-drop-none}
 use Rattle.gu_session.proofs.sent_ring.SentRing.place_of.Goals as goal
 

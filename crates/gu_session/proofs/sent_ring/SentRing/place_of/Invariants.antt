@@ -1,5 +1,4 @@
-use Rattle.std.proofs.Common.{◌-◌, ◌≤◌, length, take, drop}
-use Rattle.gu_session.specs.Ascending.{AreBelow, AreFrom}
+use Rattle.gu_session.proofs.Words.{◌-◌, ◌≤◌, length, take, drop, AreBelow, AreFrom}
 use Rattle.gu_session.proofs.sent_ring.SentRing.place_of.Given as goal
 
 -- the index sought is between the two

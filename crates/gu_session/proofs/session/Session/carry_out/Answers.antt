@@ -1,10 +1,4 @@
-use Rattle.std.proofs.Common.{◌≡◌, List, true, false, refl, ap, sym, subst, ◌∙◌}
-use Rattle.gu_session.specs.Following.{FollowsOnto}
-use Rattle.gu_session.specs.Readiness.{seen}
-use Rattle.gu_session.specs.Sending.{is_over}
-use Rattle.gu_session.specs.States.{SessionState}
-use Rattle.gu_session.specs.declared.plan.Course.TheVariants.{Go}
-use Rattle.gu_session.specs.declared.logged_on.Waiting.{Waiting}
+use Rattle.gu_session.proofs.Words.{◌≡◌, List, true, false, refl, ap, sym, subst, ◌∙◌, FollowsOnto, seen, is_over, SessionState, Go, Waiting}
 use Rattle.gu_session.proofs.OntoLemmas.{leaving_followed, plan_followed}
 use Rattle.gu_session.proofs.session.Session.carry_out.Goals as goal
 

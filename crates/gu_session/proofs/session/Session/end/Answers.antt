@@ -1,9 +1,5 @@
-use Rattle.std.proofs.Common.{refl, subst}
-use Rattle.gu_session.specs.Outputs.{StepsOnto}
-use Rattle.gu_session.specs.Readiness.{seen}
-use Rattle.gu_session.specs.States.{SessionState}
+use Rattle.gu_session.proofs.Words.{refl, subst, StepsOnto, seen, SessionState, Leave}
 use Rattle.gu_session.specs.declared.input.Input.TheVariants.{End}
-use Rattle.gu_session.specs.declared.plan.Course.TheVariants.{Leave}
 use Rattle.gu_session.proofs.OntoLemmas.{followed_steps, leaving_followed}
 use Rattle.gu_session.proofs.session.Session.end.Goals as goal
 

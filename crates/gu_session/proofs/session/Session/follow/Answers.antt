@@ -1,8 +1,4 @@
-use Rattle.std.proofs.Common.{refl, subst}
-use Rattle.gu_session.specs.Following.{FollowsOnto}
-use Rattle.gu_session.specs.Readiness.{seen}
-use Rattle.gu_session.specs.States.{SessionState}
-use Rattle.gu_session.specs.declared.plan.Course.TheVariants.{Leave}
+use Rattle.gu_session.proofs.Words.{refl, subst, FollowsOnto, seen, SessionState, Leave}
 use Rattle.gu_session.proofs.OntoLemmas.{leaving_followed}
 use Rattle.gu_session.proofs.session.Session.follow.Goals as goal
 

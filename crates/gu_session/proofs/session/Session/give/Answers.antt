@@ -1,12 +1,4 @@
-use Rattle.std.proofs.Common.{◌≡◌, List, false, ap, sym, subst, ◌∙◌, append_assoc}
-use Rattle.gu_session.specs.Following.{Follows}
-use Rattle.gu_session.specs.Given.{end_outputs, handed_outputs}
-use Rattle.gu_session.specs.Readiness.{seen}
-use Rattle.gu_session.specs.Sending.{is_over}
-use Rattle.gu_session.specs.States.{SessionState}
-use Rattle.gu_session.specs.declared.output.Output.{Output}
-use Rattle.gu_session.specs.declared.plan.Course.TheVariants.{Go}
-use Rattle.gu_session.specs.declared.logged_on.Waiting.{Waiting}
+use Rattle.gu_session.proofs.Words.{◌≡◌, List, false, ap, sym, subst, ◌∙◌, append_assoc, Follows, end_outputs, handed_outputs, seen, is_over, SessionState, Output, Go, Waiting}
 use Rattle.gu_session.proofs.OntoLemmas.{plan_given}
 use Rattle.gu_session.proofs.session.Session.give.Goals as goal
 

@@ -1,11 +1,5 @@
-use Rattle.std.proofs.Common.{refl, ap, ◌∙◌}
-use Rattle.std.specs.Option.{option_map_or}
-use Rattle.gu_msgs.specs.declared.outbound.Body.{Body}
-use Rattle.gu_session.specs.AnswerRules.{message_course}
-use Rattle.gu_session.specs.Readiness.{seen}
+use Rattle.gu_session.proofs.Words.{refl, ap, ◌∙◌, option_map_or, Body, message_course, seen, Leave, Stay, LoggedOn}
 use Rattle.gu_session.specs.declared.input.Input.TheVariants.{End, Notice}
-use Rattle.gu_session.specs.declared.plan.Course.TheVariants.{Leave, Stay}
-use Rattle.gu_session.specs.declared.logged_on.LoggedOn.{LoggedOn}
 use Rattle.gu_session.proofs.StepLemmas.{performed_steps}
 use Rattle.gu_session.proofs.session.Session.step.Goals as goal
 

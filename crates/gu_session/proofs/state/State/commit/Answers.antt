@@ -1,9 +1,5 @@
-use Rattle.std.proofs.Common.{◌≡◌, ◌++◌, length, refl, ap, ◌∙◌}
+use Rattle.gu_session.proofs.Words.{◌≡◌, ◌++◌, length, refl, ap, ◌∙◌, Buffer, buffer, keep_last, new_of, sent_by, sent_in, seen, extended}
 use Rattle.std.specs.List.{filter_map}
-use Rattle.circular_buffer.specs.Buffer.{Buffer, buffer, keep_last}
-use Rattle.gu_session.specs.Sending.{new_of, sent_by, sent_in}
-use Rattle.gu_session.specs.Readiness.{seen}
-use Rattle.gu_session.specs.Sound.{extended}
 use Rattle.gu_session.proofs.KeptLemmas.{committed_sent, committed_sound, kept_in_room}
 use Rattle.gu_session.proofs.state.State.commit.Goals as goal
 

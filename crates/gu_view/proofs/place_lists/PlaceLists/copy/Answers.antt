@@ -1,6 +1,4 @@
-use Rattle.std.proofs.Common.{◌≡◌, ◌∙◌}
-use Rattle.std.proofs.lemmas.List.Elements.{same_from_all_zip}
-use Rattle.gu_view.specs.Keeping.{lists_from}
+use Rattle.gu_view.proofs.Words.{◌≡◌, ◌∙◌, same_from_all_zip, lists_from}
 use Rattle.gu_view.proofs.place_lists.PlaceLists.copy.Goals as goal
 
 pub returns : goal.returns

@@ -1,5 +1,4 @@
-use Rattle.std.proofs.Common.{arith, ◌∙◌, ◌<◌, ap, length, get_or, ◌∷◌}
-use Rattle.std.proofs.lemmas.List.{get_or_read}
+use Rattle.gu_view.proofs.Words.{arith, ◌∙◌, ◌<◌, ap, length, get_or, ◌∷◌, get_or_read}
 use Rattle.gu_view.proofs.ListsInOne.{list_at, ends_in_order, length-lists_from}
 use Rattle.gu_view.proofs.place_lists.PlaceLists.list.Goals as goal
 

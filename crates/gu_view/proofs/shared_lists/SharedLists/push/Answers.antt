@@ -1,5 +1,4 @@
-use Rattle.std.proofs.Common.{◌<◌, length}
-use Rattle.std.proofs.lemmas.List.Elements.{recursion_from_All}
+use Rattle.gu_view.proofs.Words.{◌<◌, length, recursion_from_All}
 use Rattle.gu_view.proofs.ListsInOne.{lists_at-push}
 use Rattle.gu_view.proofs.shared_lists.SharedLists.push.Goals as goal
 

@@ -1,5 +1,4 @@
-use Rattle.std.proofs.Common.{◌≡◌, ◌∙◌}
-use Rattle.std.proofs.lemmas.List.Elements.{same_from_all_zip}
+use Rattle.gu_view.proofs.Words.{◌≡◌, ◌∙◌, same_from_all_zip}
 use Rattle.gu_view.proofs.view.View.copy.Goals as goal
 use Rattle.gu_view.proofs.view.View.copy.Goals.{In_ok-clone-3}
 

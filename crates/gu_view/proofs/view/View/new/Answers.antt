@@ -1,5 +1,4 @@
-use Rattle.std.proofs.Common.{◌≡◌, ◌∙◌, None, sym}
-use Rattle.gu_view.specs.Making.{bad_offer}
+use Rattle.gu_view.proofs.Words.{◌≡◌, ◌∙◌, None, sym, bad_offer}
 use Rattle.gu_view.proofs.MakingLemmas.{good_offers}
 use Rattle.gu_view.proofs.view.View.new.Goals as goal
 

@@ -1,11 +1,4 @@
-use Rattle.std.proofs.Common.{◌≡◌, ◌==◌, ◌<◌, ◌∙◌, ℕ, Bool, true, false, cond, List, None, Some, length, nat_lt, refl, sym, ap, arith}
-use Rattle.std.specs.Prelude.{find, position, slice_get}
-use Rattle.std.specs.List.{position_or_len}
-use Rattle.std.specs.Option.{option_and_then, option_copied}
-use Rattle.std.proofs.lemmas.Bool.{ltb-false, ltb-true}
-use Rattle.std.proofs.lemmas.List.Folds.{find_at}
-use Rattle.std.proofs.lemmas.Option.{slice_get-get_or, slice_get_past}
-use Rattle.gu_view.specs.declared.view.ViewOffer.{ViewOffer}
+use Rattle.gu_view.proofs.Words.{◌≡◌, ◌==◌, ◌<◌, ◌∙◌, ℕ, Bool, true, false, cond, List, None, Some, length, nat_lt, refl, sym, ap, arith, find, position, slice_get, position_or_len, option_and_then, option_copied, ltb-false, ltb-true, find_at, slice_get-get_or, slice_get_past, ViewOffer}
 use Rattle.gu_view.proofs.view.View.offer.Goals as goal
 
 -- what is found is at its index

@@ -1,8 +1,4 @@
-use Rattle.std.proofs.Common.{◌≤◌, ◌∙◌, ap, map, subst, sym}
-use Rattle.std.specs.Prelude.{All}
-use Rattle.std.proofs.lemmas.List.Elements.{All-from_recursion}
-use Rattle.gu_view.specs.Making.{in_order}
-use Rattle.gu_view.specs.declared.view.Room.{Room}
+use Rattle.gu_view.proofs.Words.{◌≤◌, ◌∙◌, ap, map, subst, sym, All, All-from_recursion, in_order, Room}
 use Rattle.gu_view.proofs.MakingLemmas.{in_order-keys, in_order-limits}
 use Rattle.gu_view.proofs.view.View.with_rooms.Goals as goal
 
