@@ -34,7 +34,7 @@ use Rattle.gu_days.specs.PlayedBack.{ArePlayedBack, IsPlayedBack, played}
 use Rattle.gu_days.specs.Resumed.{IsDayAgain}
 use Rattle.gu_days.proofs.Alike.{AreAlike, alike-append, alike-group_view, alike-length, alike-state_of, one_book}
 use Rattle.gu_days.proofs.OneChoice.{same_sweep}
-use Rattle.gu_days.proofs.OneCut.{rooms_of}
+use Rattle.gu_days.proofs.ViewRooms.{rooms_of}
 use Rattle.gu_days.proofs.Played.{alike-entry, follows-here, legal-on, open_day-step, played-answered, played_back_alike}
 
 -- ---- what lines say is one thing

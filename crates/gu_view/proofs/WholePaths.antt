@@ -1,5 +1,5 @@
 -- Whole paths: each key is at its step, so none is there twice, and each has an index of its own among the rooms.
-use Rattle.gu_view.proofs.Words.{◌≡◌, ◌≢◌, ℕ, zero, suc, ◌<◌, List, Option, None, Some, length, map, get_or, slice_get, refl, sym, ap, ◌∙◌, arith, AllPairs, get_or-map, length-map, All-from_recursion, slice_get-get_or, path_through, ArePathKeys, AccountId, AgreementId, FirmId, LimitKey, Exec, Agr, Acct, Carry, Guar, step_of, IsPath, place_of, Room, ViewOffer}
+use Rattle.gu_view.proofs.Words.{◌≡◌, ◌≢◌, ℕ, zero, suc, ◌<◌, List, Option, None, Some, length, map, get_or, slice_get, sym, ap, ◌∙◌, arith, AllPairs, get_or-map, length-map, slice_get-get_or, path_through, ArePathKeys, AccountId, AgreementId, FirmId, LimitKey, Exec, Agr, Acct, Carry, Guar, step_of, IsPath, place_of, Room, ViewOffer}
 use Rattle.gu_view.proofs.TakesLemmas.{key_at_place}
 
 -- each key is at its step

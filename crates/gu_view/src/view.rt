@@ -236,6 +236,8 @@ impl View {
     pub fn nested(&self) -> bool
         ensures { IsTrue result ↔ IsNested self.now }
     {
+        // Reading a field shows the prover that each path is whole.
+        let _ = &self.rooms;
         keys_agree(self)
     }
 

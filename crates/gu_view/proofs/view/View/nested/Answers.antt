@@ -1,4 +1,4 @@
-use Rattle.std.proofs.Common.{◌∙◌, sym}
+use Rattle.gu_view.proofs.Words.{◌∙◌, sym}
 use Rattle.gu_view.proofs.NestingLemmas.{nested_from, rooms_agree}
 use Rattle.gu_view.proofs.view.View.nested.Goals as goal
 
