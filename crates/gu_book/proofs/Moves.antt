@@ -1,9 +1,9 @@
 -- The takes of a sweep, moved one after another.
-use Rattle.std.proofs.Common.{◌≡◌, ℕ, suc, ◌+◌, ◌-◌, ◌<◌, ◌≤◌, ◌++◌, false, List, [], ◌∷◌, length, map, take, get_or, slice_get, slice_index_or, Option, Some, None, IfSome, refl, sym, ap, ◌∙◌, arith, append-nil, append_assoc, subst}
+use Rattle.std.proofs.Common.{◌≡◌, ℕ, suc, ◌+◌, ◌-◌, ◌<◌, ◌≤◌, ◌++◌, false, List, [], ◌∷◌, length, map, drop, take, get_or, slice_get, slice_index_or, Option, Some, None, IfSome, refl, sym, ap, ◌∙◌, arith, append-nil, append_assoc, subst}
 use Rattle.std.specs.Prelude.{All}
 use Rattle.std.specs.List.{AllByRecursion}
 use Rattle.std.specs.Option.{option_map, option_map_or}
-use Rattle.std.proofs.lemmas.List.{map-append, take_more}
+use Rattle.std.proofs.lemmas.List.{drop_more, map-append, take_more}
 use Rattle.std.proofs.lemmas.List.Elements.{All-from_recursion}
 use Rattle.std.proofs.lemmas.List.Sums.{sum_by-cons}
 use Rattle.std.proofs.lemmas.Option.{none-some}
@@ -87,23 +87,23 @@ module _ (reference : Tables) (totals : Totals) (offers : List ShownOffer) (one_
       none-some (path_after reference there-now.0.offer) (ap (option_map (λ (o : ShownOffer). o.path)) none ∙ has)
 
   module _ (offer : Offer) (seen : Some offer ≡ option_map (λ (r : Row). r.offer) (row_at totals.offers one_take.offer)) where
-    one : (row : Row) × (row_at totals.offers one_take.offer ≡ Some row) × (row.offer ≡ offer)
-    one = seen-row totals one_take.offer offer seen
+    in-row : (row : Row) × (row_at totals.offers one_take.offer ≡ Some row) × (row.offer ≡ offer)
+    in-row = seen-row totals one_take.offer offer seen
 
     -- its report is found
     pub is-reported : None ≡ option_map terms_of (report_by totals.trades offer.firm offer.report) → ⊥
     is-reported none =
-        let rows : Some one.0 ≡ Some there-now.0 = sym one.1 ∙ there-now.2 in
-        let row : one.0 ≡ there-now.0 = cc in
-        let same : offer ≡ there-now.0.offer = sym one.2 ∙ ap (λ (r : Row). r.offer) row in
+        let rows : Some in-row.0 ≡ Some there-now.0 = sym in-row.1 ∙ there-now.2 in
+        let row : in-row.0 ≡ there-now.0 = cc in
+        let same : offer ≡ there-now.0.offer = sym in-row.2 ∙ ap (λ (r : Row). r.offer) row in
         none-some (terms_of there-now.1) (none ∙ ap (option_map terms_of) ((λ i. report_by totals.trades (same i).firm (same i).report) ∙ there-now.3))
 
     -- and the view has the path that applies to it
     pub shown-path : (shown : ShownOffer) → Some shown ≡ offer_of offers one_take.offer → shown.path ≡ path_after reference offer
     shown-path shown found =
         let has =
-        subst (λ (found : Option Row). IfSome found (λ (row : Row). option_map (λ (o : ShownOffer). o.path) (offer_of offers one_take.offer) ≡ Some (path_after reference row.offer))) one.1 open_.path
-        ∙ ap (λ (o : Offer). Some (path_after reference o)) one.2 in
+        subst (λ (found : Option Row). IfSome found (λ (row : Row). option_map (λ (o : ShownOffer). o.path) (offer_of offers one_take.offer) ≡ Some (path_after reference row.offer))) in-row.1 open_.path
+        ∙ ap (λ (o : Offer). Some (path_after reference o)) in-row.2 in
         let both : Some shown.path ≡ Some (path_after reference offer) = ap (option_map (λ (o : ShownOffer). o.path)) found ∙ has in cc
 
 -- while no answer changes, a view still shows the take at an index
@@ -227,12 +227,18 @@ claims-after old mid new moved same stay claims = record {
 
 -- ---- one take
 
-module _ (reference : Tables) (totals : Totals) (t : Transfer) (ready : IsReady reference totals t) (may : MayTake reference totals (taken_by t ∷ [])) where
+module _ (reference : Tables) (totals : Totals) (t : Transfer) (ts : List Transfer) (first : MayMove reference totals (t ∷ ts)) where
   abbrev moved : Moved
   moved = t.moved
 
+  abbrev found : IsFound reference totals moved
+  found = first.ready.0.found
+
   abbrev offer : Offer
-  offer = ready.found.offer
+  offer = found.offer
+
+  abbrev may : MayTake reference totals (taken_by t ∷ map taken_by ts)
+  may = first.may
 
   there : (row : Row) × (report : Report) × IsThere may.history moved.number row report × (row.is_shut ≡ false) × (row.moved + left_in totals.offers moved.number ≤ row.offer.lots)
   there = found-there reference may.history totals moved.number may.kept may.still_open.0
@@ -240,28 +246,28 @@ module _ (reference : Tables) (totals : Totals) (t : Transfer) (ready : IsReady 
   -- its room suffices
   room : All (λ key. moved.lots ≤ room_in totals.limits moved.group key) (path_after reference offer)
   room k d within =
-      let one = seen-row totals moved.number offer ready.found.seen.shown in
+      let one = seen-row totals moved.number offer found.seen.shown in
       let key = slice_index_or (path_after reference offer) k d in
       let uses : option_map_or (λ (r : Row). lots_under r.offer.group (path_after reference r.offer) moved.lots offer.group key) (row_at totals.offers moved.number) 0
       ≡ lots_under offer.group (path_after reference offer) moved.lots offer.group key =
       rw one.1 (ap (λ (o : Offer). lots_under o.group (path_after reference o) moved.lots offer.group key) one.2) in
       let mine : lots_under offer.group (path_after reference offer) moved.lots offer.group key ≡ moved.lots = rw (same_group-own offer.group, key_at (path_after reference offer) k d within) refl in
-      subst (λ (group : Group). moved.lots ≤ room_in totals.limits group key) (sym ready.found.group_is)
+      subst (λ (group : Group). moved.lots ≤ room_in totals.limits group key) (sym found.group_is)
       (omega (
         arith,
         may.room offer.group key,
-        sum_by-cons (λ (t : Take). option_map_or (λ (r : Row). lots_under r.offer.group (path_after reference r.offer) t.lots offer.group key) (row_at totals.offers t.offer) 0) (taken_by t) [],
+        sum_by-cons (λ (t : Take). option_map_or (λ (r : Row). lots_under r.offer.group (path_after reference r.offer) t.lots offer.group key) (row_at totals.offers t.offer) 0) (taken_by t) (map taken_by ts),
         uses,
         mine,
       ))
 
   charge : MayCharge totals.limits moved.group (path_after reference offer) moved.lots moved.limits
-  charge = record { under = ready.found.under; once = path_after-once reference offer; room = room }
+  charge = record { under = found.under; once = path_after-once reference offer; room = room }
 
   -- its lots are held
   held : IsHeld totals.positions moved moved.report.account
   held =
-      let same = (seen-is reference may.history totals moved.number offer moved.report there.1 there.0 may.kept.beside ready.found.seen there.2).1 in
+      let same = (seen-is reference may.history totals moved.number offer moved.report there.1 there.0 may.kept.beside found.seen there.2).1 in
       let less : there.0.moved + moved.lots ≤ there.0.offer.lots = omega (arith, there.4, may.left.0) in
       subst (λ (r : Terms). moved.lots ≤ lots_in totals.positions r.side r.account r.symbol) (sym same)
       (taken-there reference may.history totals moved.number moved.lots there.0 there.1 may.kept there.2 there.3 less)
@@ -273,10 +279,10 @@ module _ (reference : Tables) (totals : Totals) (t : Transfer) (ready : IsReady 
   -- and its take is then moved
   pub moves-one : (new : Totals) → ClaimsLots totals new moved → MovesOne reference totals new (taken_by t)
   moves-one new carried =
-      let one = seen-row totals moved.number offer ready.found.seen.shown in
+      let one = seen-row totals moved.number offer found.seen.shown in
       let uses : UsesMore reference totals.limits new.limits offer moved.lots =
-      subst (λ (group : Group). Charges totals.limits new.limits group (path_after reference offer) moved.lots) ready.found.group_is (carried.limits (path_after reference offer) charge) in
-      let holds = subst (λ (account : AccountId). HoldsMoved totals.positions new.positions moved.report moved.report.account account moved.lots) ready.found.account_is carried.positions in
+      subst (λ (group : Group). Charges totals.limits new.limits group (path_after reference offer) moved.lots) found.group_is (carried.limits (path_after reference offer) charge) in
+      let holds = subst (λ (account : AccountId). HoldsMoved totals.positions new.positions moved.report moved.report.account account moved.lots) found.account_is carried.positions in
       record {
         entries = carried.entries;
         offers = carried.offers;
@@ -286,7 +292,7 @@ module _ (reference : Tables) (totals : Totals) (t : Transfer) (ready : IsReady 
         sums = carried.positions.sums;
         kept = λ history sweep kept.
             let f = found-there reference history totals moved.number kept may.still_open.0 in
-            lots-taken reference history totals new (part sweep (taken_by t)) moved.number moved.lots offer moved.report f.1 f.0 ready.found.seen (part-takes sweep (taken_by t)) carried.entries carried.offers uses holds kept f.2 f.3
+            lots-taken reference history totals new (part sweep (taken_by t)) moved.number moved.lots offer moved.report f.1 f.0 found.seen (part-takes sweep (taken_by t)) carried.entries carried.offers uses holds kept f.2 f.3
             (omega (arith, f.4, may.left.0));
       }
 
@@ -376,18 +382,21 @@ module _ (reference : Tables) (old new : Totals) (one_take : Take) (moves : Move
         (moves.kept (history ++ parts sweep takes) sweep (before.kept history sweep kept));
   }
 
--- the first of takes that may be moved may be moved
-pub may-first : (reference : Tables) (totals : Totals) (one_take : Take) (takes : List Take) → MayTake reference totals (one_take ∷ takes) → MayTake reference totals (one_take ∷ [])
-may-first reference totals one_take takes may = record {
-  history = may.history;
-  kept = may.kept;
-  ascending = (tt, tt);
-  still_open = (may.still_open.0, tt);
-  left = (may.left.0, tt);
-  room = λ group key.
-      let uses : Take → ℕ = λ t. option_map_or (λ (r : Row). lots_under r.offer.group (path_after reference r.offer) t.lots group key) (row_at totals.offers t.offer) 0 in
-      omega (arith, may.room group key, sum_by-cons uses one_take takes, sum_by-cons uses one_take []);
-}
+-- the transfer at an index, and those after it
+pub next-transfer : (reference : Tables) (totals : Totals) (all : List Transfer) (i : ℕ) {t : Transfer} → i < length all → t ≡ get_or all i t → MayMove reference totals (drop i all)
+    → MayMove reference totals (t ∷ drop (i + 1) all)
+next-transfer reference totals all i {t} within is = subst (MayMove reference totals) (drop_more all i t within ∙ ap (λ (t : Transfer). t ∷ drop (i + 1) all) (sym is))
+
+-- it was carried out after those before it
+pub carried-next : (reference : Tables) (first old new : Totals) (all : List Transfer) (i : ℕ) {t : Transfer} → i < length all → t ≡ get_or all i t → ClaimsLots old new t.moved
+    → MayMove reference old (drop i all) × MovesAll reference first old (map taken_by (take i all)) → MayMove reference new (drop (i + 1) all) × MovesAll reference first new (map taken_by (take (i + 1) all))
+carried-next reference first old new all i {t} within is claims so_far =
+    let may = next-transfer reference old all i within is so_far.0 in
+    let one = moves-one reference old t (drop (i + 1) all) may new claims in
+    let done = ap (map taken_by) (take_more all i t within ∙ ap (λ (t : Transfer). take i all ++ t ∷ []) (sym is)) ∙ map-append taken_by (take i all) (t ∷ []) in (
+      may-rest reference old new (taken_by t) one t (drop (i + 1) all) refl may,
+      subst (MovesAll reference first new) (sym done) (moves-on reference old new (taken_by t) one first (map taken_by (take i all)) so_far.1),
+    )
 
 -- nothing was moved
 pub moves-none : (reference : Tables) (totals : Totals) → MovesAll reference totals totals []
