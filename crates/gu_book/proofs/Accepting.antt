@@ -22,7 +22,7 @@ use Rattle.gu_terms.specs.declared.side.Side.{Side}
 use Rattle.gu_terms.specs.declared.side.Side.TheVariants.{Buy, Sell}
 use Rattle.gu_terms.specs.declared.symbol.Symbol.{Symbol}
 use Rattle.gu_ref.specs.Tables.{Tables}
-use Rattle.gu_limits.specs.Changes.{Charges, MayCharge, MayReturn, Returns}
+use Rattle.gu_limits.specs.Changes.{Charges, MayReturn, Returns}
 use Rattle.gu_limits.specs.Limits.{room_in, used_in}
 use Rattle.gu_trades.specs.Reports.{report_by}
 use Rattle.gu_trades.specs.Terms.{terms_of}
@@ -50,6 +50,7 @@ use Rattle.gu_book.specs.Accepted.{MayTakeIn, TakesIn}
 use Rattle.gu_book.specs.Beside.{IsBeside, IsKept, state_in}
 use Rattle.gu_book.specs.Effects.{HoldsMoved, SameEntries, UsesLess, UsesMore}
 use Rattle.gu_book.specs.Deeds.{AreFound, MovesLots, claim_of, reversal_of}
+use Rattle.gu_book.specs.Moving.{ClaimsLots, MayClaim}
 use Rattle.gu_book.specs.declared.deed.Moved.{Moved}
 use Rattle.gu_book.specs.declared.totals.Totals.{Totals}
 use Rattle.gu_book.proofs.KeptOffers.{kept-refused, kept-taken, kept-taken_back, within-taken}
@@ -133,9 +134,13 @@ abbrev pub ClaimsAll : Tables → Totals → Command → Moved → Type 0
 ClaimsAll reference totals command it = MovesLots reference totals command claim_of it (left_in totals.offers it.number)
 
 -- a claim has room, and its lots are held
-pub claim-fits : (reference : Tables) (totals : Totals) (command : Command) (it : Moved) → MayTakeIn reference totals command → (is : ClaimsAll reference totals command it)
-    → MayCharge totals.limits it.group (path_after reference is.offer) it.lots it.limits × (it.lots ≤ lots_in totals.positions it.report.side it.report.account it.report.symbol)
-claim-fits reference totals command it may is = (record { under = is.under; once = path_after-once reference is.offer; room = room }, there)
+pub claim-fits : (reference : Tables) (totals : Totals) (command : Command) (it : Moved) → MayTakeIn reference totals command → ClaimsAll reference totals command it → MayClaim totals it
+claim-fits reference totals command it may is = record {
+  keys = path_after reference is.found.offer;
+  room = record { under = is.found.under; once = path_after-once reference is.found.offer; room = room };
+  left = omega (arith, is.all);
+  there = there;
+}
   where
     asked : MayTakeIn reference totals (claim_of is.firm it.number)
     asked = subst (MayTakeIn reference totals) is.is may
@@ -146,19 +151,19 @@ claim-fits reference totals command it may is = (record { under = is.under; once
     f : (row : Row) × (report : Report) × MayBeClaimed reference history it.number row report
     f = claimable reference history is.firm it.number (in_order history asked.kept.orderly) asked.accepted
 
-    same : (is.offer ≡ f.0.offer) × (it.report ≡ terms_of f.1)
-    same = seen-is reference history totals it.number is.offer it.report f.1 f.0 asked.kept.beside is.seen f.2.there
+    same : (is.found.offer ≡ f.0.offer) × (it.report ≡ terms_of f.1)
+    same = seen-is reference history totals it.number is.found.offer it.report f.1 f.0 asked.kept.beside is.found.seen f.2.there
 
     left : it.lots ≡ left_in (standing_of history) it.number
     left = is.all ∙ ap (λ (rs : List Row). left_in rs it.number) asked.kept.beside.offers
 
-    room : All (λ key. it.lots ≤ room_in totals.limits it.group key) (path_after reference is.offer)
+    room : All (λ key. it.lots ≤ room_in totals.limits it.group key) (path_after reference is.found.offer)
     room k d within =
         let Room : Offer → Type 0 = λ o. k < length (path_after reference o) → left_in (standing_of history) it.number ≤ room_of reference history o.group (slice_index_or (path_after reference o) k d) in
         let has = subst Room (sym same.0) (f.2.room k d) within in
-        let key = slice_index_or (path_after reference is.offer) k d in
-        subst (λ (group : Group). it.lots ≤ room_in totals.limits group key) (sym is.group_is)
-        (omega (arith, has, left, asked.kept.beside.limits is.offer.group key, asked.kept.beside.uses is.offer.group key))
+        let key = slice_index_or (path_after reference is.found.offer) k d in
+        subst (λ (group : Group). it.lots ≤ room_in totals.limits group key) (sym is.found.group_is)
+        (omega (arith, has, left, asked.kept.beside.limits is.found.offer.group key, asked.kept.beside.uses is.found.offer.group key))
 
     there : it.lots ≤ lots_in totals.positions it.report.side it.report.account it.report.symbol
     there =
@@ -166,19 +171,18 @@ claim-fits reference totals command it may is = (record { under = is.under; once
         subst (λ (r : Terms). it.lots ≤ lots_in totals.positions r.side r.account r.symbol) (sym same.1) (omega (arith, fits, left))
 
 -- a claim is applied
-pub claim-taken : (reference : Tables) (old new : Totals) (command : Command) (it : Moved) → (is : ClaimsAll reference old command it) → SameEntries old new → new.offers ≡ changed old.offers it.number (taken it.lots)
-    → ((keys : List LimitKey) → MayCharge old.limits it.group keys it.lots it.limits → Charges old.limits new.limits it.group keys it.lots)
-    → HoldsMoved old.positions new.positions it.report it.report.account it.account it.lots → TakesIn reference old new command
-claim-taken reference old new command it is same offers uses holds =
+pub claim-taken : (reference : Tables) (old new : Totals) (command : Command) (it : Moved) → ClaimsAll reference old command it → ClaimsLots old new it → TakesIn reference old new command
+unfolding claim-fits
+claim-taken reference old new command it is claims =
     subst (TakesIn reference old new) (sym is.is)
     (λ history kept accepted.
     let f = claimable reference history is.firm it.number (in_order history kept.orderly) accepted in
     let left : it.lots ≡ left_in (standing_of history) it.number = is.all ∙ ap (λ (rs : List Row). left_in rs it.number) kept.beside.offers in
     let fits = claim-fits reference old command it (record { history = history; kept = kept; accepted = subst (IsAccepted reference history) (sym is.is) accepted }) is in
     subst (λ (lots : ℕ). IsKept reference (history ++ claimed is.firm it.number lots ∷ []) new) left
-    (lots-taken reference history old new (claimed is.firm it.number it.lots) it.number it.lots is.offer it.report f.1 f.0 is.seen (claim-takes is.firm it.number it.lots) same offers
-    (subst (λ (group : Group). Charges old.limits new.limits group (path_after reference is.offer) it.lots) is.group_is (uses (path_after reference is.offer) fits.0))
-    (subst (λ (account : AccountId). HoldsMoved old.positions new.positions it.report it.report.account account it.lots) is.account_is holds) kept f.2.there f.2.stands (omega (arith, f.2.less, left))))
+    (lots-taken reference history old new (claimed is.firm it.number it.lots) it.number it.lots is.found.offer it.report f.1 f.0 is.found.seen (claim-takes is.firm it.number it.lots) claims.entries claims.offers
+    (subst (λ (group : Group). Charges old.limits new.limits group (path_after reference is.found.offer) it.lots) is.found.group_is (claims.limits (path_after reference is.found.offer) fits.room))
+    (subst (λ (account : AccountId). HoldsMoved old.positions new.positions it.report it.report.account account it.lots) is.found.account_is claims.positions) kept f.2.there f.2.stands (omega (arith, f.2.less, left))))
 
 -- ---- refusals
 
@@ -203,8 +207,8 @@ TakesBack reference totals command it = MovesLots reference totals command rever
 
 -- what is reversed was used, and its lots are held
 pub reversal-fits : (reference : Tables) (totals : Totals) (command : Command) (it : Moved) → MayTakeIn reference totals command → (is : TakesBack reference totals command it)
-    → MayReturn totals.limits it.group (path_after reference is.offer) it.lots it.limits × (it.lots ≤ lots_in totals.positions it.report.side it.account it.report.symbol)
-reversal-fits reference totals command it may is = (record { under = is.under; once = path_after-once reference is.offer; used = used }, there)
+    → MayReturn totals.limits it.group (path_after reference is.found.offer) it.lots it.limits × (it.lots ≤ lots_in totals.positions it.report.side it.account it.report.symbol)
+reversal-fits reference totals command it may is = (record { under = is.found.under; once = path_after-once reference is.found.offer; used = used }, there)
   where
     asked : MayTakeIn reference totals (reversal_of is.firm it.number)
     asked = subst (MayTakeIn reference totals) is.is may
@@ -221,19 +225,19 @@ reversal-fits reference totals command it may is = (record { under = is.under; o
     found : Report
     found = f.1
 
-    same : (is.offer ≡ row.offer) × (it.report ≡ terms_of found)
-    same = seen-is reference history totals it.number is.offer it.report found row asked.kept.beside is.seen f.2.there
+    same : (is.found.offer ≡ row.offer) × (it.report ≡ terms_of found)
+    same = seen-is reference history totals it.number is.found.offer it.report found row asked.kept.beside is.found.seen f.2.there
 
     today : it.lots ≡ row.today
     today = is.all ∙ ap (λ (rs : List Row). today_in rs it.number) asked.kept.beside.offers ∙ today-is (standing_of history) it.number row f.2.there.at
 
-    used : All (λ key. it.lots ≤ used_in totals.limits it.group key) (path_after reference is.offer)
+    used : All (λ key. it.lots ≤ used_in totals.limits it.group key) (path_after reference is.found.offer)
     used k d within =
-        let key = slice_index_or (path_after reference is.offer) k d in
-        let own : is_under reference is.offer.group key (record row { offer = is.offer }) ≡ true = rw (same_group-own is.offer.group, key_at (path_after reference is.offer) k d within) refl in
-        let under : is_under reference is.offer.group key row ≡ true = ap (λ (o : Offer). same_group is.offer.group o.group && has_key (path_after reference o) key) (sym same.0) ∙ own in
-        subst (λ (group : Group). it.lots ≤ used_in totals.limits group key) (sym is.group_is)
-        (omega (arith, today-le-use_in reference (standing_of history) it.number row f.2.there.at is.offer.group key under, today, asked.kept.beside.uses is.offer.group key))
+        let key = slice_index_or (path_after reference is.found.offer) k d in
+        let own : is_under reference is.found.offer.group key (record row { offer = is.found.offer }) ≡ true = rw (same_group-own is.found.offer.group, key_at (path_after reference is.found.offer) k d within) refl in
+        let under : is_under reference is.found.offer.group key row ≡ true = ap (λ (o : Offer). same_group is.found.offer.group o.group && has_key (path_after reference o) key) (sym same.0) ∙ own in
+        subst (λ (group : Group). it.lots ≤ used_in totals.limits group key) (sym is.found.group_is)
+        (omega (arith, today-le-use_in reference (standing_of history) it.number row f.2.there.at is.found.offer.group key under, today, asked.kept.beside.uses is.found.offer.group key))
 
     there : it.lots ≤ lots_in totals.positions it.report.side it.account it.report.symbol
     there =
@@ -243,7 +247,7 @@ reversal-fits reference totals command it may is = (record { under = is.under; o
         (today-le-moved history it.number row o.balanced f.2.there.at) in
         let fits : it.lots ≤ lots_in totals.positions found.side row.offer.account found.symbol =
         omega (arith, has, own_place found.side row.offer.account found.symbol row.today, today, asked.kept.beside.positions found.side row.offer.account found.symbol) in
-        let account : it.account ≡ row.offer.account = is.account_is ∙ ap (λ (o : Offer). o.account) same.0 in
+        let account : it.account ≡ row.offer.account = is.found.account_is ∙ ap (λ (o : Offer). o.account) same.0 in
         subst (λ (r : Terms). it.lots ≤ lots_in totals.positions r.side it.account r.symbol) (sym same.1)
         (subst (λ (account : AccountId). it.lots ≤ lots_in totals.positions found.side account found.symbol) (sym account) fits)
 
@@ -258,12 +262,12 @@ reversal-taken reference old new command it is same offers uses holds =
     let row = f.0 in
     let found = f.1 in
     let there = f.2.there in
-    let seen = seen-is reference history old it.number is.offer it.report found row kept.beside is.seen there in
+    let seen = seen-is reference history old it.number is.found.offer it.report found row kept.beside is.found.seen there in
     let own : today_in (standing_of history) it.number ≡ row.today = today-is (standing_of history) it.number row there.at in
     let today : it.lots ≡ row.today = is.all ∙ ap (λ (rs : List Row). today_in rs it.number) kept.beside.offers ∙ own in
     let fits = reversal-fits reference old command it (record { history = history; kept = kept; accepted = subst (IsAccepted reference history) (sym is.is) accepted }) is in
-    let under = subst (λ (group : Group). Returns old.limits new.limits group (path_after reference is.offer) it.lots) is.group_is (uses (path_after reference is.offer) fits.0) in
-    let account : it.account ≡ row.offer.account = is.account_is ∙ ap (λ (o : Offer). o.account) seen.0 in
+    let under = subst (λ (group : Group). Returns old.limits new.limits group (path_after reference is.found.offer) it.lots) is.found.group_is (uses (path_after reference is.found.offer) fits.0) in
+    let account : it.account ≡ row.offer.account = is.found.account_is ∙ ap (λ (o : Offer). o.account) seen.0 in
     subst (λ (lots : ℕ). IsKept reference (history ++ taken_back is.firm it.number lots ∷ []) new) (sym own)
     (kept-taken_back reference history old new is.firm it.number row found kept there same offers
     (subst (λ (lots : ℕ). UsesLess reference old.limits new.limits row.offer lots) today (subst (λ (o : Offer). UsesLess reference old.limits new.limits o it.lots) seen.0 under))

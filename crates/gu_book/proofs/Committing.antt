@@ -14,32 +14,40 @@ use Rattle.gu_rules.specs.Legal.{StandsLast}
 use Rattle.gu_rules.specs.Sweeps.{IsSweepOf, MaySweep}
 use Rattle.gu_rules.specs.Views.{offers_shown}
 use Rattle.gu_rules.proofs.Growing.{legal_push, stands_last}
-use Rattle.gu_book.specs.Beside.{IsKeptLegal}
+use Rattle.gu_book.specs.Beside.{IsKept, IsKeptLegal}
 use Rattle.gu_book.specs.Commits.{IsCurrent, sweep_of}
 use Rattle.gu_book.specs.Counted.{is_touched, version_in}
 use Rattle.gu_book.specs.Effects.{SameAnswers}
-use Rattle.gu_book.specs.Moving.{HasRows, MayMove, MovesAll}
+use Rattle.gu_book.specs.Moving.{AreReady, IsShownOpen, MayMove, MayTake, MovesAll}
 use Rattle.gu_book.specs.declared.totals.Totals.{Totals}
+use Rattle.gu_book.specs.declared.totals.Transfer.{Transfer}
 use Rattle.gu_book.specs.declared.versions.Touched.TheVariants.{Only}
 use Rattle.gu_book.specs.declared.versions.Versions.{Versions}
 use Rattle.gu_book.proofs.Beginning.{still-kept}
 use Rattle.gu_book.proofs.CountedLemmas.{versions-push, versions-same}
 use Rattle.gu_book.proofs.KeptParts.{kept-whole}
-use Rattle.gu_book.proofs.SweptMoves.{sweep-moves}
+use Rattle.gu_book.proofs.SweptMoves.{sweep-shown, sweep-takes}
 
 -- the sweep of a current proposal may follow
 pub may-sweep : (book : BookState) (proposal : ProposedSweep) → IsCurrent book proposal.view → IsSweepOf proposal.view (sweep_of proposal) → MaySweep book.reference book.history (sweep_of proposal)
 may-sweep book proposal current right = record { known = current.known; sweeps = subst (λ (v : GroupView). IsSweepOf v (sweep_of proposal)) current.same right }
 
--- its takes may be moved
-pub may-move : (book : BookState) (proposal : ProposedSweep) (old mid : Totals) (versions : Versions) (view : GroupView) (takes : List Take) → IsKeptLegal book.reference book.history old versions
-    → IsCurrent book proposal.view → IsSweepOf proposal.view (sweep_of proposal) → SameAnswers old mid → AllByRecursion (λ (t : Take). HasRows mid t.offer) proposal.takes → view ≡ proposal.view → takes ≡ proposal.takes
-    → MayMove book.reference mid view.offers takes
-may-move book proposal old mid versions view takes kept current right same made of_view are =
-    let may = sweep-moves book.reference book.history mid (sweep_of proposal) (still-kept book.reference book.history old mid kept.kept same) (may-sweep book proposal current right).sweeps made in
+-- its view shows the offers of its takes
+pub shows-takes : (book : BookState) (proposal : ProposedSweep) (totals : Totals) (view : GroupView) (takes : List Take) → IsKept book.reference book.history totals → IsCurrent book proposal.view
+    → IsSweepOf proposal.view (sweep_of proposal) → view ≡ proposal.view → takes ≡ proposal.takes → AllByRecursion (IsShownOpen book.reference totals view.offers) takes
+shows-takes book proposal totals view takes kept current right of_view are =
     let shown = ap (λ (v : GroupView). v.offers) (of_view ∙ current.same) in
-    subst (λ (offers : List ViewOffer). MayMove book.reference mid offers takes) (sym shown)
-    (subst (MayMove book.reference mid (offers_shown book.reference book.history proposal.view.group)) (sym are) may)
+    subst (λ (offers : List ViewOffer). AllByRecursion (IsShownOpen book.reference totals offers) takes) (sym shown)
+    (subst (AllByRecursion (IsShownOpen book.reference totals (offers_shown book.reference book.history proposal.view.group))) (sym are)
+    (sweep-shown book.reference book.history totals (sweep_of proposal) kept (may-sweep book proposal current right).sweeps))
+
+-- its transfers, made ready, may be carried out
+pub may-move : (book : BookState) (proposal : ProposedSweep) (old mid : Totals) (takes : List Take) (transfers : List Transfer) → IsKept book.reference book.history old
+    → IsCurrent book proposal.view → IsSweepOf proposal.view (sweep_of proposal) → SameAnswers old mid → takes ≡ proposal.takes → AreReady book.reference mid takes transfers
+    → MayMove book.reference mid transfers
+may-move book proposal old mid takes transfers kept current right same are ready =
+    let may = sweep-takes book.reference book.history mid (sweep_of proposal) (still-kept book.reference book.history old mid kept same) (may-sweep book proposal current right).sweeps in
+    record { may = subst (MayTake book.reference mid) (sym (ready.takes_are ∙ are)) may; ready = ready.each }
 
 -- if an allocation failed, everything is unchanged
 pub legal-still : (reference : Tables) (history : List Entry) (old mid : Totals) (old_counts new_counts : Versions) → IsKeptLegal reference history old old_counts → SameAnswers old mid

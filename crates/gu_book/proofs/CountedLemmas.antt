@@ -125,9 +125,9 @@ accepted-touches reference history totals command (Opens opening) group offers i
 accepted-touches reference history totals command (SetsLimit limit) group offers is = rw is refl
 accepted-touches reference history totals command (Reports report today waiting) group offers is = rw is.is refl
 accepted-touches reference history totals command (GivesUp give_up at first) group offers is = rw is.is refl
-accepted-touches reference history totals command (Claims claimed) group offers is = rw (is.is, is.group_is) (of-offer history totals group is.offer claimed.number offers is.seen.shown)
+accepted-touches reference history totals command (Claims claimed) group offers is = rw (is.is, is.found.group_is) (of-offer history totals group is.found.offer claimed.number offers is.found.seen.shown)
 accepted-touches reference history totals command (Refuses number at lots) group offers is = rw is.is (of-group history totals group at number offers is.group_is)
-accepted-touches reference history totals command (Reverses reversed) group offers is = rw (is.is, is.group_is) (of-offer history totals group is.offer reversed.number offers is.seen.shown)
+accepted-touches reference history totals command (Reverses reversed) group offers is = rw (is.is, is.found.group_is) (of-offer history totals group is.found.offer reversed.number offers is.found.seen.shown)
 
 -- a refused command touches none
 pub denied-touches : (history : List Entry) (command : Command) (why : Refusal) (group : Group) → false ≡ touches history group (Asked command (Denied why))

@@ -1,6 +1,6 @@
 -- Limits as they are now.
-use Rattle.std.proofs.Common.{◌≡◌, ℕ, ◌+◌, ◌-◌, ◌<◌, true, List, [], ◌∷◌, ◌++◌, Option, Some, None, is_some, length, take, get_or, unwrap_or, refl, sym, ap, append_assoc, ◌∙◌}
-use Rattle.std.specs.List.{filter_map}
+use Rattle.std.proofs.Common.{◌≡◌, ℕ, ◌+◌, ◌-◌, ◌<◌, true, List, [], ◌∷◌, ◌++◌, Option, Some, None, is_some, length, map, take, get_or, unwrap_or, refl, sym, ap, append_assoc, ◌∙◌}
+use Rattle.std.specs.List.{cons_option, filter_map}
 use Rattle.std.specs.Option.{option_to_list}
 use Rattle.std.proofs.lemmas.List.{take_more}
 use Rattle.std.proofs.lemmas.List.Elements.{filter_map-append}
@@ -44,9 +44,15 @@ filter_map_next {X} given items i item within is =
     ap (filter_map given) (take_more items i item within ∙ ap (λ (x : X). take i items ++ x ∷ []) (sym is))
     ∙ filter_map-last given (take i items) item
 
--- what more items give comes after what items before them gave
-pub filter_map_after : {X Y : Type 0} (given : X → Option Y) (rows before after : List Y) (items more : List X) → before ≡ rows ++ filter_map given items → after ≡ before ++ filter_map given more
-    → after ≡ rows ++ filter_map given (items ++ more)
-filter_map_after {Y = Y} given rows before after items more first then =
-    then ∙ ap (λ (ys : List Y). ys ++ filter_map given more) first ∙ append_assoc rows (filter_map given items) (filter_map given more)
-    ∙ ap (λ (ys : List Y). rows ++ ys) (sym (filter_map-append given items more))
+-- what the items of keys give, if each is found by its key
+keys_given : {X K Y : Type 0} (given : K → Option Y) (key : X → K) (items : List X) → filter_map (λ item. given (key item)) items ≡ filter_map given (map key items)
+keys_given given key [] = refl
+keys_given given key (x ∷ items) = ap (cons_option (given (key x))) (keys_given given key items)
+
+-- it comes after what the keys before them gave
+pub keys_after : {X K Y : Type 0} (given : K → Option Y) (key : X → K) (rows before after : List Y) (keys : List K) (items : List X) → before ≡ rows ++ filter_map given keys
+    → after ≡ before ++ filter_map (λ item. given (key item)) items → after ≡ rows ++ filter_map given (keys ++ map key items)
+keys_after {Y = Y} given key rows before after keys items first then =
+    then ∙ ap (λ (ys : List Y). ys ++ filter_map (λ item. given (key item)) items) first ∙ append_assoc rows (filter_map given keys) (filter_map (λ item. given (key item)) items)
+    ∙ ap (λ (ys : List Y). rows ++ (filter_map given keys ++ ys)) (keys_given given key items)
+    ∙ ap (λ (ys : List Y). rows ++ ys) (sym (filter_map-append given keys (map key items)))

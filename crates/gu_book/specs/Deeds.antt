@@ -78,15 +78,19 @@ pub record AreFound (totals : Totals) (n : ℕ) (offer : Offer) (report : Terms)
   pub shown : Some offer ≡ option_map (λ (r : Row). r.offer) (row_at totals.offers n)
   pub found : Some report ≡ option_map terms_of (report_by totals.trades offer.firm offer.report)
 
--- a command that some firm enters with `ask` moves these lots of an offer, with the terms of its report and under the limits of its path
-pub record MovesLots (reference : Tables) (totals : Totals) (command : Command) (ask : FirmId → ℕ → Command) (moved : Moved) (lots : ℕ) : Type 0 where
-  pub firm : FirmId
-  pub is : command ≡ ask firm moved.number
+-- what is looked up to move lots of an offer: its group and account, the terms of its report, and the limits of its path
+pub record IsFound (reference : Tables) (totals : Totals) (moved : Moved) : Type 0 where
   pub offer : Offer
   pub seen : AreFound totals moved.number offer moved.report
   pub group_is : moved.group ≡ offer.group
   pub account_is : moved.account ≡ offer.account
   pub under : AreLimitsOf totals.limits moved.group (path_after reference offer) moved.limits
+
+-- a command that some firm enters with `ask` moves these lots of an offer
+pub record MovesLots (reference : Tables) (totals : Totals) (command : Command) (ask : FirmId → ℕ → Command) (moved : Moved) (lots : ℕ) : Type 0 where
+  pub firm : FirmId
+  pub is : command ≡ ask firm moved.number
+  pub found : IsFound reference totals moved
   pub all : moved.lots ≡ lots
 
 -- a command makes this report on the open day, given the terms of the report that waits for it, if one does

@@ -1,5 +1,5 @@
 -- Machinery: how one entry changes the totals.
-use Rattle.std.specs.Prelude.{◌≡◌, ℕ, ◌+◌, ◌-◌, ◌≤◌, true, List, [], ◌∷◌, sum_by}
+use Rattle.std.specs.Prelude.{◌≡◌, ℕ, ◌+◌, ◌-◌, ◌≤◌, List, [], ◌∷◌, sum_by}
 use Rattle.gu_terms.specs.declared.account.AccountId.{AccountId}
 use Rattle.gu_terms.specs.declared.group.Group.{Group}
 use Rattle.gu_terms.specs.declared.limit_key.LimitKey.{LimitKey}
@@ -11,7 +11,7 @@ use Rattle.gu_ref.specs.Tables.{Tables}
 use Rattle.gu_limits.specs.Changes.{Charges, Returns, SameLimits}
 use Rattle.gu_limits.specs.Limits.{GroupLimit, used_in}
 use Rattle.gu_positions.specs.Changes.{KeepsLots, lots_at}
-use Rattle.gu_positions.specs.Rows.{Row, has_row, lots_in, lots_on}
+use Rattle.gu_positions.specs.Rows.{Row, lots_in, lots_on}
 use Rattle.gu_trades.specs.declared.terms.Terms.{Terms}
 use Rattle.gu_rules.specs.Limits.{path_after}
 use Rattle.gu_book.specs.declared.totals.Totals.{Totals}
@@ -24,10 +24,6 @@ lots_of_reports reports side account symbol = sum_by (λ (r : Report). lots_at r
 abbrev pub made_a_trade : List Report → Report → List Report
 made_a_trade [] report = []
 made_a_trade (waiting ∷ more) report = waiting ∷ report ∷ []
-
--- every row that was made is still there
-abbrev pub KeepsMade : List Row → List Row → Type 0
-KeepsMade old new = (account : AccountId) (symbol : Symbol) → has_row old account symbol ≡ true → has_row new account symbol ≡ true
 
 -- the lots of these reports are added to their accounts
 pub record HoldsMore (old new : List Row) (reports : List Report) : Type 0 where

@@ -390,9 +390,9 @@ impl<'a> Decide<'a> for Claim {
             account: offer.account,
             report: terms_given_up(totals, &offer),
             limits,
-            lots,
+            lots: lots.get(),
         };
-        Ok(NewClaim { claimed })
+        Ok(NewClaim { claimed, lots })
     }
 }
 
@@ -434,8 +434,8 @@ impl<'a> Decide<'a> for Reverse {
             account: offer.account,
             report: terms_given_up(totals, &offer),
             limits: limits_of(&totals.limits, &offer.group, &path),
-            lots,
+            lots: lots.get(),
         };
-        Ok(Reversal { reversed })
+        Ok(Reversal { reversed, lots })
     }
 }

@@ -31,7 +31,7 @@ use crate::error::{AskError, CommitError, EnterError, SeenError};
 use crate::limits::rows_in_order;
 use crate::positions::{is_of_firm, rows_of_account};
 use crate::sweeping::{
-    asks_for_a_sweep, kept_sweep, make_ways, move_takes, receipt_and_view, sum_swept,
+    asks_for_a_sweep, carry_out, kept_sweep, receipt_and_view, sum_swept, transfers_of,
 };
 use crate::telling::register_of;
 use crate::totals::Totals;
@@ -407,13 +407,14 @@ impl Book {
         let group = proposal.view().group();
         let touched = Touched::Only(group);
         let place = know(&mut self.versions, &touched)?;
-        make_ways(&mut self.totals, proposal.takes().as_slice())?;
-        self.history.push_swept(kept)?;
-        move_takes(
+        let transfers = transfers_of(
+            self.alloc,
             &mut self.totals,
             proposal.view(),
             proposal.takes().as_slice(),
-        );
+        )?;
+        self.history.push_swept(kept)?;
+        carry_out(&mut self.totals, &transfers);
         touch(&mut self.versions, &touched, place);
         // Shows the prover: no match id has more than two reports.
         self.totals.trades.rules();

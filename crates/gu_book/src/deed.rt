@@ -26,7 +26,7 @@ pub struct Moved {
     pub report: Terms,
     /// The limits of the path of the agreement by which the offer was made.
     pub limits: PathLimits,
-    pub lots: Lots,
+    pub lots: u64,
 }
 
 /// A report made on the open day.
@@ -50,6 +50,8 @@ pub struct NewOffers<'a> {
 #[derive(Drop)]
 pub struct NewClaim {
     pub claimed: Moved,
+    pub lots: Lots,
+    ghost all: { lots ≡ claimed.lots },
 }
 
 /// A refusal of an offer.
@@ -64,6 +66,8 @@ pub struct Closing {
 #[derive(Drop)]
 pub struct Reversal {
     pub reversed: Moved,
+    pub lots: Lots,
+    ghost all: { lots ≡ reversed.lots },
 }
 
 /// An accepted command's effect, with everything that was looked up to decide it. Each kind has its own type, so what one kind needs is
@@ -165,9 +169,7 @@ impl Deed for NewClaim {
     ghost does = { λ d. Claims d.claimed };
 
     fn reply(&self) -> Reply {
-        Reply::Accepted(Done::Claimed {
-            lots: self.claimed.lots,
-        })
+        Reply::Accepted(Done::Claimed { lots: self.lots })
     }
 
     fn touched(&self) -> Touched {
@@ -200,9 +202,7 @@ impl Deed for Reversal {
     ghost does = { λ d. Reverses d.reversed };
 
     fn reply(&self) -> Reply {
-        Reply::Accepted(Done::Reversed {
-            lots: self.reversed.lots,
-        })
+        Reply::Accepted(Done::Reversed { lots: self.lots })
     }
 
     fn touched(&self) -> Touched {

@@ -1,18 +1,20 @@
 //! Entering sweeps.
 
-ghost use Rattle.std.specs.Prelude.{◌≡◌, ◌<◌, ◌^◌, ◌∷◌, [], IfOk, OnOk};
+ghost use Rattle.std.specs.Prelude.{◌≡◌, ◌<◌, ◌^◌, IfOk, MatchOption, OnOk, map};
 ghost use Rattle.std.specs.List.{AllByRecursion};
 ghost use Rattle.gu_terms.specs.Histories.{lots_swept};
 ghost use Rattle.gu_ref.specs.Tables.{Tables};
 ghost use Rattle.gu_rules.specs.Sweeps.{IsSweepOf};
-ghost use Rattle.gu_book.specs.Effects.{KeepsMade, SameAnswers};
+ghost use Rattle.gu_book.specs.Deeds.{IsFound};
+ghost use Rattle.gu_book.specs.Effects.{SameAnswers};
 ghost use Rattle.gu_book.specs.Commits.{sweep_of};
-ghost use Rattle.gu_book.specs.Moving.{HasRows, MayMove, MovesAll, MovesOne};
+ghost use Rattle.gu_book.specs.Moving.{AreReady, IsShownOpen, MayMove, MovesAll, moved_lots, taken_by};
 
-use crate::totals::Totals;
+use crate::deed::Moved;
+use crate::totals::{Totals, Transfer};
 use gu_flow::Proposal;
-use gu_terms::{Entry, History, KeptSweep, OfferNo, Receipt, SweepEntry, Take};
-use gu_view::{View, ViewOffer};
+use gu_terms::{Entry, History, KeptSweep, Receipt, SweepEntry, Take};
+use gu_view::View;
 use std::alloc::{AllocError, Global};
 
 /// Returns the stored form of a proposal's sweep. Made before `Book::enter_seen`, it saves that call from copying anything.
@@ -84,57 +86,55 @@ pub fn asks_for_a_sweep(proposal: &Proposal)
     let _ = cut.offers();
 }
 
-/// Makes the rows of the accounts between which lots of an offer move. No answer changes.
-fn make_way(totals: &mut Totals, number: OfferNo) -> Result<(), AllocError>
-    ensures rows { OnOk result (HasRows totals.new number) }
-    ensures stay { KeepsMade totals.old.positions totals.new.positions }
+/// Returns what a take moves, with everything that is looked up of its offer.
+fn moved_by(totals: &Totals, view: &View, take: &Take) -> Option<Moved>
+    ensures { (reference : Tables) → IsShownOpen reference totals.now view.now.offers take.now
+        → MatchOption result ⊥ (λ m. (moved_lots m ≡ take.now) × IsFound reference totals.now m) }
+{
+    let offer = totals.offers.get(take.offer)?;
+    let report = totals.trades.terms(&offer.firm, &offer.report)?;
+    let shown = view.offer(take.offer)?;
+    Some(Moved {
+        number: take.offer,
+        group: offer.group,
+        account: offer.account,
+        report,
+        limits: totals.limits.limits_of(&offer.group, &shown.path),
+        lots: take.lots,
+    })
+}
+
+/// Returns the transfers for takes from a view's offers, and makes their rows. No answer changes.
+pub fn transfers_of(
+    alloc: Global,
+    totals: &mut Totals,
+    view: &View,
+    takes: &[Take],
+) -> Result<Vec<Transfer>, AllocError>
+    ensures ready { IfOk result (λ transfers. (reference : Tables)
+        → AllByRecursion (IsShownOpen reference totals.old view.now.offers) takes.now
+        → AreReady reference totals.new takes.now transfers.items) }
     ensures same { SameAnswers totals.old totals.new }
 {
-    match totals.given(number) {
-        Some((offer, report)) => {
-            totals.make_way(&offer.account, &report)?;
-            Ok(())
-        }
-        None => Ok(()),
-    }
-}
-
-/// Makes those rows for each of the takes.
-pub fn make_ways(totals: &mut Totals, takes: &[Take]) -> Result<(), AllocError>
-    ensures rows { OnOk result (AllByRecursion (λ t. HasRows totals.new t.offer) takes.now) }
-    ensures same { SameAnswers totals.old totals.new }
-{
+    let mut transfers = Vec::with_capacity(alloc, takes.len())?;
     for take in takes {
-        make_way(totals, take.offer)?;
+        // A current view shows each of its sweep's offers, so each is found.
+        let Some(moved) = moved_by(totals, view, take) else {
+            continue;
+        };
+        let rows = totals.make_way(&moved)?;
+        transfers.push(Transfer { moved, rows })?;
     }
-    Ok(())
+    Ok(transfers)
 }
 
-/// Moves the lots of one take, and charges them under the path that the view shows. It allocates nothing.
-fn move_take(totals: &mut Totals, view: &View, take: &Take)
-    requires { (reference : Tables) × MayMove reference totals.old view.now.offers (take.now ∷ []) }
-    ensures { (reference : Tables)
-        → MayMove reference totals.old view.now.offers (take.now ∷ [])
-        → MovesOne reference totals.old totals.new take.now }
+/// Carries out transfers, one after another. It allocates nothing.
+pub fn carry_out(totals: &mut Totals, transfers: &[Transfer])
+    requires { (reference : Tables) × MayMove reference totals.old transfers.now }
+    ensures { (reference : Tables) → MayMove reference totals.old transfers.now
+        → MovesAll reference totals.old totals.new (map taken_by transfers.now) }
 {
-    let Some((offer, report)) = totals.given(take.offer) else {
-        unreachable!();
-    };
-    let Some(shown) = view.offer(take.offer) else {
-        unreachable!();
-    };
-    totals.limits.charge(&offer.group, &shown.path, take.lots);
-    totals.move_lots(take, &offer, &report);
-}
-
-/// Moves the lots of takes from a view's offers, one after another. It allocates nothing.
-pub fn move_takes(totals: &mut Totals, view: &View, takes: &[Take])
-    requires { (reference : Tables) × MayMove reference totals.old view.now.offers takes.now }
-    ensures { (reference : Tables)
-        → MayMove reference totals.old view.now.offers takes.now
-        → MovesAll reference totals.old totals.new takes.now }
-{
-    for take in takes {
-        move_take(totals, view, take);
+    for transfer in transfers {
+        totals.carry_out(&transfer.moved, &transfer.rows);
     }
 }

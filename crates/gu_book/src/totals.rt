@@ -7,7 +7,7 @@ ghost use Rattle.gu_offers.specs.Changes.{changed, closed, next_day, reversed, t
 ghost use Rattle.gu_offers.specs.Rows.{left_in, row_at, today_in};
 ghost use Rattle.gu_positions.specs.Changes.{KeepsLots, KeepsNumbers, KeepsRows, lots_at};
 ghost use Rattle.gu_positions.specs.Numbers.{IsRowOf};
-ghost use Rattle.gu_positions.specs.Rows.{has_row, lots_in, lots_on};
+ghost use Rattle.gu_positions.specs.Rows.{lots_in, lots_on};
 ghost use Rattle.gu_terms.specs.declared.account.AccountId.{AccountId as AccountOf};
 ghost use Rattle.gu_terms.specs.declared.limit_key.LimitKey.{LimitKey as LimitKeyOf};
 ghost use Rattle.gu_terms.specs.declared.side.Side.{Side as SideOf};
@@ -17,16 +17,15 @@ ghost use Rattle.gu_trades.specs.Reports.{has_report, made_on, report_by, with_m
 ghost use Rattle.gu_trades.specs.Terms.{terms_of};
 ghost use Rattle.gu_rules.specs.Reports.{Fits};
 ghost use Rattle.gu_book.specs.Beside.{is_kept_give_up, waiting_of};
-ghost use Rattle.gu_book.specs.Effects.{HoldsMore, HoldsMoved, KeepsMade, SameAnswers, SameEntries, UsesNothing, made_a_trade};
-ghost use Rattle.gu_book.specs.Moving.{given_by};
+ghost use Rattle.gu_book.specs.Effects.{HoldsMore, HoldsMoved, SameAnswers, SameEntries, UsesNothing, made_a_trade};
+ghost use Rattle.gu_book.specs.Moving.{ClaimsLots, HasRows, IsHeld, MayClaim};
 
 use crate::deed::Moved;
 use gu_limits::LimitTable;
 use gu_offers::Offers;
 use gu_positions::{Positions, RowNo};
 use gu_terms::{
-    AccountId, Day, FirmId, GiveUp, Group, Id, LimitKey, Offer, OfferNo, ReportSide, Seed, Symbol,
-    Take,
+    AccountId, Day, FirmId, GiveUp, Group, Id, LimitKey, OfferNo, ReportSide, Seed, Symbol,
 };
 use gu_trades::{Terms, Trades};
 use indexmap::IndexSet;
@@ -37,6 +36,13 @@ use std::alloc::{AllocError, Global};
 pub struct GiveUpKey {
     pub firm: FirmId,
     pub id: Id,
+}
+
+/// Lots about to move, with the rows of the accounts between which they move: that of the report, and that of the offer.
+#[derive(Clone, Copy)]
+pub struct Transfer {
+    pub moved: Moved,
+    pub rows: (RowNo, RowNo),
 }
 
 /// The totals that a history leads to.
@@ -188,75 +194,40 @@ impl Totals {
         Ok(())
     }
 
-    /// Returns the offer with this number, and the terms of the report that it gives up.
-    pub fn given(&self, number: OfferNo) -> Option<(Offer, Terms)>
-        ensures { result ≡ given_by self.now number }
-    {
-        let offer = self.offers.get(number)?;
-        let report = self.trades.terms(&offer.firm, &offer.report)?;
-        Some((offer, report))
-    }
-
     /// Makes the rows of the accounts between which lots of an offer move: that of its report, and its own. No answer changes.
-    pub fn make_way(
-        &mut self,
-        account: &AccountId,
-        report: &Terms,
-    ) -> Result<(RowNo, RowNo), AllocError>
-        ensures from { OnOk result (has_row self.new.positions report.now.account report.now.symbol ≡ true) }
-        ensures to { OnOk result (has_row self.new.positions account.now report.now.symbol ≡ true) }
-        ensures one { IfOk result (λ rows. IsRowOf self.new.positions report.now.account report.now.symbol rows.0) }
-        ensures two { IfOk result (λ rows. IsRowOf self.new.positions account.now report.now.symbol rows.1) }
-        ensures stay { KeepsMade self.old.positions self.new.positions }
+    pub fn make_way(&mut self, moved: &Moved) -> Result<(RowNo, RowNo), AllocError>
+        ensures rows { IfOk result (HasRows self.new.positions moved.now) }
+        ensures stay { KeepsNumbers self.old.positions self.new.positions }
         ensures same { SameAnswers self.old self.new }
     {
+        let report = &moved.report;
         make_rows(
             &mut self.positions,
             (&report.account, &report.symbol),
-            (account, &report.symbol),
+            (&moved.account, &report.symbol),
         )
     }
 
-    /// Moves lots of an offer from the account of its report to its own. The rows are already made. It allocates nothing.
-    pub fn move_lots(&mut self, take: &Take, offer: &Offer, report: &Terms)
-        requires left { take.now.lots ≤ left_in self.old.offers take.now.offer }
-        requires there { take.now.lots ≤ lots_in self.old.positions report.now.side report.now.account report.now.symbol }
-        requires from { has_row self.old.positions report.now.account report.now.symbol ≡ true }
-        requires to { has_row self.old.positions offer.now.account report.now.symbol ≡ true }
-        ensures entries { SameEntries self.old self.new }
-        ensures offers { self.new.offers ≡ changed self.old.offers take.now.offer (taken take.now.lots) }
-        ensures limits { self.new.limits ≡ self.old.limits }
-        ensures positions { HoldsMoved self.old.positions self.new.positions report.now report.now.account offer.now.account take.now.lots }
-        ensures rows { KeepsRows self.old.positions self.new.positions }
+    /// Charges lots of an offer to its limits and moves them from the account of its report to its own, whose rows these are. It looks
+    /// nothing up and allocates nothing.
+    pub fn carry_out(&mut self, claimed: &Moved, rows: &(RowNo, RowNo))
+        requires may { MayClaim self.old claimed.now }
+        requires rows { HasRows self.old.positions claimed.now rows.now }
+        ensures { ClaimsLots self.old self.new claimed.now }
     {
-        self.offers.take(take.offer, take.lots);
-        self.positions.shift(
-            report.account,
-            offer.account,
-            report.symbol,
-            report.side,
-            take.lots,
-        );
+        self.limits.charge_at(&claimed.limits, claimed.lots);
+        self.offers.take(claimed.number, claimed.lots);
+        move_over(&mut self.positions, claimed, rows);
     }
 
     /// Claims lots of an offer: makes the rows, charges the lots to its limits and moves them.
     pub fn claim(&mut self, claimed: &Moved) -> Result<(), AllocError>
-        requires room { (keys : List LimitKeyOf) × MayCharge self.old.limits claimed.now.group keys claimed.now.lots claimed.now.limits }
-        requires left { claimed.now.lots ≤ left_in self.old.offers claimed.now.number }
-        requires there { claimed.now.lots ≤ lots_in self.old.positions claimed.now.report.side claimed.now.report.account claimed.now.report.symbol }
-        ensures entries { SameEntries self.old self.new }
-        ensures offers { OnOk result (self.new.offers ≡ changed self.old.offers claimed.now.number (taken claimed.now.lots)) }
-        ensures limits { OnOk result ((keys : List LimitKeyOf) → MayCharge self.old.limits claimed.now.group keys claimed.now.lots claimed.now.limits
-            → Charges self.old.limits self.new.limits claimed.now.group keys claimed.now.lots) }
-        ensures positions { OnOk result
-            (HoldsMoved self.old.positions self.new.positions claimed.now.report claimed.now.report.account claimed.now.account claimed.now.lots) }
+        requires { MayClaim self.old claimed.now }
+        ensures claimed { OnOk result (ClaimsLots self.old self.new claimed.now) }
         ensures refused { OnErr result (SameAnswers self.old self.new) }
     {
-        let rows = self.make_way(&claimed.account, &claimed.report)?;
-        let lots = claimed.lots.get();
-        self.limits.charge_at(&claimed.limits, lots);
-        self.offers.take(claimed.number, lots);
-        move_over(&mut self.positions, claimed, &rows);
+        let rows = self.make_way(claimed)?;
+        self.carry_out(claimed, &rows);
         Ok(())
     }
 
@@ -274,10 +245,9 @@ impl Totals {
             (HoldsMoved self.old.positions self.new.positions returned.now.report returned.now.account returned.now.report.account returned.now.lots) }
         ensures refused { OnErr result (SameAnswers self.old self.new) }
     {
-        let rows = self.make_way(&returned.account, &returned.report)?;
+        let rows = self.make_way(returned)?;
         self.offers.reverse(returned.number);
-        self.limits
-            .give_back_at(&returned.limits, returned.lots.get());
+        self.limits.give_back_at(&returned.limits, returned.lots);
         move_back(&mut self.positions, returned, &rows);
         Ok(())
     }
@@ -289,11 +259,9 @@ fn make_rows(
     one: (&AccountId, &Symbol),
     two: (&AccountId, &Symbol),
 ) -> Result<(RowNo, RowNo), AllocError>
-    ensures one { OnOk result (has_row positions.new one.entry.0.now one.entry.1.now ≡ true) }
-    ensures two { OnOk result (has_row positions.new two.entry.0.now two.entry.1.now ≡ true) }
     ensures first { IfOk result (λ rows. IsRowOf positions.new one.entry.0.now one.entry.1.now rows.0) }
     ensures second { IfOk result (λ rows. IsRowOf positions.new two.entry.0.now two.entry.1.now rows.1) }
-    ensures stay { KeepsMade positions.old positions.new }
+    ensures stay { KeepsNumbers positions.old positions.new }
     ensures same_lots { KeepsLots positions.old positions.new }
 {
     let first = positions.make_row(one.0, one.1)?;
@@ -303,24 +271,21 @@ fn make_rows(
 
 /// Moves lots of an offer from the row of its report to its own.
 fn move_over(positions: &mut Positions, claimed: &Moved, rows: &(RowNo, RowNo))
-    requires from { IsRowOf positions.old claimed.now.report.account claimed.now.report.symbol rows.now.0 }
-    requires to { IsRowOf positions.old claimed.now.account claimed.now.report.symbol rows.now.1 }
-    requires there { claimed.now.lots ≤ lots_in positions.old claimed.now.report.side claimed.now.report.account claimed.now.report.symbol }
+    requires rows { HasRows positions.old claimed.now rows.now }
+    requires there { IsHeld positions.old claimed.now claimed.now.report.account }
     ensures moved { HoldsMoved positions.old positions.new claimed.now.report claimed.now.report.account claimed.now.account claimed.now.lots }
-    ensures rows { KeepsRows positions.old positions.new }
+    ensures stay { KeepsNumbers positions.old positions.new }
 {
-    positions.shift_between(&rows.0, &rows.1, claimed.report.side, claimed.lots.get());
+    positions.shift_between(&rows.0, &rows.1, claimed.report.side, claimed.lots);
 }
 
 /// Moves those lots back.
 fn move_back(positions: &mut Positions, returned: &Moved, rows: &(RowNo, RowNo))
-    requires from { IsRowOf positions.old returned.now.report.account returned.now.report.symbol rows.now.0 }
-    requires to { IsRowOf positions.old returned.now.account returned.now.report.symbol rows.now.1 }
-    requires there { returned.now.lots ≤ lots_in positions.old returned.now.report.side returned.now.account returned.now.report.symbol }
-    ensures moved { HoldsMoved positions.old positions.new returned.now.report returned.now.account returned.now.report.account returned.now.lots }
-    ensures rows { KeepsRows positions.old positions.new }
+    requires rows { HasRows positions.old returned.now rows.now }
+    requires there { IsHeld positions.old returned.now returned.now.account }
+    ensures { HoldsMoved positions.old positions.new returned.now.report returned.now.account returned.now.report.account returned.now.lots }
 {
-    positions.shift_between(&rows.1, &rows.0, returned.report.side, returned.lots.get());
+    positions.shift_between(&rows.1, &rows.0, returned.report.side, returned.lots);
 }
 
 /// Adds the lots of a report to its row.

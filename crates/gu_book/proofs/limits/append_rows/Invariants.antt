@@ -1,7 +1,11 @@
 use Rattle.std.proofs.Common.{◌≡◌, ◌++◌, take}
+use Rattle.std.specs.Fn.{FnReturnsAt}
 use Rattle.std.specs.List.{filter_map}
 use Rattle.gu_limits.specs.Limits.{row_in}
+use Rattle.gu_terms.specs.declared.limit_key.LimitKey.{LimitKey}
 use Rattle.gu_book.proofs.limits.append_rows.Given as goal
 
-abbrev pub invariant-loop-key : goal.invariant-loop-key
-invariant-loop-key l = l.rows.items ≡ l.initial.rows.items ++ filter_map (row_in l.limits l.group) (take l.key-index l.keys)
+abbrev pub invariant-loop-item : goal.invariant-loop-item
+invariant-loop-item g l =
+    (key : _ → LimitKey) → ((item : _) (k : LimitKey) → FnReturnsAt g.F.Fn l.key_of item k → k ≡ key item)
+    → l.rows.items ≡ l.initial.rows.items ++ filter_map (λ item. row_in l.limits l.group (key item)) (take l.item-index l.items)

@@ -43,7 +43,7 @@ returns-clause-reply c =
     ∙ ap (λ (path : List LimitKey). find (λ key. nat_lt (room_in c.args.totals.now.limits offer.group key) c.get.result) path) c.path_with-path.ensures.keys
     ∙ short_key-of reference state c.args.self.now.offer c.get.result offer c.in_ok-offer.ensures.offer
     ∙ ap (short_key reference state c.args.self.now.offer) (c.get.ensures.number ∙ lots.0) in
-    ap (λ (n : ℕ). Accepted (Claimed n)) lots.0
+    ap (λ (n : ℕ). Accepted (Claimed n)) (c.get-2.ensures.number ∙ lots.0)
     ∙ sym
     (standing_after (offer_tests reference state c.args.self.now.firm c.args.self.now.offer) (claim_tests reference state c.args.self.now.offer) (Claimed left) c.in_ok-offer.ensures.passed
     ∙ standing_none (claim_tests reference state c.args.self.now.offer) (Claimed left)
@@ -57,10 +57,12 @@ returns-clause-deed c =
     record {
       firm = c.args.self.now.firm;
       is = refl;
-      offer = c.in_ok-offer.offer;
-      seen = record { shown = c.in_ok-offer.ensures.offer; found = c.terms_given_up.ensures };
-      group_is = refl;
-      account_is = refl;
-      under = subst (λ (keys : List LimitKey). AreLimitsOf c.args.totals.now.limits c.in_ok-offer.offer.group keys c.in-Ok.limits) c.path_with-path.ensures.keys c.in-Ok.ensures.limits;
-      all = (lots_are (left_in c.args.totals.now.offers c.args.self.now.offer) c.in-Some.lots c.in-Some.ensures).0;
+      found = record {
+        offer = c.in_ok-offer.offer;
+        seen = record { shown = c.in_ok-offer.ensures.offer; found = c.terms_given_up.ensures };
+        group_is = refl;
+        account_is = refl;
+        under = subst (λ (keys : List LimitKey). AreLimitsOf c.args.totals.now.limits c.in_ok-offer.offer.group keys c.in-Ok.limits) c.path_with-path.ensures.keys c.in-Ok.ensures.limits;
+      };
+      all = c.get-2.ensures.number ∙ (lots_are (left_in c.args.totals.now.offers c.args.self.now.offer) c.in-Some.lots c.in-Some.ensures).0;
     }

@@ -19,7 +19,7 @@ returns-clause-reply c =
     let shut : nat_lt 0 (left_in state.offers n) ≡ false = ap (nat_lt 0) nothing in
     let lots = lots_are (today_in state.offers n) c.in-Some.lots c.in-Some.ensures in
     let none : refusal_in tests ≡ None = rw (shut, lots.1) refl in
-    ap (λ (moved : ℕ). Accepted (Reversed moved)) lots.0
+    ap (λ (moved : ℕ). Accepted (Reversed moved)) (c.get.ensures.number ∙ lots.0)
     ∙ sym (standing_after (offer_tests c.args.reference.now state c.args.self.now.firm n) tests (Reversed (today_in state.offers n)) c.in_ok-offer.ensures.passed ∙ standing_none tests (Reversed (today_in state.offers n)) none)
 
 pub returns-clause-deed : goal.returns-clause-deed
@@ -27,10 +27,12 @@ returns-clause-deed c =
     record {
       firm = c.args.self.now.firm;
       is = refl;
-      offer = c.in_ok-offer.offer;
-      seen = record { shown = c.in_ok-offer.ensures.offer; found = c.terms_given_up.ensures };
-      group_is = refl;
-      account_is = refl;
-      under = subst (λ (keys : List LimitKey). AreLimitsOf c.args.totals.now.limits c.in_ok-offer.offer.group keys c.limits_of.result) c.path_with-path.ensures.keys c.limits_of.ensures;
-      all = (lots_are (today_in c.args.totals.now.offers c.args.self.now.offer) c.in-Some.lots c.in-Some.ensures).0;
+      found = record {
+        offer = c.in_ok-offer.offer;
+        seen = record { shown = c.in_ok-offer.ensures.offer; found = c.terms_given_up.ensures };
+        group_is = refl;
+        account_is = refl;
+        under = subst (λ (keys : List LimitKey). AreLimitsOf c.args.totals.now.limits c.in_ok-offer.offer.group keys c.limits_of.result) c.path_with-path.ensures.keys c.limits_of.ensures;
+      };
+      all = c.get.ensures.number ∙ (lots_are (today_in c.args.totals.now.offers c.args.self.now.offer) c.in-Some.lots c.in-Some.ensures).0;
     }

@@ -1,11 +1,9 @@
-use Rattle.std.proofs.Common.{◌∙◌, ◌+◌, ◌++◌, ◌∷◌, [], List, ap, length, if◌then◌else◌, subst, sym}
-use Rattle.std.specs.List.{AllByRecursion}
+use Rattle.std.proofs.Common.{◌∙◌, ◌+◌, ◌++◌, ◌∷◌, [], List, ap, length, map, if◌then◌else◌, subst, sym}
 use Rattle.gu_terms.specs.Same.{same_group}
 use Rattle.gu_terms.specs.declared.entry.Entry.{Entry}
 use Rattle.gu_terms.specs.declared.entry.Entry.TheVariants.{Swept}
 use Rattle.gu_terms.specs.declared.entry.SweepEntry.{SweepEntry}
 use Rattle.gu_terms.specs.declared.group.Group.{Group}
-use Rattle.gu_terms.specs.declared.takes.Take.{Take}
 use Rattle.gu_view.specs.View.{GroupView}
 use Rattle.gu_rules.specs.BookState.{BookState}
 use Rattle.gu_rules.specs.Legal.{StandsLast}
@@ -13,17 +11,17 @@ use Rattle.gu_notices.proofs.RecipientLemmas.{few_sides}
 use Rattle.gu_book.specs.Beside.{IsKeptWhole}
 use Rattle.gu_book.specs.Commits.{IsCurrent, sweep_of}
 use Rattle.gu_book.specs.Counted.{version_in}
-use Rattle.gu_book.specs.Moving.{HasRows, MovesAll}
-use Rattle.gu_book.proofs.Committing.{legal-still, legal-swept, may-move, swept-last}
+use Rattle.gu_book.specs.Moving.{MayMove, MovesAll, taken_by}
+use Rattle.gu_book.proofs.Committing.{legal-still, legal-swept, may-move, shows-takes, swept-last}
 use Rattle.gu_book.proofs.CountedLemmas.{versions-fit, versions-same}
 use Rattle.gu_book.proofs.TellingLemmas.{whole-more}
 use Rattle.gu_book.proofs.book.Book.append_sweep.Goals as goal
 
-pub invariant_of-self-in_err-make_ways : goal.invariant_of-self-in_err-make_ways
-invariant_of-self-in_err-make_ways c =
+pub invariant_of-self-in_err-transfers : goal.invariant_of-self-in_err-transfers
+invariant_of-self-in_err-transfers c =
     let old = c.self.inside in
     record {
-      entries = legal-still old.reference old.history old.totals c.make_ways.new.totals old.versions c.know.new.versions c.self.invariant.entries c.make_ways.ensures.same
+      entries = legal-still old.reference old.history old.totals c.transfers_of.new.totals old.versions c.know.new.versions c.self.invariant.entries c.transfers_of.ensures.same
           c.know.ensures.days c.know.ensures.same;
       told = c.self.invariant.told;
     }
@@ -32,22 +30,23 @@ pub invariant_of-self-in_err-push_swept : goal.invariant_of-self-in_err-push_swe
 invariant_of-self-in_err-push_swept c =
     let old = c.self.inside in
     let kept =
-    legal-still old.reference old.history old.totals c.make_ways.new.totals old.versions c.know.new.versions c.self.invariant.entries c.make_ways.ensures.same
+    legal-still old.reference old.history old.totals c.transfers_of.new.totals old.versions c.know.new.versions c.self.invariant.entries c.transfers_of.ensures.same
     c.know.ensures.days c.know.ensures.same in
-    subst (λ (history : List Entry). IsKeptWhole old.reference history c.make_ways.new.totals c.know.new.versions old.recipients.items) (sym c.in_err-push_swept.ensures.refused)
+    subst (λ (history : List Entry). IsKeptWhole old.reference history c.transfers_of.new.totals c.know.new.versions old.recipients.items) (sym c.in_err-push_swept.ensures.refused)
     (record { entries = kept; told = c.self.invariant.told })
 
-pub move_takes-requires : goal.move_takes-requires
-move_takes-requires c =
+pub carry_out-requires : goal.carry_out-requires
+carry_out-requires c =
     let old = c.self.inside in
     let book : BookState = record { reference = old.reference; history = old.history } in
     let proposal = c.args.proposal.now in
     let current = subst (λ (k : BookState). IsCurrent k proposal.view) (sym c.self.view_is) c.requires.current in
-    let made = subst (AllByRecursion (λ (t : Take). HasRows c.make_ways.new.totals t.offer)) (c.as_slice.ensures.takes ∙ c.takes.ensures.takes) c.in_ok-make_ways.ensures.rows in (
-      old.reference,
-      may-move book proposal old.totals c.make_ways.new.totals old.versions c.view-2.result.now c.as_slice-2.result.now c.self.invariant.entries current c.asks_for_a_sweep.ensures c.make_ways.ensures.same made
-          c.view-2.ensures.view (c.as_slice-2.ensures.takes ∙ c.takes-2.ensures.takes),
-    )
+    let kept = c.self.invariant.entries.kept in
+    let takes = c.as_slice.ensures.takes ∙ c.takes.ensures.takes in
+    let mid = c.transfers_of.new.totals in
+    let shown = shows-takes book proposal old.totals c.view-2.result.now c.as_slice.result.now kept current c.asks_for_a_sweep.ensures c.view-2.ensures.view takes in
+    let ready = c.in_ok-transfers.ensures.ready old.reference shown in
+    (old.reference, subst (MayMove old.reference mid) (sym c.deref.ensures.value) (may-move book proposal old.totals mid c.as_slice.result.now c.in_ok-transfers.transfers.items kept current c.asks_for_a_sweep.ensures c.transfers_of.ensures.same takes ready))
 
 pub touch-requires-clause-fits : goal.touch-requires-clause-fits
 touch-requires-clause-fits c group =
@@ -61,26 +60,30 @@ invariant_of-self-2 c =
     let proposal = c.args.proposal.now in
     let current = subst (λ (k : BookState). IsCurrent k proposal.view) (sym c.self.view_is) c.requires.current in
     let still =
-    legal-still old.reference old.history old.totals c.make_ways.new.totals old.versions c.know.new.versions c.self.invariant.entries c.make_ways.ensures.same c.know.ensures.days
+    legal-still old.reference old.history old.totals c.transfers_of.new.totals old.versions c.know.new.versions c.self.invariant.entries c.transfers_of.ensures.same c.know.ensures.days
     c.know.ensures.same in
-    let made = subst (AllByRecursion (λ (t : Take). HasRows c.make_ways.new.totals t.offer)) (c.as_slice.ensures.takes ∙ c.takes.ensures.takes) c.in_ok-make_ways.ensures.rows in
-    let takes = c.as_slice-2.ensures.takes ∙ c.takes-2.ensures.takes in
-    let may =
-    may-move book proposal old.totals c.make_ways.new.totals old.versions c.view-2.result.now c.as_slice-2.result.now c.self.invariant.entries current c.asks_for_a_sweep.ensures c.make_ways.ensures.same made
-    c.view-2.ensures.view takes in
-    let moves = subst (MovesAll old.reference c.make_ways.new.totals c.move_takes.new.totals) takes (c.move_takes.ensures old.reference may) in
+    let kept = c.self.invariant.entries.kept in
+    let takes = c.as_slice.ensures.takes ∙ c.takes.ensures.takes in
+    let mid = c.transfers_of.new.totals in
+    let items = c.in_ok-transfers.transfers.items in
+    let shown = shows-takes book proposal old.totals c.view-2.result.now c.as_slice.result.now kept current c.asks_for_a_sweep.ensures c.view-2.ensures.view takes in
+    let ready = c.in_ok-transfers.ensures.ready old.reference shown in
+    let may = may-move book proposal old.totals mid c.as_slice.result.now items kept current c.asks_for_a_sweep.ensures c.transfers_of.ensures.same takes ready in
+    let moves =
+    subst (MovesAll old.reference mid c.carry_out.new.totals) (ap (map taken_by) c.deref.ensures.value ∙ ready.takes_are ∙ takes)
+    (c.carry_out.ensures old.reference (subst (MayMove old.reference mid) (sym c.deref.ensures.value) may)) in
     let is = c.requires.kept in
     let pushed = c.in_ok-push_swept.ensures.added ∙ ap (λ (s : SweepEntry). old.history ++ Swept s ∷ []) is in
     let kept =
-    legal-swept book proposal c.make_ways.new.totals c.move_takes.new.totals c.know.new.versions c.touch.new.versions still current c.asks_for_a_sweep.ensures moves c.touch.ensures.days
+    legal-swept book proposal mid c.carry_out.new.totals c.know.new.versions c.touch.new.versions still current c.asks_for_a_sweep.ensures moves c.touch.ensures.days
     (λ group.
     c.touch.ensures.touched group
     ∙ ap (λ (own : Group). if same_group own group then version_in c.know.new.versions group + 1 else version_in c.know.new.versions group)
     (c.group-group.ensures ∙ ap (λ (v : GroupView). v.group) c.view.ensures.view)) in
     let whole =
-    whole-more old.reference old.history (Swept (sweep_of proposal)) c.move_takes.new.totals c.touch.new.versions old.recipients.items c.self.invariant.told kept
+    whole-more old.reference old.history (Swept (sweep_of proposal)) c.carry_out.new.totals c.touch.new.versions old.recipients.items c.self.invariant.told kept
     (λ id. few_sides _ (c.rules.ensures.sound.sides id)) in
-    subst (λ (history : List Entry). IsKeptWhole old.reference history c.move_takes.new.totals c.touch.new.versions old.recipients.items) (sym pushed) whole
+    subst (λ (history : List Entry). IsKeptWhole old.reference history c.carry_out.new.totals c.touch.new.versions old.recipients.items) (sym pushed) whole
 
 pub returns-clause-stands : goal.returns-clause-stands
 returns-clause-stands c =

@@ -1,11 +1,11 @@
 use Rattle.gu_rules.specs.Limits.{path_after}
-use Rattle.gu_book.proofs.Accepting.{reversal-fits, reversal-taken, on_ok_three}
+use Rattle.gu_book.proofs.Accepting.{on_ok_three, reversal-fits, reversal-taken}
 use Rattle.gu_book.proofs.deed.ReversalDeed.take_in.Goals as goal
 
 pub reverse-requires-clause-used : goal.reverse-requires-clause-used
 reverse-requires-clause-used c =
     let it = c.requires.1 in
-    (path_after c.requires.0 it.is.offer, (reversal-fits c.requires.0 c.args.totals.now it.command c.args.self.now.reversed it.may it.is).0)
+    (path_after c.requires.0 it.is.found.offer, (reversal-fits c.requires.0 c.args.totals.now it.command c.args.self.now.reversed it.may it.is).0)
 
 pub reverse-requires-clause-there : goal.reverse-requires-clause-there
 reverse-requires-clause-there c =

@@ -1,4 +1,4 @@
-use Rattle.std.proofs.Common.{ℕ, List, subst}
+use Rattle.std.proofs.Common.{List, subst}
 use Rattle.gu_terms.specs.declared.limit_key.LimitKey.{LimitKey}
 use Rattle.gu_limits.specs.Changes.{Returns, MayReturn}
 use Rattle.gu_limits.specs.Limits.{GroupLimit}
@@ -8,5 +8,4 @@ pub returns-clause-limits : goal.returns-clause-limits
 returns-clause-limits c =
     let it = c.args.returned.now in
     subst (λ (limits : List GroupLimit). (keys : List LimitKey) → MayReturn limits it.group keys it.lots it.limits → Returns limits c.give_back_at.new.self it.group keys it.lots) c.make_way.ensures.same.limits
-    (subst (λ (lots : ℕ). (keys : List LimitKey) → MayReturn c.make_way.new.self.limits it.group keys lots it.limits → Returns c.make_way.new.self.limits c.give_back_at.new.self it.group keys lots) c.get.ensures.number
-    (c.give_back_at.ensures it.group))
+    (c.give_back_at.ensures it.group)
