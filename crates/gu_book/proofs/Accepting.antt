@@ -1,58 +1,12 @@
 -- Applying accepted commands to the totals kept beside a history.
-use Rattle.std.proofs.Common.{◌≡◌, ℕ, zero, suc, ◌+◌, ◌*◌, ◌-◌, ◌<◌, ◌≤◌, ◌&&◌, ◌++◌, true, false, List, [], ◌∷◌, length, slice_index_or, Option, None, Some, unwrap_or, Result, Ok, Err, refl, sym, ap, ◌∙◌, arith, subst}
-use Rattle.std.specs.Prelude.{All}
+use Rattle.gu_book.proofs.Words.{◌≡◌, ℕ, zero, suc, ◌+◌, ◌*◌, ◌-◌, ◌<◌, ◌≤◌, ◌&&◌, ◌++◌, true, false, List, [], ◌∷◌, length, slice_index_or, Option, None, Some, unwrap_or, Result, Ok, Err, refl, sym, ap, ◌∙◌, arith, subst, All, option_map, none-some, same_account-own, same_group-own, same_symbol-own, same_group, AccountId, Command, Refuse, Entry, FirmId, Group, LimitKey, Offer, Report, Side, Buy, Sell, Symbol, Tables, Charges, MayReturn, Returns, room_in, used_in, report_by, terms_of, Terms, changed, closed, reversed, taken, Row, left_in, row_at, today_in, lots_at, lots_in, State, answer, answer_in, state_of, IsAccepted, is_under, path_after, room_of, offers_of, standing_of, reports_of, path_after-once, held_in-has, held_in-moved, today-le-use_in, IsThere, MayBeClaimed, MayBeReversed, claimable, refusable, reversible, today-is, in_order, today-le-moved, either-true, taken_back, length-standing_from, TakesOne, claim-takes, claimed, MayTakeIn, TakesIn, IsBeside, IsKept, state_in, HoldsMoved, SameEntries, UsesLess, UsesMore, MovesLots, claim_of, reversal_of, ClaimsLots, MayClaim, Totals}
 use Rattle.std.specs.Result.{OnOk}
-use Rattle.std.specs.Option.{option_map}
-use Rattle.std.proofs.lemmas.Option.{none-some}
-use Rattle.gu_terms.proofs.SameNames.{same_account-own, same_group-own, same_symbol-own}
 use Rattle.gu_terms.specs.LimitKeys.{has_key, key_eq}
 use Rattle.gu_terms.proofs.KeyLemmas.{key_eq-refl}
-use Rattle.gu_terms.specs.Same.{same_group}
-use Rattle.gu_terms.specs.declared.account.AccountId.{AccountId}
 use Rattle.gu_terms.specs.declared.alloc_reject.AllocReject.{AllocReject}
-use Rattle.gu_terms.specs.declared.command.Command.{Command}
-use Rattle.gu_terms.specs.declared.command.Command.TheVariants.{Refuse}
-use Rattle.gu_terms.specs.declared.entry.Entry.{Entry}
-use Rattle.gu_terms.specs.declared.firm.FirmId.{FirmId}
-use Rattle.gu_terms.specs.declared.group.Group.{Group}
-use Rattle.gu_terms.specs.declared.limit_key.LimitKey.{LimitKey}
-use Rattle.gu_terms.specs.declared.offer.Offer.{Offer}
-use Rattle.gu_terms.specs.declared.report.Report.{Report}
-use Rattle.gu_terms.specs.declared.side.Side.{Side}
-use Rattle.gu_terms.specs.declared.side.Side.TheVariants.{Buy, Sell}
-use Rattle.gu_terms.specs.declared.symbol.Symbol.{Symbol}
-use Rattle.gu_ref.specs.Tables.{Tables}
-use Rattle.gu_limits.specs.Changes.{Charges, MayReturn, Returns}
-use Rattle.gu_limits.specs.Limits.{room_in, used_in}
-use Rattle.gu_trades.specs.Reports.{report_by}
-use Rattle.gu_trades.specs.Terms.{terms_of}
-use Rattle.gu_trades.specs.declared.terms.Terms.{Terms}
-use Rattle.gu_offers.specs.Changes.{changed, closed, reversed, taken}
-use Rattle.gu_offers.specs.Rows.{Row, left_in, row_at, today_in}
-use Rattle.gu_positions.specs.Changes.{lots_at}
-use Rattle.gu_positions.specs.Rows.{lots_in}
-use Rattle.gu_rules.specs.Answer.{State, answer, answer_in, state_of}
-use Rattle.gu_rules.specs.Legal.{IsAccepted}
-use Rattle.gu_rules.specs.Limits.{is_under, path_after, room_of}
-use Rattle.gu_rules.specs.Offers.{offers_of, standing_of}
-use Rattle.gu_rules.specs.Reports.{reports_of}
-use Rattle.gu_rules.proofs.AgreementPaths.{path_after-once}
-use Rattle.gu_rules.proofs.ChangedPositions.{held_in-has, held_in-moved}
-use Rattle.gu_rules.proofs.ChangedSums.{today-le-use_in}
 use Rattle.gu_rules.proofs.Covered.{covered-taken}
-use Rattle.gu_rules.proofs.Facts.{IsThere, MayBeClaimed, MayBeReversed, claimable, refusable, reversible, today-is}
-use Rattle.gu_rules.proofs.InOrder.{in_order}
-use Rattle.gu_rules.proofs.OrderlyLemmas.{today-le-moved}
-use Rattle.gu_rules.proofs.Spoken.{either-true, taken_back}
-use Rattle.gu_rules.proofs.StandingLemmas.{length-standing_from}
-use Rattle.gu_rules.proofs.Takers.{TakesOne, claim-takes, claimed}
-use Rattle.gu_book.specs.Accepted.{MayTakeIn, TakesIn}
-use Rattle.gu_book.specs.Beside.{IsBeside, IsKept, state_in}
-use Rattle.gu_book.specs.Effects.{HoldsMoved, SameEntries, UsesLess, UsesMore}
-use Rattle.gu_book.specs.Deeds.{AreFound, MovesLots, claim_of, reversal_of}
-use Rattle.gu_book.specs.Moving.{ClaimsLots, MayClaim}
+use Rattle.gu_book.specs.Deeds.{AreFound}
 use Rattle.gu_book.specs.declared.deed.Moved.{Moved}
-use Rattle.gu_book.specs.declared.totals.Totals.{Totals}
 use Rattle.gu_book.proofs.KeptOffers.{kept-refused, kept-taken, kept-taken_back, within-taken}
 
 -- consequences of two properties of a result, and of three

@@ -1,26 +1,9 @@
 -- The totals of the empty history, and after a refusal.
-use Rattle.std.proofs.Common.{◌≡◌, true, false, ◌<◌, ◌++◌, List, [], ◌∷◌, length, None, sym, ap, ◌∙◌, arith, subst}
+use Rattle.gu_book.proofs.Words.{◌≡◌, true, false, ◌<◌, ◌++◌, List, [], ◌∷◌, length, None, sym, ap, ◌∙◌, arith, subst, Command, Entry, Asked, Group, Tables, GroupLimit, has_limit, limit_in, used_in, lots_in, lots_on, accepts, answer, legal_push, nothing-orderly, is-accepted, TakesIn, IsKept, IsKeptLegal, is_kept_give_up, AreVersions, version_in, SameAnswers, GiveUpKey, Totals, Versions}
 use Rattle.gu_terms.specs.Commands.{MayBeAsked}
-use Rattle.gu_terms.specs.declared.command.Command.{Command}
-use Rattle.gu_terms.specs.declared.entry.Entry.{Entry}
-use Rattle.gu_terms.specs.declared.entry.Entry.TheVariants.{Asked}
-use Rattle.gu_terms.specs.declared.group.Group.{Group}
 use Rattle.gu_terms.specs.declared.reply.Reply.{Reply}
-use Rattle.gu_ref.specs.Tables.{Tables}
-use Rattle.gu_limits.specs.Limits.{GroupLimit, has_limit, limit_in, used_in}
-use Rattle.gu_positions.specs.Rows.{Row as PositionRow, lots_in, lots_on}
-use Rattle.gu_rules.specs.Legal.{accepts}
-use Rattle.gu_rules.specs.Answer.{answer}
-use Rattle.gu_rules.proofs.Growing.{legal_push}
-use Rattle.gu_rules.proofs.InOrder.{nothing-orderly}
-use Rattle.gu_rules.proofs.AcceptedCommands.{is-accepted, refused}
-use Rattle.gu_book.specs.Accepted.{TakesIn}
-use Rattle.gu_book.specs.Beside.{IsKept, IsKeptLegal, is_kept_give_up}
-use Rattle.gu_book.specs.Counted.{AreVersions, version_in}
-use Rattle.gu_book.specs.Effects.{SameAnswers}
-use Rattle.gu_book.specs.declared.totals.GiveUpKey.{GiveUpKey}
-use Rattle.gu_book.specs.declared.totals.Totals.{Totals}
-use Rattle.gu_book.specs.declared.versions.Versions.{Versions}
+use Rattle.gu_positions.specs.Rows.{Row as PositionRow}
+use Rattle.gu_rules.proofs.AcceptedCommands.{refused}
 use Rattle.gu_book.proofs.KeptQuiet.{kept-denied}
 
 -- the totals of the empty history

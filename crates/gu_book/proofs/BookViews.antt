@@ -1,15 +1,5 @@
 -- The view made from the totals is the view of the history.
-use Rattle.std.proofs.Common.{◌≡◌, ◌-◌, List, map}
-use Rattle.gu_terms.specs.declared.entry.Entry.{Entry}
-use Rattle.gu_terms.specs.declared.group.Group.{Group}
-use Rattle.gu_ref.specs.Tables.{Tables}
-use Rattle.gu_view.specs.View.{keys_of}
-use Rattle.gu_rules.specs.Views.{group_view, offers_in}
-use Rattle.gu_book.specs.Beside.{IsBeside}
-use Rattle.gu_book.specs.Counted.{AreVersions}
-use Rattle.gu_book.specs.Shown.{view_in}
-use Rattle.gu_book.specs.declared.totals.Totals.{Totals}
-use Rattle.gu_book.specs.declared.versions.Versions.{Versions}
+use Rattle.gu_book.proofs.Words.{◌≡◌, ◌-◌, List, map, Entry, Group, Tables, keys_of, group_view, offers_in, IsBeside, AreVersions, view_in, Totals, Versions}
 
 pub view-is : (reference : Tables) (history : List Entry) (totals : Totals) (versions : Versions) (group : Group) → IsBeside reference history totals → AreVersions history versions
     → view_in reference totals versions group ≡ group_view reference history group

@@ -1,20 +1,7 @@
 -- Claims answered from the totals, and truncated histories.
-use Rattle.std.proofs.Common.{◌≡◌, ℕ, Bool, true, false, List, [], ◌∷◌, Option, Some, None, refl, ◌∙◌, nat_lt, ◌==◌, ap, zero, suc, arith, inl, inr, ◌++◌, length, take}
+use Rattle.gu_book.proofs.Words.{◌≡◌, ℕ, Bool, true, false, List, [], ◌∷◌, Option, Some, None, refl, ◌∙◌, nat_lt, ◌==◌, ap, zero, suc, arith, inl, inr, ◌++◌, length, take, cases_Bool, find, option_map, option_map_or, Entry, Offer, Refusal, LimitReached, OfferClosed, Tables, Row, left_in, row_at, State, claim_tests, refusal_in, room_tests, path_after, room_first, short_key, some_lots}
 use Rattle.std.proofs.Math.Seq.{take-append_seam}
-use Rattle.std.proofs.lemmas.Bool.{cases_Bool}
 use Rattle.std.proofs.lemmas.Bool.Decides.{Decides-eqb}
-use Rattle.std.specs.List.{find}
-use Rattle.std.specs.Option.{option_map, option_map_or}
-use Rattle.gu_terms.specs.declared.entry.Entry.{Entry}
-use Rattle.gu_terms.specs.declared.offer.Offer.{Offer}
-use Rattle.gu_terms.specs.declared.refusal.Refusal.{Refusal}
-use Rattle.gu_terms.specs.declared.refusal.Refusal.TheVariants.{LimitReached, OfferClosed}
-use Rattle.gu_ref.specs.Tables.{Tables}
-use Rattle.gu_offers.specs.Rows.{Row, left_in, row_at}
-use Rattle.gu_rules.specs.Answer.{State, claim_tests, refusal_in, room_tests}
-use Rattle.gu_rules.specs.Limits.{path_after}
-use Rattle.gu_rules.proofs.Passing.{room_first}
-use Rattle.gu_book.specs.Beside.{short_key, some_lots}
 
 -- for an offer with lots left, a claim is refused for the first key with less room
 pub claim_refused : (reference : Tables) (state : State) (n : ℕ) → (left_in state.offers n == 0) ≡ false

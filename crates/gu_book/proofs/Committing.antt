@@ -1,28 +1,7 @@
 -- A legal history extended by a committed sweep.
-use Rattle.std.proofs.Common.{◌≡◌, ◌+◌, ◌≤◌, List, [], ◌∷◌, ◌++◌, length, if◌then◌else◌, refl, sym, ap, ◌∙◌, arith, subst}
-use Rattle.std.specs.List.{AllByRecursion}
-use Rattle.gu_terms.specs.declared.entry.Entry.{Entry}
-use Rattle.gu_terms.specs.declared.entry.Entry.TheVariants.{Swept}
-use Rattle.gu_terms.specs.declared.group.Group.{Group}
-use Rattle.gu_terms.specs.declared.takes.Take.{Take}
-use Rattle.gu_ref.specs.Tables.{Tables}
+use Rattle.gu_book.proofs.Words.{◌≡◌, ◌+◌, ◌≤◌, List, [], ◌∷◌, ◌++◌, length, if◌then◌else◌, refl, sym, ap, ◌∙◌, arith, subst, AllByRecursion, Entry, Swept, Group, Take, Tables, GroupView, ViewOffer, BookState, StandsLast, IsSweepOf, MaySweep, offers_shown, legal_push, stands_last, IsKept, IsKeptLegal, IsCurrent, sweep_of, is_touched, version_in, SameAnswers, AreReady, IsShownOpen, MayMove, MayTake, MovesAll, Totals, Transfer, Versions}
 use Rattle.gu_flow.specs.Proposals.{ProposedSweep}
-use Rattle.gu_view.specs.View.{GroupView}
-use Rattle.gu_view.specs.declared.view.ViewOffer.{ViewOffer}
-use Rattle.gu_rules.specs.BookState.{BookState}
-use Rattle.gu_rules.specs.Legal.{StandsLast}
-use Rattle.gu_rules.specs.Sweeps.{IsSweepOf, MaySweep}
-use Rattle.gu_rules.specs.Views.{offers_shown}
-use Rattle.gu_rules.proofs.Growing.{legal_push, stands_last}
-use Rattle.gu_book.specs.Beside.{IsKept, IsKeptLegal}
-use Rattle.gu_book.specs.Commits.{IsCurrent, sweep_of}
-use Rattle.gu_book.specs.Counted.{is_touched, version_in}
-use Rattle.gu_book.specs.Effects.{SameAnswers}
-use Rattle.gu_book.specs.Moving.{AreReady, IsShownOpen, MayMove, MayTake, MovesAll}
-use Rattle.gu_book.specs.declared.totals.Totals.{Totals}
-use Rattle.gu_book.specs.declared.totals.Transfer.{Transfer}
 use Rattle.gu_book.specs.declared.versions.Touched.TheVariants.{Only}
-use Rattle.gu_book.specs.declared.versions.Versions.{Versions}
 use Rattle.gu_book.proofs.Beginning.{still-kept}
 use Rattle.gu_book.proofs.CountedLemmas.{versions-push, versions-same}
 use Rattle.gu_book.proofs.KeptParts.{kept-whole}

@@ -1,33 +1,12 @@
 -- Versions as stored: what one entry adds to the counts.
-use Rattle.std.proofs.Common.{◌≡◌, ℕ, suc, zero, ◌+◌, ◌<◌, ◌≤◌, ◌^◌, Bool, true, false, cond, List, [], ◌∷◌, ◌++◌, length, Option, Some, None, unwrap_or, inl, inr, refl, sym, ap, ◌∙◌, arith, length-append, if◌then◌else◌}
-use Rattle.std.specs.Prelude.{slice_get}
-use Rattle.std.specs.Option.{option_map, option_map_or}
-use Rattle.std.proofs.lemmas.Bool.{cases_Bool}
+use Rattle.gu_book.proofs.Words.{◌≡◌, ℕ, suc, zero, ◌+◌, ◌<◌, ◌≤◌, ◌^◌, Bool, true, false, cond, List, [], ◌∷◌, ◌++◌, length, Option, Some, None, unwrap_or, inl, inr, refl, sym, ap, ◌∙◌, arith, length-append, if◌then◌else◌, slice_get, option_map, option_map_or, cases_Bool, same_group-own, same_group-true, same_group, Command, OpenDay, Entry, Asked, Group, Offer, Refusal, Accepted, Denied, Tables, Row, row_at, offers_of, standing_from, standing_of, is_of_group, touches, AreVersions, IsCountAt, is_touched, own_in, version_in, Claims, Deed, GivesUp, IsDeedOf, Opens, Refuses, Reports, Reverses, SetsLimit, done_by, touched_by, Totals, Versions}
 use Rattle.std.proofs.lemmas.Cmp.{nat_list_eq_equiv}
 use Rattle.std.specs.Cmp.{IsEquivalence}
 use Rattle.std.specs.Map.{lookup_key, values_of}
 use Rattle.indexmap.proofs.CallerLemmas.{updates-with_value_at}
 use Rattle.indexmap.specs.IndexMap.{get, get_key_by, IsUnique, Updates, values, with_value_at}
-use Rattle.gu_terms.proofs.SameNames.{same_group-own, same_group-true}
-use Rattle.gu_terms.specs.Same.{same_group}
-use Rattle.gu_terms.specs.declared.command.Command.{Command}
-use Rattle.gu_terms.specs.declared.command.Command.TheVariants.{OpenDay}
-use Rattle.gu_terms.specs.declared.entry.Entry.{Entry}
-use Rattle.gu_terms.specs.declared.entry.Entry.TheVariants.{Asked}
-use Rattle.gu_terms.specs.declared.group.Group.{Group}
-use Rattle.gu_terms.specs.declared.offer.Offer.{Offer}
-use Rattle.gu_terms.specs.declared.refusal.Refusal.{Refusal}
-use Rattle.gu_terms.specs.declared.reply.Reply.TheVariants.{Accepted, Denied}
-use Rattle.gu_ref.specs.Tables.{Tables}
-use Rattle.gu_offers.specs.Rows.{Row, row_at}
-use Rattle.gu_rules.specs.Offers.{offers_of, standing_from, standing_of}
-use Rattle.gu_rules.specs.Versions.{is_of_group, touches}
 use Rattle.gu_rules.proofs.VersionLemmas.{version-le, version_of-push}
-use Rattle.gu_book.specs.Counted.{AreVersions, IsCountAt, is_touched, own_in, version_in}
-use Rattle.gu_book.specs.Deeds.{Claims, Deed, GivesUp, IsDeedOf, Opens, Refuses, Reports, Reverses, SetsLimit, done_by, touched_by}
-use Rattle.gu_book.specs.declared.totals.Totals.{Totals}
 use Rattle.gu_book.specs.declared.versions.Touched.{Touched}
-use Rattle.gu_book.specs.declared.versions.Versions.{Versions}
 
 -- a new group was touched by no entry
 pub version_in-new : (old new : Versions) (group : Group) → new.days ≡ old.days → Updates same_group old.own new.own group (Some 0) → get same_group old.own group ≡ None

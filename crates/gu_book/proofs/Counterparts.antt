@@ -1,23 +1,7 @@
 -- The counterpart of a report among those with its match id, and what the report adds to positions.
-use Rattle.std.proofs.Common.{◌≡◌, ◌+◌, ◌≤◌, Bool, true, false, List, [], ◌∷◌, Option, None, Some, unwrap_or, refl, sym, ap, ◌∙◌, arith, subst, inl, inr}
-use Rattle.std.specs.Prelude.{if◌then◌else◌}
-use Rattle.std.proofs.lemmas.Bool.{cases_Bool}
-use Rattle.gu_terms.specs.declared.account.AccountId.{AccountId}
-use Rattle.gu_terms.specs.declared.refusal.Refusal.TheVariants.{MatchConflict}
-use Rattle.gu_terms.specs.declared.reply.Done.TheVariants.{Reported}
-use Rattle.gu_terms.specs.declared.report.Report.{Report}
-use Rattle.gu_terms.specs.declared.side.Side.{Side}
-use Rattle.gu_terms.specs.declared.symbol.Symbol.{Symbol}
-use Rattle.gu_positions.specs.Changes.{KeepsLots, lots_at}
-use Rattle.gu_positions.specs.Rows.{Row, lots_in, lots_on}
-use Rattle.gu_trades.specs.Counterparts.{counterpart_of}
-use Rattle.gu_trades.specs.Matching.{conflicts, have_other_sides, is_other_side, is_waiting}
-use Rattle.gu_trades.specs.Terms.{terms_of}
+use Rattle.gu_book.proofs.Words.{◌≡◌, ◌+◌, ◌≤◌, Bool, true, false, List, [], ◌∷◌, Option, None, Some, unwrap_or, refl, sym, ap, ◌∙◌, arith, subst, inl, inr, if◌then◌else◌, cases_Bool, AccountId, MatchConflict, Reported, Report, Side, Symbol, KeepsLots, lots_at, lots_in, lots_on, counterpart_of, conflicts, have_other_sides, is_other_side, is_waiting, terms_of, Terms, first_standing, answer_to_match, waiting_of, HoldsMore, made_a_trade}
+use Rattle.gu_positions.specs.Rows.{Row}
 use Rattle.gu_trades.specs.declared.counterpart.Counterpart.TheVariants.{Conflicting, Waiting}
-use Rattle.gu_trades.specs.declared.terms.Terms.{Terms}
-use Rattle.gu_rules.specs.Answer.{first_standing}
-use Rattle.gu_book.specs.Beside.{answer_to_match, waiting_of}
-use Rattle.gu_book.specs.Effects.{HoldsMore, made_a_trade}
 
 -- the last test of a report, given its counterpart
 pub answer-met : (sides : List Report) (report : Report)

@@ -1,9 +1,5 @@
 -- A view is its group's.
-use Rattle.std.proofs.Common.{◌≡◌, ℕ, ◌+◌, ◌<◌, ◌++◌, List, [], ◌∷◌, length, take, drop, get_or, Option, sym, ap, ◌∙◌, append_assoc, take-append-drop}
-use Rattle.std.specs.List.{filter_map}
-use Rattle.std.specs.Option.{option_to_list}
-use Rattle.std.proofs.lemmas.List.{append_cancel_left, drop_more, take_more}
-use Rattle.std.proofs.lemmas.List.Elements.{filter_map-append}
+use Rattle.gu_book.proofs.Words.{◌≡◌, ℕ, ◌+◌, ◌<◌, ◌++◌, List, [], ◌∷◌, length, take, drop, get_or, Option, sym, ap, ◌∙◌, append_assoc, take-append-drop, filter_map, option_to_list, append_cancel_left, drop_more, take_more, filter_map-append}
 use Rattle.gu_terms.proofs.Gathered.{filter_map-last}
 
 -- the list of given elements, split into those of the items before one, of the item, and of those after it

@@ -1,23 +1,6 @@
 -- A view that shows all open offers, and each room as it is now, is its group's.
-use Rattle.std.proofs.Common.{◌≡◌, ◌-◌, List, [], ◌∷◌, map, refl, sym, ap, ◌∙◌, subst}
-use Rattle.std.specs.List.{AllByRecursion, filter_map}
-use Rattle.std.proofs.lemmas.List.Elements.{All-from_recursion, recursion_from_All}
-use Rattle.gu_terms.specs.declared.entry.Entry.{Entry}
-use Rattle.gu_terms.specs.declared.group.Group.{Group}
-use Rattle.gu_terms.specs.declared.limit_key.LimitKey.{LimitKey}
-use Rattle.gu_ref.specs.Tables.{Tables}
-use Rattle.gu_limits.specs.Limits.{GroupLimit, room_in}
-use Rattle.gu_offers.specs.Rows.{Row, open_numbers, open_offer_at}
-use Rattle.gu_view.specs.View.{GroupView, IsView, keys_of}
-use Rattle.gu_view.specs.declared.view.Room.{Room}
-use Rattle.gu_rules.specs.Limits.{room_of}
-use Rattle.gu_rules.specs.Offers.{standing_of}
-use Rattle.gu_rules.specs.Views.{group_view, offers_shown, shown, shown_at}
-use Rattle.gu_rules.specs.Versions.{version_of}
+use Rattle.gu_book.proofs.Words.{◌≡◌, ◌-◌, List, [], ◌∷◌, map, refl, sym, ap, ◌∙◌, subst, AllByRecursion, filter_map, All-from_recursion, recursion_from_All, Entry, Group, LimitKey, Tables, GroupLimit, room_in, Row, open_numbers, open_offer_at, GroupView, IsView, keys_of, Room, room_of, standing_of, group_view, offers_shown, shown, shown_at, version_of, IsBeside, HasRooms, ShowsAll, Totals}
 use Rattle.gu_rules.proofs.ViewLemmas.{shown-numbers}
-use Rattle.gu_book.specs.Beside.{IsBeside}
-use Rattle.gu_book.specs.Current.{HasRooms, ShowsAll}
-use Rattle.gu_book.specs.declared.totals.Totals.{Totals}
 
 -- rooms from their keys
 rooms-by-keys : (limits : List GroupLimit) (group : Group) (rooms : List Room) → AllByRecursion (λ (r : Room). r.lots ≡ room_in limits group r.key) rooms

@@ -1,26 +1,5 @@
 -- Effects that may be applied, and reports as they are added.
-use Rattle.std.proofs.Common.{◌≡◌, ℕ, ◌<◌, true, List, Option, Some, None, Result, Ok, length, is_some, unwrap_or, refl, sym, ap, ◌∙◌, subst}
-use Rattle.std.specs.List.{AllByRecursion}
-use Rattle.std.specs.Option.{option_map}
-use Rattle.gu_terms.specs.declared.command.Command.{Command}
-use Rattle.gu_terms.specs.declared.entry.Entry.{Entry}
-use Rattle.gu_terms.specs.declared.offer.Offer.{Offer}
-use Rattle.gu_terms.specs.declared.refusal.Refusal.{Refusal}
-use Rattle.gu_terms.specs.declared.reply.Reply.TheVariants.{Accepted}
-use Rattle.gu_terms.specs.declared.report.Report.{Report}
-use Rattle.gu_ref.specs.Tables.{Tables}
-use Rattle.gu_trades.specs.Reports.{report_by}
-use Rattle.gu_offers.specs.Rows.{Row, row_at}
-use Rattle.gu_rules.specs.Answer.{answer, answer_in}
-use Rattle.gu_rules.specs.Offers.{standing_of}
-use Rattle.gu_rules.specs.Positions.{report_after}
-use Rattle.gu_rules.proofs.AcceptedCommands.{is-accepted}
-use Rattle.gu_rules.proofs.InOrder.{in_order}
-use Rattle.gu_rules.proofs.OrderlyLemmas.{all-at}
-use Rattle.gu_book.specs.Accepted.{MayDo}
-use Rattle.gu_book.specs.Beside.{IsKept, state_in}
-use Rattle.gu_book.specs.Deeds.{Deed, HaveReports, IsDeedOf, done_by, reply_by}
-use Rattle.gu_book.specs.declared.totals.Totals.{Totals}
+use Rattle.gu_book.proofs.Words.{◌≡◌, ℕ, ◌<◌, true, List, Option, Some, None, Result, Ok, length, is_some, unwrap_or, refl, sym, ap, ◌∙◌, subst, AllByRecursion, option_map, Command, Entry, Offer, Refusal, Accepted, Report, Tables, report_by, Row, row_at, answer, answer_in, standing_of, report_after, is-accepted, in_order, all-at, MayDo, IsKept, state_in, Deed, HaveReports, IsDeedOf, done_by, reply_by, Totals}
 use Rattle.gu_book.proofs.Accepting.{answer_is}
 
 -- the totals have the reports of their offers

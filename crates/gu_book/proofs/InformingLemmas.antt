@@ -1,16 +1,5 @@
 -- The firms notified of the entry with a number.
-use Rattle.std.proofs.Common.{◌≡◌, ◌≤◌, ◌∙◌, ℕ, ◌+◌, List, length, slice_get, Option, None, Some, IfSome, refl, sym, ap, subst, add-one}
-use Rattle.gu_terms.specs.Histories.{entry_at}
-use Rattle.gu_terms.specs.declared.entry.Entry.{Entry}
-use Rattle.gu_terms.specs.declared.id.Id.{Id}
-use Rattle.gu_trades.specs.Reports.{with_match}
-use Rattle.gu_rules.specs.BookState.{BookState}
-use Rattle.gu_rules.specs.Notices.{register_of, told_by}
-use Rattle.gu_rules.specs.Reports.{reports_of}
-use Rattle.gu_notices.specs.Recipients.{AreRecipients, Covers, Holds}
-use Rattle.gu_notices.specs.declared.firm_filter.FirmFilter.{FirmFilter}
-use Rattle.gu_notices.proofs.RecipientLemmas.{grows-self, recipients-at}
-use Rattle.gu_book.specs.Informing.{HoldsInformed}
+use Rattle.gu_book.proofs.Words.{◌≡◌, ◌≤◌, ◌∙◌, ℕ, ◌+◌, List, length, slice_get, Option, None, Some, IfSome, refl, sym, ap, subst, add-one, entry_at, Entry, Id, with_match, BookState, register_of, told_by, reports_of, AreRecipients, Covers, Holds, FirmFilter, grows-self, recipients-at, HoldsInformed}
 
 -- a set that covers an entry may hold every firm notified of it, as the book is now
 covered : (book : BookState) (number : ℕ) (firms : FirmFilter) → ((id : Id) → length (with_match id (reports_of book.history)) ≤ 2) → (found : Option Entry)

@@ -1,26 +1,11 @@
 -- The open interest summed over rows equals that summed over accounts.
-use Rattle.std.proofs.Common.{◌≡◌, ℕ, ◌-◌, ◌&&◌, false, List, [], ◌∷◌, Option, Some, None, find, is_some, refl, sym, ap, ◌∙◌, arith}
-use Rattle.std.specs.List.{AllByRecursion, IsDistinct}
-use Rattle.std.specs.Option.{option_map_or}
+use Rattle.gu_book.proofs.Words.{◌≡◌, ℕ, ◌-◌, ◌&&◌, false, List, [], ◌∷◌, Option, Some, None, is_some, refl, sym, ap, ◌∙◌, arith, AllByRecursion, IsDistinct, option_map_or, same_account-own, same_account-turned, same_symbol-own, same_symbol-turned, same_account, AccountId, Entry, Buy, Sell, Symbol, along, along2, sum_by-agree, account_row, Tables, is_of, lots_in, open_interest_in, same_row, BookState, IsLegal, held_of, open_interest_of, IsBeside, Totals}
+use Rattle.std.proofs.Common.{find}
 use Rattle.std.proofs.lemmas.Map.Keys.{IsDistinct-head, IsDistinct-tail}
-use Rattle.gu_terms.proofs.SameNames.{same_account-own, same_account-turned, same_symbol-own, same_symbol-turned}
-use Rattle.gu_terms.specs.Same.{same_account}
-use Rattle.gu_terms.specs.declared.account.AccountId.{AccountId}
-use Rattle.gu_terms.specs.declared.entry.Entry.{Entry}
-use Rattle.gu_terms.specs.declared.side.Side.TheVariants.{Buy, Sell}
-use Rattle.gu_terms.specs.declared.symbol.Symbol.{Symbol}
-use Rattle.gu_terms.proofs.Lists.{along, along2, sum_by-agree}
-use Rattle.gu_ref.specs.Reference.{account_row}
-use Rattle.gu_ref.specs.Tables.{Tables}
 use Rattle.gu_ref.specs.declared.accounts.Account.{Account}
-use Rattle.gu_positions.specs.Rows.{Row, is_of, lots_in, lots_of, open_interest_in, same_row}
-use Rattle.gu_rules.specs.BookState.{BookState}
-use Rattle.gu_rules.specs.Legal.{IsLegal}
-use Rattle.gu_rules.specs.Positions.{held_of, open_interest_of}
+use Rattle.gu_positions.specs.Rows.{Row, lots_of}
 use Rattle.gu_rules.proofs.AccountSums.{over-accounts}
 use Rattle.gu_rules.proofs.LegalLaws.{unknown-holds-none}
-use Rattle.gu_book.specs.Beside.{IsBeside}
-use Rattle.gu_book.specs.declared.totals.Totals.{Totals}
 
 -- a row is the one found by its account and its instrument
 found-own : (rows : List Row) → IsDistinct same_row rows → AllByRecursion (λ (r : Row). find (is_of r.account r.symbol) rows ≡ Some r) rows

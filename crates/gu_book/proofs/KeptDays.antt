@@ -1,43 +1,10 @@
 -- The totals after an opening, a limit, and a give-up.
-use Rattle.std.proofs.Common.{◌≡◌, ℕ, ◌-◌, ◌≤◌, ◌&&◌, ◌||◌, ◌++◌, Bool, true, false, List, [], ◌∷◌, length, map, Option, Some, is_some, unwrap_or, refl, sym, ap, ◌∙◌, if◌then◌else◌, inl, inr}
-use Rattle.std.proofs.lemmas.Bool.{cases_Bool}
+use Rattle.gu_book.proofs.Words.{◌≡◌, ℕ, ◌-◌, ◌≤◌, ◌&&◌, ◌||◌, ◌++◌, Bool, true, false, List, [], ◌∷◌, length, map, Option, Some, is_some, unwrap_or, refl, sym, ap, ◌∙◌, if◌then◌else◌, inl, inr, cases_Bool, same_firm, same_id, same_group, Entry, FirmId, Group, Id, LimitKey, Line, Report, Tables, limit_in, same_place, is_of_trade, report_by, next_day, with_lines, Row, counted_under, lots_on, limit_of, limit_set, limit_set_by, use_in, has_give_up, standing_of, held_in, open_day, opened_day, reports_of, held_in-next_day, held_in-with_lines, use_in-next_day, use_in-with_lines, last-given, orderly-idle, orderly-lines, orderly-opened, reports_of-kept, has_give_up-kept, has_give_up-push, limit_set-kept, open_day-kept, unreported, IsIdle, either-false, standing_of-idle, standing_of-lines, standing_of-opened, giving_up, opening, setting, Sets, IsBeside, IsKept, is_kept_give_up, UsesNothing, GiveUpKey, Totals}
 use Rattle.std.proofs.lemmas.List.Folds.{list_any-append}
 use Rattle.gu_terms.specs.Lines.{lots_in_all}
-use Rattle.gu_terms.specs.Same.{same_firm, same_id, same_group}
 use Rattle.gu_terms.specs.LimitKeys.{key_eq}
 use Rattle.gu_terms.specs.declared.day.Day.{Day}
-use Rattle.gu_terms.specs.declared.entry.Entry.{Entry}
-use Rattle.gu_terms.specs.declared.firm.FirmId.{FirmId}
-use Rattle.gu_terms.specs.declared.group.Group.{Group}
-use Rattle.gu_terms.specs.declared.id.Id.{Id}
-use Rattle.gu_terms.specs.declared.limit_key.LimitKey.{LimitKey}
-use Rattle.gu_terms.specs.declared.lines.Line.{Line}
-use Rattle.gu_terms.specs.declared.report.Report.{Report}
-use Rattle.gu_ref.specs.Tables.{Tables}
 use Rattle.gu_limits.proofs.LimitLemmas.{same_place-sym}
-use Rattle.gu_limits.specs.Limits.{limit_in, same_place}
-use Rattle.gu_trades.specs.Matching.{is_of_trade}
-use Rattle.gu_trades.specs.Reports.{report_by}
-use Rattle.gu_offers.specs.Changes.{next_day, with_lines}
-use Rattle.gu_offers.specs.Rows.{Row, counted_under}
-use Rattle.gu_positions.specs.Rows.{lots_on}
-use Rattle.gu_rules.specs.Limits.{limit_of, limit_set, limit_set_by, use_in}
-use Rattle.gu_rules.specs.Offers.{has_give_up, standing_of}
-use Rattle.gu_rules.specs.Positions.{held_in}
-use Rattle.gu_rules.specs.Reports.{open_day, opened_day, reports_of}
-use Rattle.gu_rules.proofs.ChangedPositions.{held_in-next_day, held_in-with_lines}
-use Rattle.gu_rules.proofs.ChangedSums.{use_in-next_day, use_in-with_lines}
-use Rattle.gu_rules.proofs.Growing.{last-given}
-use Rattle.gu_rules.proofs.OrderlyLemmas.{orderly-idle, orderly-lines, orderly-opened, reports_of-kept}
-use Rattle.gu_rules.proofs.Quiet.{has_give_up-kept, has_give_up-push, limit_set-kept, open_day-kept, unreported}
-use Rattle.gu_rules.proofs.StandingLemmas.{IsIdle, either-false}
-use Rattle.gu_rules.proofs.Stepping.{standing_of-idle, standing_of-lines, standing_of-opened}
-use Rattle.gu_rules.proofs.AcceptedCommands.{giving_up, opening, setting}
-use Rattle.gu_limits.specs.Changes.{Sets}
-use Rattle.gu_book.specs.Beside.{IsBeside, IsKept, is_kept_give_up}
-use Rattle.gu_book.specs.Effects.{UsesNothing}
-use Rattle.gu_book.specs.declared.totals.GiveUpKey.{GiveUpKey}
-use Rattle.gu_book.specs.declared.totals.Totals.{Totals}
 use Rattle.gu_book.proofs.KeptQuiet.{bound-kept}
 
 -- an opening

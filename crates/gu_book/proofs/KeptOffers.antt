@@ -1,29 +1,7 @@
 -- The totals after an entry that changes one offer.
-use Rattle.std.proofs.Common.{◌≡◌, ℕ, ◌+◌, ◌-◌, ◌≤◌, ◌++◌, false, List, [], ◌∷◌, Some, refl, sym, ap, ◌∙◌, arith}
+use Rattle.gu_book.proofs.Words.{◌≡◌, ℕ, ◌+◌, ◌-◌, ◌≤◌, ◌++◌, false, List, [], ◌∷◌, Some, refl, sym, ap, ◌∙◌, arith, Entry, FirmId, Report, Tables, changed, closed, reversed, taken, Row, row_at, lots_at, standing_of, terms_of, AreWithin, open_day, reports_of, held_in-closed, held_in-reversed, held_in-taken, use_in-closed, use_in-reversed, use_in-taken, IsThere, all-changed, orderly-taken, orderly-refused, orderly-taken_back, today-le-moved, IsQuiet, unreported, refused, refused-others, refused-own, taken_back, taken_back-others, taken_back-own, standing_of-one, TakesOne, takes-others, takes-own, IsKept, HoldsMoved, SameEntries, UsesLess, UsesMore, Totals}
 use Rattle.gu_terms.specs.declared.alloc_reject.AllocReject.{AllocReject}
-use Rattle.gu_terms.specs.declared.entry.Entry.{Entry}
-use Rattle.gu_terms.specs.declared.firm.FirmId.{FirmId}
-use Rattle.gu_terms.specs.declared.report.Report.{Report}
-use Rattle.gu_ref.specs.Tables.{Tables}
-use Rattle.gu_offers.specs.Changes.{changed, closed, reversed, taken}
-use Rattle.gu_offers.specs.Rows.{Row, row_at}
-use Rattle.gu_positions.specs.Changes.{lots_at}
-use Rattle.gu_rules.specs.Offers.{standing_of}
-use Rattle.gu_trades.specs.Terms.{terms_of}
-use Rattle.gu_rules.specs.Orderly.{AreWithin}
-use Rattle.gu_rules.specs.Reports.{open_day, reports_of}
-use Rattle.gu_rules.proofs.ChangedPositions.{held_in-closed, held_in-reversed, held_in-taken}
-use Rattle.gu_rules.proofs.ChangedSums.{use_in-closed, use_in-reversed, use_in-taken}
 use Rattle.gu_rules.proofs.Covered.{covered-taken}
-use Rattle.gu_rules.proofs.Facts.{IsThere}
-use Rattle.gu_rules.proofs.OrderlyLemmas.{all-changed, orderly-taken, orderly-refused, orderly-taken_back, today-le-moved}
-use Rattle.gu_rules.proofs.Quiet.{IsQuiet, unreported}
-use Rattle.gu_rules.proofs.Spoken.{refused, refused-others, refused-own, taken_back, taken_back-others, taken_back-own}
-use Rattle.gu_rules.proofs.Stepping.{standing_of-one}
-use Rattle.gu_rules.proofs.Takers.{TakesOne, takes-others, takes-own}
-use Rattle.gu_book.specs.Beside.{IsKept}
-use Rattle.gu_book.specs.Effects.{HoldsMoved, SameEntries, UsesLess, UsesMore}
-use Rattle.gu_book.specs.declared.totals.Totals.{Totals}
 use Rattle.gu_book.proofs.KeptQuiet.{beside-quiet}
 
 -- these entries open no day, report nothing, give nothing up and set no limit

@@ -1,26 +1,6 @@
 -- The totals of a history followed by a sweep's takes are those of the history followed by the sweep.
-use Rattle.std.proofs.Common.{ℕ, ◌*◌, ◌≤◌, List, length, Option, is_some, unwrap_or, ap, ◌∙◌, ◌≡◌, [], ◌∷◌, ◌++◌, arith, length-append}
-use Rattle.gu_terms.specs.Takes.{IsAscending}
-use Rattle.gu_terms.specs.declared.entry.Entry.{Entry}
-use Rattle.gu_terms.specs.declared.entry.Entry.TheVariants.{Swept}
-use Rattle.gu_terms.specs.declared.entry.SweepEntry.{SweepEntry}
-use Rattle.gu_terms.specs.declared.offer.Offer.{Offer}
-use Rattle.gu_terms.specs.declared.report.Report.{Report}
-use Rattle.gu_terms.specs.declared.side.Side.{Side}
-use Rattle.gu_terms.specs.declared.symbol.Symbol.{Symbol}
-use Rattle.gu_ref.specs.Tables.{Tables}
-use Rattle.gu_offers.specs.Rows.{Row}
-use Rattle.gu_positions.specs.Rows.{lots_on}
-use Rattle.gu_rules.specs.Limits.{use_in}
-use Rattle.gu_rules.specs.Offers.{offers_of, standing_of}
-use Rattle.gu_rules.specs.Positions.{held_in}
-use Rattle.gu_rules.specs.Reports.{reports_of}
-use Rattle.gu_rules.specs.Sweeps.{parts}
-use Rattle.gu_rules.proofs.InOrder.{in_order, whole}
+use Rattle.gu_book.proofs.Words.{ℕ, ◌*◌, ◌≤◌, List, length, Option, is_some, unwrap_or, ap, ◌∙◌, ◌≡◌, [], ◌∷◌, ◌++◌, arith, length-append, IsAscending, Entry, Swept, SweepEntry, Offer, Report, Side, Symbol, Tables, Row, lots_on, use_in, offers_of, standing_of, held_in, reports_of, parts, in_order, whole, sweep-takes, IsBeside, IsKept, Totals}
 use Rattle.gu_rules.proofs.Parts.{ComeToSame, alike-push, ordered-same, parts-same, standing_of-same}
-use Rattle.gu_rules.proofs.Takers.{sweep-takes}
-use Rattle.gu_book.specs.Beside.{IsBeside, IsKept}
-use Rattle.gu_book.specs.declared.totals.Totals.{Totals}
 
 module _ (one two : List Entry) (same : ComeToSame one two) where
   -- the totals of one are those of the other

@@ -1,33 +1,5 @@
 -- The totals after an entry that opens no day, reports nothing, gives nothing up and sets no limit.
-use Rattle.std.proofs.Common.{ℕ, ◌*◌, ◌≤◌, List, [], ◌∷◌, ◌++◌, length, arith, length-append, ◌≡◌, Option, is_some, unwrap_or, sym, ap, ◌∙◌, refl}
-use Rattle.gu_terms.specs.declared.account.AccountId.{AccountId}
-use Rattle.gu_terms.specs.declared.command.Command.{Command}
-use Rattle.gu_terms.specs.declared.entry.Entry.{Entry}
-use Rattle.gu_terms.specs.declared.entry.Entry.TheVariants.{Asked}
-use Rattle.gu_terms.specs.declared.group.Group.{Group}
-use Rattle.gu_terms.specs.declared.limit_key.LimitKey.{LimitKey}
-use Rattle.gu_terms.specs.declared.refusal.Refusal.{Refusal}
-use Rattle.gu_terms.specs.declared.reply.Reply.TheVariants.{Denied}
-use Rattle.gu_terms.specs.declared.report.Report.{Report}
-use Rattle.gu_terms.specs.declared.side.Side.{Side}
-use Rattle.gu_terms.specs.declared.symbol.Symbol.{Symbol}
-use Rattle.gu_ref.specs.Tables.{Tables}
-use Rattle.gu_limits.specs.Changes.{SameLimits}
-use Rattle.gu_limits.specs.Limits.{used_in}
-use Rattle.gu_offers.specs.Rows.{Row}
-use Rattle.gu_positions.specs.Rows.{lots_in, lots_on}
-use Rattle.gu_rules.specs.Limits.{use_in}
-use Rattle.gu_rules.specs.Offers.{standing_of}
-use Rattle.gu_rules.specs.Positions.{held_in}
-use Rattle.gu_rules.specs.Reports.{reports_of}
-use Rattle.gu_rules.proofs.OrderlyLemmas.{orderly-idle, reports_of-kept}
-use Rattle.gu_rules.proofs.Quiet.{IsQuiet, denied-lines, denied-quiet, has_give_up-kept, limit_set-kept, open_day-kept}
-use Rattle.gu_rules.proofs.Spoken.{denied-idle}
-use Rattle.gu_rules.proofs.Stepping.{standing_of-idle}
-use Rattle.gu_book.specs.Beside.{IsBeside, IsKept, is_kept_give_up}
-use Rattle.gu_book.specs.Effects.{SameEntries}
-use Rattle.gu_book.specs.declared.totals.GiveUpKey.{GiveUpKey}
-use Rattle.gu_book.specs.declared.totals.Totals.{Totals}
+use Rattle.gu_book.proofs.Words.{ℕ, ◌*◌, ◌≤◌, List, [], ◌∷◌, ◌++◌, length, arith, length-append, ◌≡◌, Option, is_some, unwrap_or, sym, ap, ◌∙◌, refl, AccountId, Command, Entry, Asked, Group, LimitKey, Refusal, Denied, Report, Side, Symbol, Tables, SameLimits, used_in, Row, lots_in, lots_on, use_in, standing_of, held_in, reports_of, orderly-idle, reports_of-kept, IsQuiet, denied-lines, denied-quiet, has_give_up-kept, limit_set-kept, open_day-kept, denied-idle, standing_of-idle, IsBeside, IsKept, is_kept_give_up, SameEntries, GiveUpKey, Totals}
 
 -- the lots on a side stay within what this many entries can bring
 pub bound-kept : (history : List Entry) (entry : Entry) (lots : ℕ) → lots ≤ 2000000 * length history → lots ≤ 2000000 * length (history ++ entry ∷ [])

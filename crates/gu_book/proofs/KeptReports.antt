@@ -1,39 +1,7 @@
 -- The totals after a report.
-use Rattle.std.proofs.Common.{◌≡◌, ℕ, ◌+◌, ◌≤◌, ◌++◌, false, List, [], ◌∷◌, Option, Some, None, is_some, unwrap_or, refl, sym, ap, ◌∙◌, arith, length-append}
-use Rattle.std.specs.Option.{option_to_list}
-use Rattle.std.proofs.lemmas.List.Sums.{sum_by-cons}
-use Rattle.gu_terms.specs.declared.account.AccountId.{AccountId}
-use Rattle.gu_terms.specs.declared.entry.Entry.{Entry}
-use Rattle.gu_terms.specs.declared.firm.FirmId.{FirmId}
-use Rattle.gu_terms.specs.declared.group.Group.{Group}
-use Rattle.gu_terms.specs.declared.id.Id.{Id}
-use Rattle.gu_terms.specs.declared.limit_key.LimitKey.{LimitKey}
-use Rattle.gu_terms.specs.declared.report.Report.{Report}
-use Rattle.gu_terms.specs.declared.side.Side.{Side}
-use Rattle.gu_terms.specs.declared.symbol.Symbol.{Symbol}
-use Rattle.gu_ref.specs.Tables.{Tables}
-use Rattle.gu_trades.specs.Matching.{conflicts}
-use Rattle.gu_trades.specs.Reports.{with_match}
-use Rattle.gu_offers.specs.Rows.{Row}
-use Rattle.gu_positions.specs.Changes.{lots_at}
-use Rattle.gu_rules.specs.Limits.{limit_set_by, use_in}
-use Rattle.gu_rules.specs.Offers.{gave_up, lines_by, standing_of}
-use Rattle.gu_rules.specs.Orderly.{AreFound}
-use Rattle.gu_rules.specs.Positions.{held_in, moved_into, moved_out, traded}
-use Rattle.gu_rules.specs.Reports.{Fits, open_day, opened_day, report_on, reports_of}
-use Rattle.gu_rules.proofs.ChangedSums.{moved_out-le-traded}
-use Rattle.gu_rules.proofs.Growing.{reports_of-push}
-use Rattle.gu_rules.proofs.InOrder.{in_order, whole}
-use Rattle.gu_rules.proofs.OrderlyLemmas.{few-kept}
-use Rattle.gu_rules.proofs.Quiet.{has_give_up-kept, limit_set-kept, open_day-kept}
+use Rattle.gu_book.proofs.Words.{◌≡◌, ℕ, ◌+◌, ◌≤◌, ◌++◌, false, List, [], ◌∷◌, Option, Some, None, is_some, unwrap_or, refl, sym, ap, ◌∙◌, arith, length-append, option_to_list, sum_by-cons, AccountId, Entry, FirmId, Group, Id, LimitKey, Report, Side, Symbol, Tables, conflicts, with_match, Row, lots_at, limit_set_by, use_in, gave_up, lines_by, standing_of, AreFound, held_in, moved_into, moved_out, traded, Fits, open_day, opened_day, report_on, reports_of, moved_out-le-traded, reports_of-push, in_order, whole, few-kept, has_give_up-kept, limit_set-kept, open_day-kept, IsIdle, standing_of-idle, IsKept, is_kept_give_up, HoldsMore, lots_of_reports, made_a_trade, GiveUpKey, Totals}
 use Rattle.gu_rules.proofs.Reported.{held_in-reported, traded-matched, traded-opened}
-use Rattle.gu_rules.proofs.StandingLemmas.{IsIdle}
-use Rattle.gu_rules.proofs.Stepping.{standing_of-idle}
 use Rattle.gu_rules.proofs.OrderedReports.{ordered-reported}
-use Rattle.gu_book.specs.Beside.{IsKept, is_kept_give_up}
-use Rattle.gu_book.specs.Effects.{HoldsMore, lots_of_reports, made_a_trade}
-use Rattle.gu_book.specs.declared.totals.GiveUpKey.{GiveUpKey}
-use Rattle.gu_book.specs.declared.totals.Totals.{Totals}
 
 -- what is added with it: its own lots and those of the one that waited for it, or nothing
 held-more : (reports : List Report) (rows : List Row) (r : Report) (side : Side) (account : AccountId) (symbol : Symbol) → conflicts (with_match r.match_id reports) r ≡ false

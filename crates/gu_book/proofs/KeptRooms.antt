@@ -1,13 +1,5 @@
 -- The rooms of keys, from the stored limits.
-use Rattle.std.proofs.Common.{◌≡◌, ◌≤◌, List, [], ◌∷◌, map, refl, ap}
-use Rattle.std.specs.Prelude.{All}
-use Rattle.std.proofs.lemmas.List.Elements.{All-from_recursion}
-use Rattle.std.specs.List.{AllByRecursion}
-use Rattle.gu_terms.specs.declared.group.Group.{Group}
-use Rattle.gu_terms.specs.declared.limit_key.LimitKey.{LimitKey}
-use Rattle.gu_limits.specs.Limits.{GroupLimit, room_in}
-use Rattle.gu_view.specs.declared.view.Room.{Room}
-use Rattle.gu_book.specs.Shown.{rooms_in}
+use Rattle.gu_book.proofs.Words.{◌≡◌, ◌≤◌, List, [], ◌∷◌, map, refl, ap, All, All-from_recursion, AllByRecursion, Group, LimitKey, GroupLimit, room_in, Room, rooms_in}
 
 module _ (limits : List GroupLimit) (group : Group) where
   -- the room of a key

@@ -21,3 +21,4 @@ pub mod Moves
 pub mod SweptMoves
 pub mod TakenIn
 pub mod TellingLemmas
+pub mod Words

@@ -1,20 +1,7 @@
 -- Limits as they are now.
-use Rattle.std.proofs.Common.{◌≡◌, ℕ, ◌+◌, ◌-◌, ◌<◌, true, List, [], ◌∷◌, ◌++◌, Option, Some, None, is_some, length, map, take, get_or, unwrap_or, refl, sym, ap, append_assoc, ◌∙◌}
-use Rattle.std.specs.List.{cons_option, filter_map}
-use Rattle.std.specs.Option.{option_to_list}
-use Rattle.std.proofs.lemmas.List.{take_more}
-use Rattle.std.proofs.lemmas.List.Elements.{filter_map-append}
-use Rattle.gu_terms.specs.declared.entry.Entry.{Entry}
-use Rattle.gu_terms.specs.declared.group.Group.{Group}
-use Rattle.gu_terms.specs.declared.limit_key.LimitKey.{LimitKey}
+use Rattle.gu_book.proofs.Words.{◌≡◌, ℕ, ◌+◌, ◌-◌, ◌<◌, true, List, [], ◌∷◌, ◌++◌, Option, Some, None, is_some, length, map, take, get_or, unwrap_or, refl, sym, ap, append_assoc, ◌∙◌, cons_option, filter_map, option_to_list, take_more, filter_map-append, Entry, Group, LimitKey, Tables, GroupLimit, has_limit, limit_in, row_in, used_in, BookState, keys_in_order, limit_of, limit_row, limit_rows, limit_set, use_of, IsBeside, Totals}
 use Rattle.gu_terms.specs.declared.limit_row.LimitRow.{LimitRow}
 use Rattle.gu_terms.proofs.Gathered.{filter_map-last}
-use Rattle.gu_ref.specs.Tables.{Tables}
-use Rattle.gu_limits.specs.Limits.{GroupLimit, has_limit, limit_in, row_in, used_in}
-use Rattle.gu_rules.specs.BookState.{BookState}
-use Rattle.gu_rules.specs.Limits.{keys_in_order, limit_of, limit_row, limit_rows, limit_set, use_of}
-use Rattle.gu_book.specs.Beside.{IsBeside}
-use Rattle.gu_book.specs.declared.totals.Totals.{Totals}
 
 -- a stored limit is the limit as it is now
 pub row_in-is : (reference : Tables) (history : List Entry) (limits : List GroupLimit) (group : Group) (key : LimitKey)

@@ -1,51 +1,9 @@
 -- The takes of a sweep, moved one after another.
-use Rattle.std.proofs.Common.{◌≡◌, ℕ, suc, ◌+◌, ◌-◌, ◌<◌, ◌≤◌, ◌++◌, false, List, [], ◌∷◌, length, map, drop, take, get_or, slice_get, slice_index_or, Option, Some, None, IfSome, refl, sym, ap, ◌∙◌, arith, append-nil, append_assoc, subst}
-use Rattle.std.specs.Prelude.{All}
-use Rattle.std.specs.List.{AllByRecursion}
-use Rattle.std.specs.Option.{option_map, option_map_or}
-use Rattle.std.proofs.lemmas.List.{drop_more, map-append, take_more}
-use Rattle.std.proofs.lemmas.List.Elements.{All-from_recursion}
-use Rattle.std.proofs.lemmas.List.Sums.{sum_by-cons}
-use Rattle.std.proofs.lemmas.Option.{none-some}
-use Rattle.gu_terms.proofs.Lists.{along2, every}
-use Rattle.gu_terms.proofs.SameNames.{same_group-own}
-use Rattle.gu_terms.specs.declared.account.AccountId.{AccountId}
-use Rattle.gu_terms.specs.declared.entry.Entry.{Entry}
-use Rattle.gu_terms.specs.declared.entry.SweepEntry.{SweepEntry}
-use Rattle.gu_terms.specs.declared.group.Group.{Group}
-use Rattle.gu_terms.specs.declared.limit_key.LimitKey.{LimitKey}
-use Rattle.gu_terms.specs.declared.offer.Offer.{Offer}
-use Rattle.gu_terms.specs.declared.report.Report.{Report}
-use Rattle.gu_terms.specs.declared.takes.Take.{Take}
-use Rattle.gu_ref.specs.Tables.{Tables}
-use Rattle.gu_limits.specs.Changes.{Charges, MayCharge, lots_under}
-use Rattle.gu_limits.specs.Limits.{GroupLimit, is_of, number_in, room_in}
+use Rattle.gu_book.proofs.Words.{◌≡◌, ℕ, suc, ◌+◌, ◌-◌, ◌<◌, ◌≤◌, ◌++◌, false, List, [], ◌∷◌, length, map, drop, take, get_or, slice_get, slice_index_or, Option, Some, None, IfSome, refl, sym, ap, ◌∙◌, arith, append-nil, append_assoc, subst, All, AllByRecursion, option_map, option_map_or, drop_more, map-append, take_more, All-from_recursion, sum_by-cons, none-some, along2, every, same_group-own, AccountId, Entry, SweepEntry, Group, LimitKey, Offer, Report, Take, Tables, Charges, MayCharge, lots_under, GroupLimit, number_in, room_in, report_by, terms_of, Terms, changed, taken, Row, left_in, left_of, row_at, KeepsNumbers, lots_at, lots_in, offer_of, ViewOffer as ShownOffer, path_after, standing_of, part, parts, report_after, path_after-once, IsThere, open-there, row_at-other, in_order, part-takes, IsKept, IsFound, HoldsMoved, SameAnswers, UsesMore, AreReady, ClaimsLots, HasRows, IsHeld, IsReady, IsShownOpen, MayClaim, MayMove, MayTake, MovesAll, MovesOne, lots_used, taken_by, Totals, Transfer}
+use Rattle.gu_limits.specs.Limits.{is_of}
 use Rattle.gu_limits.proofs.LimitPlaces.{position-map}
-use Rattle.gu_trades.specs.Reports.{report_by}
-use Rattle.gu_trades.specs.Terms.{terms_of}
-use Rattle.gu_trades.specs.declared.terms.Terms.{Terms}
-use Rattle.gu_offers.specs.Changes.{changed, taken}
-use Rattle.gu_offers.specs.Rows.{Row, left_in, left_of, row_at}
-use Rattle.gu_positions.specs.Changes.{KeepsNumbers, lots_at}
-use Rattle.gu_positions.specs.Rows.{lots_in}
-use Rattle.gu_view.specs.View.{offer_of}
-use Rattle.gu_view.specs.declared.view.ViewOffer.{ViewOffer as ShownOffer}
-use Rattle.gu_rules.specs.Limits.{path_after}
-use Rattle.gu_rules.specs.Offers.{standing_of}
-use Rattle.gu_rules.specs.Sweeps.{part, parts}
-use Rattle.gu_rules.specs.Positions.{report_after}
-use Rattle.gu_rules.proofs.AgreementPaths.{path_after-once}
-use Rattle.gu_rules.proofs.Facts.{IsThere, open-there, row_at-other}
-use Rattle.gu_rules.proofs.InOrder.{in_order}
 use Rattle.gu_rules.proofs.OrderedReports.{all-push}
-use Rattle.gu_rules.proofs.Takers.{part-takes}
-use Rattle.gu_book.specs.Beside.{IsKept}
-use Rattle.gu_book.specs.Deeds.{IsFound}
-use Rattle.gu_book.specs.Effects.{HoldsMoved, SameAnswers, UsesMore}
-use Rattle.gu_book.specs.Moving.{AreReady, ClaimsLots, HasRows, IsHeld, IsReady, IsShownOpen, MayClaim, MayMove, MayTake, MovesAll, MovesOne, lots_used, taken_by}
 use Rattle.gu_book.specs.declared.deed.Moved.{Moved}
-use Rattle.gu_book.specs.declared.totals.Totals.{Totals}
-use Rattle.gu_book.specs.declared.totals.Transfer.{Transfer}
 use Rattle.gu_book.proofs.Accepting.{key_at, lots-taken, seen-is, taken-there}
 use Rattle.gu_book.proofs.Beginning.{still-kept}
 

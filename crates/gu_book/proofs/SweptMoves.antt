@@ -1,31 +1,7 @@
 -- There is room for what a sweep of a group's view takes, so its takes may be moved.
-use Rattle.std.proofs.Common.{◌≡◌, ◌<◌, List, sym, arith, inl, inr, ◌≤◌, Some, ap, ◌∙◌, subst, ◌-◌, Option, IfSome}
-use Rattle.std.proofs.lemmas.Bool.{cases_Bool}
-use Rattle.std.specs.List.{AllByRecursion}
-use Rattle.std.specs.Option.{option_map_or, option_map}
-use Rattle.gu_terms.proofs.Lists.{Later-from_AllPairs, along}
-use Rattle.gu_terms.proofs.SameNames.{same_group-true}
-use Rattle.gu_terms.specs.Same.{same_group}
-use Rattle.gu_terms.specs.Takes.{lots_of}
-use Rattle.gu_terms.specs.declared.entry.Entry.{Entry}
-use Rattle.gu_terms.specs.declared.entry.SweepEntry.{SweepEntry}
-use Rattle.gu_terms.specs.declared.group.Group.{Group}
-use Rattle.gu_terms.specs.declared.limit_key.LimitKey.{LimitKey}
-use Rattle.gu_terms.specs.declared.takes.Take.{Take}
-use Rattle.gu_ref.specs.Tables.{Tables}
-use Rattle.gu_limits.specs.Limits.{room_in}
-use Rattle.gu_offers.specs.Rows.{Row, left_in, left_of, row_at}
-use Rattle.gu_view.specs.View.{offer_of}
-use Rattle.gu_view.specs.declared.view.ViewOffer.{ViewOffer}
-use Rattle.gu_rules.specs.Limits.{path_after, room_of}
-use Rattle.gu_rules.specs.Offers.{standing_of}
-use Rattle.gu_rules.specs.Sweeps.{IsSweepOf}
-use Rattle.gu_rules.specs.Views.{group_view, offers_shown}
+use Rattle.gu_book.proofs.Words.{◌≡◌, ◌<◌, List, sym, arith, inl, inr, ◌≤◌, Some, ap, ◌∙◌, subst, ◌-◌, Option, IfSome, cases_Bool, AllByRecursion, option_map_or, option_map, Later-from_AllPairs, along, same_group-true, same_group, lots_of, Entry, SweepEntry, Group, LimitKey, Take, Tables, room_in, Row, left_in, left_of, row_at, offer_of, ViewOffer, path_after, room_of, standing_of, IsSweepOf, group_view, offers_shown, IsKept, IsShownOpen, MayTake, lots_used, Totals}
 use Rattle.gu_rules.proofs.SweptOffers.{TakesLeft, all-left}
 use Rattle.gu_rules.proofs.SweptRooms.{all-used, none-used, under-room}
-use Rattle.gu_book.specs.Beside.{IsKept}
-use Rattle.gu_book.specs.Moving.{IsShownOpen, MayTake, lots_used}
-use Rattle.gu_book.specs.declared.totals.Totals.{Totals}
 
 module _ (reference : Tables) (history : List Entry) (totals : Totals) (sweep : SweepEntry) (kept : IsKept reference history totals) (right : IsSweepOf (group_view reference history sweep.group) sweep) where
   abbrev rows : List Row

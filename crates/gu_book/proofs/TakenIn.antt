@@ -1,38 +1,14 @@
 -- Applying openings, limits, reports and give-ups to the totals.
-use Rattle.std.proofs.Common.{◌≡◌, ◌+◌, ◌≤◌, ◌++◌, List, [], ◌∷◌, length, map, Option, Some, None, unwrap_or, refl, sym, ap, ◌∙◌, arith, subst}
-use Rattle.std.specs.Option.{option_and_then, option_map}
-use Rattle.gu_terms.specs.declared.command.Command.{Command}
-use Rattle.gu_terms.specs.declared.command.Command.TheVariants.{OpenDay, SetLimit, ReportSide, GiveUp}
+use Rattle.gu_book.proofs.Words.{◌≡◌, ◌+◌, ◌≤◌, ◌++◌, List, [], ◌∷◌, length, map, Option, Some, None, unwrap_or, refl, sym, ap, ◌∙◌, arith, subst, option_and_then, option_map, Command, OpenDay, SetLimit, ReportSide, GiveUp, Entry, Asked, FirmId, Group, Id, Accepted, Report, Tables, Terms, made_on, report_by, with_match, next_day, with_lines, State, done_of, given_up, group_of, state_of, standing_of, Fits, open_day, report_on, fits-in, giving_up, names-are, Sets, MayTakeIn, TakesIn, IsKept, group_named_by, standing_given_up, state_in, MakesReport, HoldsMore, UsesNothing, made_a_trade, Totals}
 use Rattle.gu_terms.specs.declared.command.GiveUp.{GiveUp as GiveUpOf}
 use Rattle.gu_terms.specs.declared.command.ReportSide.{ReportSide as ReportSideOf}
 use Rattle.gu_terms.specs.declared.command.SetLimit.{SetLimit as SetLimitOf}
 use Rattle.gu_terms.specs.declared.command.OpenDay.{OpenDay as OpenDayOf}
 use Rattle.gu_terms.specs.declared.day.Day.{Day}
-use Rattle.gu_terms.specs.declared.entry.Entry.{Entry}
-use Rattle.gu_terms.specs.declared.entry.Entry.TheVariants.{Asked}
-use Rattle.gu_terms.specs.declared.firm.FirmId.{FirmId}
-use Rattle.gu_terms.specs.declared.group.Group.{Group}
-use Rattle.gu_terms.specs.declared.id.Id.{Id}
 use Rattle.gu_terms.specs.declared.reply.Done.{Done}
-use Rattle.gu_terms.specs.declared.reply.Reply.TheVariants.{Accepted}
-use Rattle.gu_terms.specs.declared.report.Report.{Report}
-use Rattle.gu_ref.specs.Tables.{Tables}
 use Rattle.gu_trades.specs.Counterparts.{standing_in}
-use Rattle.gu_trades.specs.declared.terms.Terms.{Terms}
 use Rattle.gu_trades.specs.declared.standing.Standing.{Standing}
-use Rattle.gu_trades.specs.Reports.{made_on, report_by, with_match}
-use Rattle.gu_offers.specs.Changes.{next_day, with_lines}
-use Rattle.gu_rules.specs.Answer.{State, done_of, given_up, group_of, state_of}
-use Rattle.gu_rules.specs.Offers.{standing_of}
-use Rattle.gu_rules.specs.Reports.{Fits, open_day, report_on}
-use Rattle.gu_rules.proofs.AcceptedCommands.{fits-in, giving_up, names-are}
 use Rattle.gu_rules.proofs.GivenUp.{may-be-given}
-use Rattle.gu_limits.specs.Changes.{Sets}
-use Rattle.gu_book.specs.Accepted.{MayTakeIn, TakesIn}
-use Rattle.gu_book.specs.Beside.{IsKept, group_named_by, standing_given_up, state_in}
-use Rattle.gu_book.specs.Deeds.{MakesReport}
-use Rattle.gu_book.specs.Effects.{HoldsMore, UsesNothing, made_a_trade}
-use Rattle.gu_book.specs.declared.totals.Totals.{Totals}
 use Rattle.gu_book.proofs.Accepting.{few_offers, state_is}
 use Rattle.gu_book.proofs.KeptDays.{kept-given_up, kept-opened, kept-set}
 use Rattle.gu_book.proofs.KeptReports.{kept-reported}

@@ -1,27 +1,5 @@
 -- The data that notices are made from, and the recipients of entries, as a book stores them.
-use Rattle.std.proofs.Common.{◌≡◌, ◌≤◌, ℕ, zero, suc, ◌+◌, ◌++◌, List, [], ◌∷◌, length, Some, refl, ap, ◌∙◌, subst}
-use Rattle.std.specs.Option.{option_map, option_to_list}
-use Rattle.std.specs.Prelude.{slice_get}
-use Rattle.gu_terms.specs.declared.entry.Entry.{Entry}
-use Rattle.gu_terms.specs.declared.id.Id.{Id}
-use Rattle.gu_terms.specs.declared.offer.Offer.{Offer}
-use Rattle.gu_terms.specs.declared.report.Report.{Report}
-use Rattle.gu_ref.specs.Tables.{Tables}
-use Rattle.gu_trades.specs.Reports.{with_match}
-use Rattle.gu_offers.specs.Rows.{Row, row_at}
-use Rattle.gu_rules.specs.Notices.{Register, register_of}
-use Rattle.gu_rules.specs.Offers.{lines_by, offers_of, standing_from, standing_of}
-use Rattle.gu_rules.specs.Reports.{open_day, report_on, reports_of}
-use Rattle.gu_rules.specs.Versions.{offer_at}
-use Rattle.gu_rules.proofs.Growing.{reports_of-push}
-use Rattle.gu_rules.proofs.StandingLemmas.{offers_of-push}
-use Rattle.gu_notices.specs.Recipients.{AreRecipients, Grows}
-use Rattle.gu_notices.specs.declared.firm_filter.FirmFilter.{FirmFilter}
-use Rattle.gu_notices.proofs.RecipientLemmas.{recipients-later, recipients-longer}
-use Rattle.gu_book.specs.Beside.{IsBeside, IsKeptLegal, IsKeptWhole, register_kept}
-use Rattle.gu_book.specs.Counted.{AreVersions}
-use Rattle.gu_book.specs.declared.totals.Totals.{Totals}
-use Rattle.gu_book.specs.declared.versions.Versions.{Versions}
+use Rattle.gu_book.proofs.Words.{◌≡◌, ◌≤◌, ℕ, zero, suc, ◌+◌, ◌++◌, List, [], ◌∷◌, length, Some, refl, ap, ◌∙◌, subst, option_map, option_to_list, slice_get, Entry, Id, Offer, Report, Tables, with_match, Row, row_at, Register, register_of, lines_by, offers_of, standing_from, standing_of, open_day, report_on, reports_of, offer_at, reports_of-push, offers_of-push, AreRecipients, Grows, FirmFilter, recipients-later, recipients-longer, IsBeside, IsKeptLegal, IsKeptWhole, register_kept, AreVersions, Totals, Versions}
 
 -- the offer with a number is in its row
 offer_at-is : (history : List Entry) (n : ℕ) → option_map (λ (r : Row). r.offer) (row_at (standing_of history) n) ≡ offer_at history n

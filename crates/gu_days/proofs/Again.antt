@@ -1,20 +1,10 @@
 -- What is played back says the same lines again, and what a crash leaves of a journal plays to a beginning of its day.
-use Rattle.std.proofs.Common.{◌≡◌, ℕ, zero, suc, List, [], ◌∷◌, ◌++◌, take, drop, slice_get, Option, Some, None, refl, sym, ap, ◌∙◌, subst, arith, append_assoc, length-append, take-append-drop}
-use Rattle.std.specs.Option.{option_or}
+use Rattle.gu_days.proofs.Words.{◌≡◌, ℕ, zero, suc, List, [], ◌∷◌, ◌++◌, take, drop, slice_get, Option, Some, None, refl, sym, ap, ◌∙◌, subst, arith, append_assoc, length-append, take-append-drop, option_or, Command, Day, Entry, Asked, Swept, Tables, IsLegal, MayFollow, open_day, command_said, days_apart, entry_said, open_after, said_after, ArePlayedBack, IsPlayedBack, played}
 use Rattle.std.proofs.lemmas.List.{take-append-le}
 use Rattle.std.proofs.lemmas.Option.{slice_get_within}
-use Rattle.gu_terms.specs.declared.command.Command.{Command}
 use Rattle.gu_terms.specs.declared.command.Command.TheVariants.{OpenDay, ReportSide}
-use Rattle.gu_terms.specs.declared.day.Day.{Day}
-use Rattle.gu_terms.specs.declared.entry.Entry.{Entry}
-use Rattle.gu_terms.specs.declared.entry.Entry.TheVariants.{Asked, Swept}
-use Rattle.gu_ref.specs.Tables.{Tables}
-use Rattle.gu_rules.specs.Legal.{IsLegal, MayFollow}
-use Rattle.gu_rules.specs.Reports.{open_day}
 use Rattle.gu_text.specs.WrittenCommands.{undated}
 use Rattle.gu_text.specs.declared.script_line.Line.TheVariants as line
-use Rattle.gu_script.specs.Journals.{command_said, days_apart, entry_said, open_after, said_after}
-use Rattle.gu_days.specs.PlayedBack.{ArePlayedBack, IsPlayedBack, played}
 use Rattle.gu_days.proofs.Played.{alike-entry, follows-here, legal-on, none_apart, open_day-step}
 
 -- ---- the same lines

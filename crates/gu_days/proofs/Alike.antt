@@ -1,26 +1,16 @@
 -- Entries that say the same of days, reports, offers and limits come to one book.
-use Rattle.std.proofs.Common.{◌≡◌, ℕ, zero, suc, ◌+◌, ◌-◌, Bool, cond, ◌||◌, not, List, [], ◌∷◌, ◌++◌, length, reverse, drop, sum_by, Option, Some, None, is_some, refl, sym, ap, ◌∙◌, subst, arith, if◌then◌else◌, map}
+use Rattle.gu_days.proofs.Words.{◌≡◌, ℕ, zero, suc, ◌+◌, ◌-◌, Bool, cond, ◌||◌, not, List, [], ◌∷◌, ◌++◌, length, reverse, drop, sum_by, Option, Some, None, is_some, refl, sym, ap, ◌∙◌, subst, arith, if◌then◌else◌, map, option_map, option_to_list, unwrap_or, Day, Entry, Group, Tables, state_of, entries_today, open_day, opened_day, report_on, reports_after, reports_of, touches, touching_after, version_of, group_view, offers_in, keys_of}
 use Rattle.std.specs.List.{filter_map, flat_map, last_or, list_any, prefix_len, suffix_len, cons_option}
 use mathlib.Core.List.{reverse_aux}
-use Rattle.std.specs.Option.{option_map, option_to_list, unwrap_or}
 use Rattle.std.proofs.lemmas.List.Sums.{sum_by-cons}
-use Rattle.gu_terms.specs.declared.day.Day.{Day}
-use Rattle.gu_terms.specs.declared.entry.Entry.{Entry}
 use Rattle.gu_terms.specs.declared.firm.FirmId.{FirmId}
-use Rattle.gu_terms.specs.declared.group.Group.{Group}
 use Rattle.gu_terms.specs.declared.id.Id.{Id}
 use Rattle.gu_terms.specs.declared.limit_key.LimitKey.{LimitKey}
 use Rattle.gu_terms.specs.declared.offer.Offer.{Offer}
-use Rattle.gu_ref.specs.Tables.{Tables}
 use Rattle.gu_offers.specs.Rows.{Row}
-use Rattle.gu_rules.specs.Answer.{state_of}
 use Rattle.gu_rules.specs.Limits.{limit_row, limit_set, limit_set_by, room_of, use_in, use_of}
 use Rattle.gu_rules.specs.Offers.{closes, gave_up, given_back_by, has_give_up, is_shut, lines_by, moved_of, offers_of, standing, standing_from, standing_of, taken_by}
 use Rattle.gu_rules.specs.Positions.{held_in}
-use Rattle.gu_rules.specs.Reports.{entries_today, open_day, opened_day, report_on, reports_after, reports_of}
-use Rattle.gu_rules.specs.Versions.{touches, touching_after, version_of}
-use Rattle.gu_rules.specs.Views.{group_view, offers_in}
-use Rattle.gu_view.specs.View.{keys_of}
 use Rattle.gu_days.specs.SameBooks.{AreOneBook}
 
 -- an entry says of each thing what another says

@@ -1,10 +1,6 @@
 -- A text that is played piece by piece.
-use Rattle.std.proofs.Common.{◌≡◌, ℕ, List, [], ◌++◌, sym, subst}
-use Rattle.std.specs.Str.Lines.{lines}
-use Rattle.gu_ref.specs.Tables.{Tables}
+use Rattle.gu_days.proofs.Words.{◌≡◌, ℕ, List, [], ◌++◌, sym, subst, lines, Tables, Course, beginning, IsTextOfLines}
 use Rattle.gu_text.proofs.LineFeedLaws.{leaves_all, leaves_on, leaves_with, lines-left}
-use Rattle.gu_world.specs.Runs.{Course, beginning}
-use Rattle.gu_script.specs.Replaying.{IsTextOfLines}
 use Rattle.gu_script.specs.ScriptPieces.{Place, TakesPiece}
 use Rattle.gu_script.specs.ScriptSteps.{AnswersLines}
 use Rattle.gu_script.proofs.ReplayTexts.{lines_none, lines_then}

@@ -6,3 +6,4 @@ pub mod Played
 pub mod Plays
 pub mod ViewRooms
 pub mod Whole
+pub mod Words

@@ -1,11 +1,8 @@
 -- Two sweeps that may follow are the same: they take the same lots from each offer, and have the same cut.
-use Rattle.std.proofs.Common.{◌≡◌}
-use Rattle.gu_terms.specs.declared.entry.SweepEntry.{SweepEntry}
+use Rattle.gu_days.proofs.Words.{◌≡◌, SweepEntry, GroupView, IsSameSweep}
 use Rattle.gu_view.proofs.NearestCuts.{HasRoomsOfKeys, one_cut}
-use Rattle.gu_view.specs.View.{GroupView}
 use Rattle.gu_rules.specs.Sweeps.{IsSweepOf}
 use Rattle.gu_script.proofs.OneChoice.{same_lots, same_takes}
-use Rattle.gu_days.specs.PlayedBack.{IsSameSweep}
 
 -- the sweeps of one view, whose rooms are those of its keys, are one sweep
 pub same_sweep : (view : GroupView) (sweep other : SweepEntry) → IsSweepOf view sweep → IsSweepOf view other → HasRoomsOfKeys view

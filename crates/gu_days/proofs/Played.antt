@@ -1,31 +1,17 @@
 -- Entries that are played back as others say the same.
-use Rattle.std.proofs.Common.{◌≡◌, ℕ, zero, suc, Bool, true, false, nat_lt, List, [], ◌∷◌, ◌++◌, length, slice_get, Option, Some, None, refl, sym, ap, ◌∙◌, subst, arith, append_assoc, if◌then◌else◌}
-use Rattle.std.specs.Option.{option_map_or, option_or}
+use Rattle.gu_days.proofs.Words.{◌≡◌, ℕ, zero, suc, Bool, true, false, nat_lt, List, [], ◌∷◌, ◌++◌, length, slice_get, Option, Some, None, refl, sym, ap, ◌∙◌, subst, arith, append_assoc, if◌then◌else◌, option_map_or, option_or, Command, Day, Entry, Asked, Swept, SweepEntry, Group, Tables, State, answer_in, state_of, IsLegal, MayFollow, open_day, opened_day, report_on, is_of_group, touches, days_apart, open_after, ArePlayedBack, IsPlayedBack, IsSameSweep, played}
 use Rattle.std.proofs.Math.Seq.{take-append_seam}
 use Rattle.gu_terms.specs.Days.{date_number}
 use Rattle.gu_terms.specs.Same.{same_day, same_group}
-use Rattle.gu_terms.specs.declared.command.Command.{Command}
 use Rattle.gu_terms.specs.declared.command.Command.TheVariants.{OpenDay, ReportSide, Claim, Refuse, Reverse}
 use Rattle.gu_terms.specs.declared.command.ReportSide.{ReportSide as ReportSideOf}
-use Rattle.gu_terms.specs.declared.day.Day.{Day}
-use Rattle.gu_terms.specs.declared.entry.Entry.{Entry}
-use Rattle.gu_terms.specs.declared.entry.Entry.TheVariants.{Asked, Swept}
-use Rattle.gu_terms.specs.declared.entry.SweepEntry.{SweepEntry}
-use Rattle.gu_terms.specs.declared.group.Group.{Group}
 use Rattle.gu_terms.specs.declared.refusal.Refusal.{Refusal}
 use Rattle.gu_terms.specs.declared.refusal.Refusal.TheVariants.{WrongDay}
 use Rattle.gu_terms.specs.declared.reply.Done.TheVariants.{Reported, Claimed, Refused, Reversed}
 use Rattle.gu_terms.specs.declared.reply.Reply.{Reply}
 use Rattle.gu_terms.specs.declared.reply.Reply.TheVariants.{Accepted, Denied}
-use Rattle.gu_ref.specs.Tables.{Tables}
-use Rattle.gu_rules.specs.Answer.{State, answer_in, state_of}
-use Rattle.gu_rules.specs.Legal.{IsLegal, MayFollow}
 use Rattle.gu_rules.specs.Offers.{offers_of}
-use Rattle.gu_rules.specs.Reports.{open_day, opened_day, report_on}
-use Rattle.gu_rules.specs.Versions.{is_of_group, touches}
 use Rattle.gu_rules.proofs.Growing.{last-given, last-kept}
-use Rattle.gu_script.specs.Journals.{days_apart, open_after}
-use Rattle.gu_days.specs.PlayedBack.{ArePlayedBack, IsPlayedBack, IsSameSweep, played}
 use Rattle.gu_days.proofs.Alike.{AreAlike, IsAlike}
 
 -- two days are apart unless they are the same

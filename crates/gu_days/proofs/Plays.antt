@@ -1,24 +1,10 @@
 -- What the lines of a journal play to.
-use Rattle.std.proofs.Common.{◌≡◌, ℕ, ◌<◌, Bool, true, false, nat_le, List, [], ◌∷◌, ◌++◌, length, take, Option, Some, None, is_some, IsTrue, refl, sym, ap, ◌∙◌, subst, arith, inl, inr, append-nil, append_assoc, length-append, take_all, get_or-set_same, length-set, if◌then◌else◌}
+use Rattle.gu_days.proofs.Words.{◌≡◌, ℕ, ◌<◌, Bool, true, false, nat_le, List, [], ◌∷◌, ◌++◌, length, take, Option, Some, None, is_some, IsTrue, refl, sym, ap, ◌∙◌, subst, arith, inl, inr, append-nil, append_assoc, length-append, take_all, get_or-set_same, length-set, if◌then◌else◌, Command, Day, Entry, Asked, Swept, SweepEntry, Group, Tables, GroupView, State as Standing, answer, answer_in, state_of, IsLegal, MayFollow, open_day, version_of, group_view, Course, IsRun, beginning, command_said, days_apart, entry_said, said_after, HasLineText, HasText, IsTextOfLines, SayAll, sweeper, ArePlayedBack, IsPlayedBack, played}
 use Rattle.std.proofs.lemmas.Bool.Decides.{nat_tests}
-use Rattle.gu_terms.specs.declared.command.Command.{Command}
-use Rattle.gu_terms.specs.declared.day.Day.{Day}
-use Rattle.gu_terms.specs.declared.entry.Entry.{Entry}
-use Rattle.gu_terms.specs.declared.entry.Entry.TheVariants.{Asked, Swept}
-use Rattle.gu_terms.specs.declared.entry.SweepEntry.{SweepEntry}
-use Rattle.gu_terms.specs.declared.group.Group.{Group}
 use Rattle.gu_terms.specs.declared.reply.Reply.{Reply}
 use Rattle.gu_ref.specs.Reference.{is_group}
-use Rattle.gu_ref.specs.Tables.{Tables}
-use Rattle.gu_view.specs.View.{GroupView}
 use Rattle.gu_rules.specs.BookState.{BookState}
-use Rattle.gu_rules.specs.Answer.{State as Standing, answer, answer_in, state_of}
-use Rattle.gu_rules.specs.Legal.{IsLegal, MayFollow}
-use Rattle.gu_rules.specs.Reports.{open_day}
 use Rattle.gu_rules.specs.Sweeps.{IsSweepOf, MaySweep}
-use Rattle.gu_rules.specs.Versions.{version_of}
-use Rattle.gu_rules.specs.Views.{group_view}
-use Rattle.gu_world.specs.Runs.{Course, IsRun, beginning}
 use Rattle.gu_world.specs.Steps.{LeadsTo, Look, ProposesOn, State, committed_on, first_touch_above, is_full, is_overtaken, look_of, with_entry, with_look, with_proposal}
 use Rattle.gu_world.specs.declared.outcome.Outcome.{Outcome}
 use Rattle.gu_world.specs.declared.step.Step.{Step}
@@ -28,9 +14,6 @@ use Rattle.gu_text.specs.Lines.{is_silent}
 use Rattle.gu_text.specs.Scripts.{Says}
 use Rattle.gu_text.specs.declared.script_line.Line.{Line}
 use Rattle.gu_text.specs.declared.script_line.Line.TheVariants as line
-use Rattle.gu_script.specs.Journals.{command_said, days_apart, entry_said, said_after}
-use Rattle.gu_script.specs.Replaying.{HasLineText, HasText, IsTextOfLines, SayAll, sweeper}
-use Rattle.gu_days.specs.PlayedBack.{ArePlayedBack, IsPlayedBack, played}
 use Rattle.gu_days.specs.Resumed.{IsDayAgain}
 use Rattle.gu_days.proofs.Alike.{AreAlike, alike-append, alike-group_view, alike-length, alike-state_of, one_book}
 use Rattle.gu_days.proofs.OneChoice.{same_sweep}

@@ -1,14 +1,9 @@
 -- The rooms of the view of a group are those of its keys, whatever the reference.
-use Rattle.std.proofs.Common.{◌≡◌, List, [], ◌∷◌, map, refl, ap}
-use Rattle.gu_terms.specs.declared.entry.Entry.{Entry}
-use Rattle.gu_terms.specs.declared.group.Group.{Group}
+use Rattle.gu_days.proofs.Words.{◌≡◌, List, [], ◌∷◌, map, refl, ap, Entry, Group, Tables, keys_of, group_view, offers_shown}
 use Rattle.gu_terms.specs.declared.limit_key.LimitKey.{LimitKey}
-use Rattle.gu_ref.specs.Tables.{Tables}
 use Rattle.gu_view.proofs.NearestCuts.{HasRoomsOfKeys}
-use Rattle.gu_view.specs.View.{keys_of}
 use Rattle.gu_view.specs.declared.view.Room.{Room}
 use Rattle.gu_rules.specs.Limits.{room_of}
-use Rattle.gu_rules.specs.Views.{group_view, offers_shown}
 
 -- after any history
 pub rooms_of : (reference : Tables) (history : List Entry) (group : Group) → HasRoomsOfKeys (group_view reference history group)

@@ -1,9 +1,6 @@
 -- What was played of a text that was read whole.
-use Rattle.std.proofs.Common.{◌≡◌, ℕ, List, ◌++◌, Option, None, Some, sym, ap, ◌∙◌, subst, inl, inr, append-nil}
+use Rattle.gu_days.proofs.Words.{◌≡◌, ℕ, List, ◌++◌, Option, None, Some, sym, ap, ◌∙◌, subst, inl, inr, append-nil, lines, Course, IsTextOfLines}
 use Rattle.std.specs.Io.KnownBytes.{Consumes, IsAtEnd}
-use Rattle.std.specs.Str.Lines.{lines}
-use Rattle.gu_world.specs.Runs.{Course}
-use Rattle.gu_script.specs.Replaying.{IsTextOfLines}
 use Rattle.gu_script.specs.ScriptRuns.{EndsAtBadLine, EndsThere, HasBadLine, IsPlayed}
 
 -- what was read of a text up to its end is the text

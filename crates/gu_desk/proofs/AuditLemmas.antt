@@ -1,21 +1,11 @@
 -- Receipts, one after another, and their numbers.
-use Rattle.std.proofs.Common.{◌≡◌, ◌≢◌, ℕ, suc, zero, ◌+◌, ◌-◌, ◌<◌, ◌≤◌, ◌==◌, ◌||◌, Bool, true, false, List, [], ◌∷◌, ◌++◌, length, take, Some, None, refl, sym, ap, subst, ◌∙◌, arith, append_assoc, append-nil, drop, set, length-append, length-set, ◌⊎◌, inl, inr}
-use Rattle.std.specs.Prelude.{slice_get}
-use Rattle.std.specs.List.{flat_map, list_any}
+use Rattle.gu_desk.proofs.Words.{◌≡◌, ◌≢◌, ℕ, suc, zero, ◌+◌, ◌-◌, ◌<◌, ◌≤◌, ◌==◌, ◌||◌, Bool, true, false, List, [], ◌∷◌, ◌++◌, length, take, Some, None, refl, sym, ap, subst, ◌∙◌, arith, append_assoc, append-nil, drop, set, length-append, length-set, ◌⊎◌, inl, inr, slice_get, flat_map, list_any, take-append_seam, take-append-le, take_all, slice_get_within, entry_at, Entry, Receipt, has_receipt, IsNumber, IsReceiptOf, AreReceiptsOf, AreSound, IsFaultOf, IsFirstFault, AreMarks}
 use Rattle.std.proofs.lemmas.Bool.{cases_Bool}
-use Rattle.std.proofs.Math.Seq.{take-append_seam}
 use Rattle.std.proofs.lemmas.Grind.{flat_map-append}
-use Rattle.std.proofs.lemmas.List.{take-append-le, take_all}
 use Rattle.std.proofs.lemmas.List.Folds.{list_any-append}
 use Rattle.std.proofs.lemmas.Bool.Decides.{nat_tests}
-use Rattle.std.proofs.lemmas.Option.{slice_get_within}
-use Rattle.gu_terms.specs.Histories.{entry_at}
-use Rattle.gu_terms.specs.declared.entry.Entry.{Entry}
-use Rattle.gu_terms.specs.declared.receipt.Receipt.{Receipt}
 use Rattle.gu_desk.specs.declared.error.AuditFault.{AuditFault}
 use Rattle.gu_desk.specs.declared.error.AuditFault.TheVariants.{Memory, Missing, Differs, Twice, Unclaimed}
-use Rattle.gu_desk.specs.Audits.{has_receipt, IsNumber, IsReceiptOf, AreReceiptsOf, AreSound, IsFaultOf, IsFirstFault}
-use Rattle.gu_desk.specs.Marks.{AreMarks}
 
 -- if an entry is at a number, there is an entry with that number
 pub entry_number : (history : List Entry) (number : ℕ) (entry : Entry) → entry_at history number ≡ Some entry → IsNumber history number

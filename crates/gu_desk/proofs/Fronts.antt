@@ -1,22 +1,10 @@
 -- Prefixes of a history.
-use Rattle.std.proofs.Common.{◌≡◌, ℕ, suc, ◌+◌, ◌-◌, ◌<◌, ◌≤◌, List, [], ◌∷◌, ◌++◌, Some, get_or, length, take, drop, sym, ap, ◌∙◌, arith, append_assoc, length-append, take-append-drop}
-use Rattle.std.specs.Prelude.{slice_get}
-use Rattle.std.proofs.Math.Seq.{take-append_seam}
-use Rattle.std.proofs.lemmas.List.{get_or-drop, length-drop}
-use Rattle.std.proofs.lemmas.Option.{get_or_from_slice_get, slice_get-get_or, slice_get_within}
+use Rattle.gu_desk.proofs.Words.{◌≡◌, ℕ, suc, ◌+◌, ◌-◌, ◌<◌, ◌≤◌, List, [], ◌∷◌, ◌++◌, Some, get_or, length, take, drop, sym, ap, ◌∙◌, arith, append_assoc, length-append, take-append-drop, slice_get, take-append_seam, get_or-drop, length-drop, get_or_from_slice_get, slice_get-get_or, slice_get_within, swept_by, Entry, Receipt, GroupView, BookState, group_view, Enters, Sees, SeatState}
 use mathlib.Core.List.{IsPrefix}
-use Rattle.gu_terms.specs.Histories.{swept_by}
-use Rattle.gu_terms.specs.declared.entry.Entry.{Entry}
-use Rattle.gu_terms.specs.declared.receipt.Receipt.{Receipt}
 use Rattle.gu_ref.specs.Tables.{Tables}
-use Rattle.gu_view.specs.View.{GroupView}
-use Rattle.gu_rules.specs.BookState.{BookState}
 use Rattle.gu_rules.specs.Legal.{IsLegal}
 use Rattle.gu_rules.specs.Versions.{version_of}
-use Rattle.gu_rules.specs.Views.{group_view}
 use Rattle.gu_rules.proofs.EqualViews.{equal_views}
-use Rattle.gu_desk.specs.Holds.{Enters, Sees}
-use Rattle.gu_desk.specs.Seats.{SeatState}
 use Rattle.gu_desk.proofs.AuditLemmas.{take_at}
 
 -- the first entries are a prefix

@@ -3,3 +3,4 @@ pub mod AuditLemmas
 pub mod Fronts
 pub mod ReceiptLists
 pub mod RefusalLemmas
+pub mod Words

@@ -1,8 +1,5 @@
 -- Receipts made from their numbers and their entries.
-use Rattle.std.proofs.Common.{◌≡◌, ℕ, suc, zero, List, [], ◌∷◌, ◌++◌, length, get_or, Some, refl, ap, arith}
-use Rattle.std.specs.Prelude.{slice_get}
-use Rattle.gu_terms.specs.declared.entry.Entry.{Entry}
-use Rattle.gu_terms.specs.declared.receipt.Receipt.{Receipt}
+use Rattle.gu_desk.proofs.Words.{◌≡◌, ℕ, suc, zero, List, [], ◌∷◌, ◌++◌, length, get_or, Some, refl, ap, arith, slice_get, Entry, Receipt}
 use Rattle.gu_desk.specs.PackedReceipts.{receipts_of}
 
 -- as many as there are numbers

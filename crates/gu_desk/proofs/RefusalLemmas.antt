@@ -1,26 +1,17 @@
 -- Refusals, as a seat then sees the book.
-use Rattle.std.proofs.Common.{◌≡◌, ◌⊎◌, ◌∙◌, ℕ, ◌+◌, ◌<◌, ◌≤◌, List, [], false, length, inl, inr, refl, sym, ap, subst, arith, append-nil}
+use Rattle.gu_desk.proofs.Words.{◌≡◌, ◌⊎◌, ◌∙◌, ℕ, ◌+◌, ◌<◌, ◌≤◌, List, [], false, length, inl, inr, refl, sym, ap, subst, arith, append-nil, Entry, Receipt, GroupView, group_view, Refuses, SweepError, Enters, Looks, Sees, SeatState, IsSweepRefused}
 use mathlib.Core.List.{IsPrefix}
-use Rattle.gu_terms.specs.declared.entry.Entry.{Entry}
 use Rattle.gu_terms.specs.declared.group.Group.{Group}
-use Rattle.gu_terms.specs.declared.receipt.Receipt.{Receipt}
 use Rattle.gu_ref.specs.Reference.{is_group}
 use Rattle.gu_ref.specs.Tables.{Tables}
-use Rattle.gu_view.specs.View.{GroupView}
 use Rattle.gu_rules.specs.Versions.{version_of}
-use Rattle.gu_rules.specs.Views.{group_view}
-use Rattle.gu_book.specs.Commits.{Refuses}
 use Rattle.gu_book.specs.Refusals.{commit_error_of}
 use Rattle.gu_book.specs.declared.error.AskError.{AskError}
 use Rattle.gu_book.specs.declared.error.AskError.TheVariants as first
 use Rattle.gu_book.specs.declared.error.SeenError.{SeenError}
 use Rattle.gu_book.specs.declared.error.SeenError.TheVariants as second
-use Rattle.gu_desk.specs.declared.error.SweepError.{SweepError}
 use Rattle.gu_desk.specs.declared.error.SweepError.TheVariants as sweep
-use Rattle.gu_desk.specs.Holds.{Enters, Looks, Sees}
 use Rattle.gu_desk.specs.Refusals.{refusal_of_first_hold, refusal_of_second_hold}
-use Rattle.gu_desk.specs.Seats.{SeatState}
-use Rattle.gu_desk.specs.Sweeps.{IsSweepRefused}
 use Rattle.gu_desk.proofs.Fronts.{begins_through, enters_after}
 
 -- a refused commit, after which the seat sees the whole history

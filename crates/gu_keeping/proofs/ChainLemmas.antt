@@ -1,18 +1,9 @@
 -- What a chain says about its entries: their number, the day that is open after them, and a digest of 32 bytes.
-use Rattle.std.proofs.Common.{◌≡◌, ◌+◌, ◌*◌, ◌++◌, ◌∷◌, [], ◌∙◌, ℕ, zero, suc, List, Option, None, Some, length, refl, sym, ap, append-nil, length-append, arith}
+use Rattle.gu_keeping.proofs.Words.{◌≡◌, ◌+◌, ◌*◌, ◌++◌, ◌∷◌, [], ◌∙◌, ℕ, zero, suc, List, Option, None, Some, length, refl, sym, ap, append-nil, length-append, arith, flat_map, slice_index, flat_map-append, digest_bytes, final_hash, initial_hash_256, sha256, Day, Entry, open_after, IsChainOf, IsCutTo, chain_after, chain_after_all, empty_chain, open_from, shown_after, Chain}
 use Rattle.std.proofs.Math.Logic.{∥∥₁_elim, ∥∥₁_map}
 use Rattle.std.specs.Coded.{Coded-set, coded_list, coded_ℕ}
 use Rattle.std.specs.Int.{to_be_bytes, w32}
-use Rattle.std.specs.List.{flat_map}
-use Rattle.std.specs.Prelude.{slice_index}
-use Rattle.std.proofs.lemmas.Grind.{flat_map-append}
-use Rattle.sha2.specs.Sha256.{digest_bytes, final_hash, initial_hash_256, sha256}
-use Rattle.gu_terms.specs.declared.day.Day.{Day}
-use Rattle.gu_terms.specs.declared.entry.Entry.{Entry}
 use Rattle.gu_terms.proofs.SameValues.{same_date}
-use Rattle.gu_script.specs.Journals.{open_after}
-use Rattle.gu_keeping.specs.Chains.{IsChainOf, IsCutTo, chain_after, chain_after_all, empty_chain, open_from, shown_after}
-use Rattle.gu_keeping.specs.declared.chain.Chain.{Chain}
 
 -- chains with equal parts are equal
 pub same_chain : (a b : Chain) → a.count ≡ b.count → a.today ≡ b.today → a.digest ≡ b.digest → a ≡ b

@@ -1,15 +1,7 @@
 -- Lines made from rows, and a prefix of them that ends with a line.
-use Rattle.std.proofs.Common.{◌≡◌, ◌≢◌, ◌++◌, ◌∷◌, [], ◌∙◌, ◌||◌, ◌==◌, ℕ, suc, Bool, true, false, List, ◌⊎◌, inl, inr, map, take, get_or, refl, sym, ap, subst, append_assoc, arith, if◌then◌else◌}
-use Rattle.std.specs.Prelude.{not}
-use Rattle.std.specs.List.{AllByRecursion, flat_map}
-use Rattle.std.specs.Str.Lines.{lines, strip_carriage_return}
+use Rattle.gu_keeping.proofs.Words.{◌≡◌, ◌≢◌, ◌++◌, ◌∷◌, [], ◌∙◌, ◌||◌, ◌==◌, ℕ, suc, Bool, true, false, List, ◌⊎◌, inl, inr, map, take, get_or, refl, sym, ap, subst, append_assoc, arith, if◌then◌else◌, not, AllByRecursion, flat_map, lines, strip_carriage_return, IsWholeLines, ends_line, whole_lines, HasNoLineFeed, IsParted, LeavesOpen, AreWords, IsWord, is_word_byte, joined, line_of, word, leaves_after, leaves_all, leaves_on, lines-parted}
 use Rattle.std.proofs.lemmas.Bool.{ne_eqb}
 use Rattle.std.proofs.lemmas.List.Elements.{All-append, All-cons, All-head, All-nil, All-tail, recursion_from_All}
-use Rattle.gu_journal.specs.Text.{IsWholeLines, ends_line, whole_lines}
-use Rattle.gu_text.specs.LineFeeds.{HasNoLineFeed, IsParted, LeavesOpen}
-use Rattle.gu_text.specs.ReadBack.{AreWords, IsWord, is_word_byte, joined}
-use Rattle.gu_text.specs.Texts.{line_of, word}
-use Rattle.gu_text.proofs.LineFeedLaws.{leaves_after, leaves_all, leaves_on, lines-parted}
 use Rattle.gu_text.proofs.ReadBackLemmas.{line_of-joined, lines_of_rows}
 
 -- ---- a row has an LF only at its end

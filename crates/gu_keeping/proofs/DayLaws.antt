@@ -1,21 +1,7 @@
 -- A batch says its entries, and what a crash leaves of it says the first of them.
-use Rattle.std.proofs.Common.{◌≡◌, ◌++◌, ◌∷◌, [], ◌∙◌, ℕ, zero, suc, List, Option, None, length, map, take, refl, sym, ap, subst, append-nil, arith}
-use Rattle.std.specs.List.{flat_map}
-use Rattle.std.specs.Str.Lines.{lines}
-use Rattle.gu_terms.specs.declared.day.Day.{Day}
-use Rattle.gu_terms.specs.declared.entry.Entry.{Entry}
-use Rattle.gu_text.specs.LineFeeds.{LeavesOpen}
-use Rattle.gu_text.specs.ReadBack.{joined}
-use Rattle.gu_text.specs.Texts.{line_of}
-use Rattle.gu_text.specs.declared.script_line.Line.{Line}
-use Rattle.gu_text.proofs.LineFeedLaws.{leaves_on, leaves_with, lines-left}
-use Rattle.gu_desk.specs.declared.origin.Origin.{Origin}
-use Rattle.gu_script.specs.Journals.{entry_said, open_after, said_after}
+use Rattle.gu_keeping.proofs.Words.{◌≡◌, ◌++◌, ◌∷◌, [], ◌∙◌, ℕ, zero, suc, List, Option, None, length, map, take, refl, sym, ap, subst, append-nil, arith, flat_map, lines, Day, Entry, LeavesOpen, joined, line_of, Line, leaves_on, leaves_with, lines-left, Origin, entry_said, open_after, said_after, IsBatchText, digest_row, IsChainOf, chain_after, open_from, Chain}
 use Rattle.gu_script.specs.Replaying.{SayAll}
-use Rattle.gu_keeping.specs.Batches.{IsBatchText, digest_row}
-use Rattle.gu_keeping.specs.Chains.{IsChainOf, chain_after, open_from}
 use Rattle.gu_keeping.specs.Days.{ABatchSaysItsEntries, ACrashLeavesFirstEntries, AreWritable, SaysDay}
-use Rattle.gu_keeping.specs.declared.chain.Chain.{Chain}
 use Rattle.gu_keeping.proofs.ChainLemmas.{chain_count, chain_long, count_of, long_of, today_of}
 use Rattle.gu_keeping.proofs.Cuts.{first_rows, rows_leave}
 use Rattle.gu_keeping.proofs.RowWords.{batch_rows_tell}

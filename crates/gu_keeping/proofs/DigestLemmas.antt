@@ -1,18 +1,6 @@
 -- A line is the digest of at most one batch of a history.
-use Rattle.std.proofs.Common.{◌≡◌, ◌≢◌, ◌≤◌, ◌<◌, ◌^◌, ◌+◌, ◌-◌, ◌++◌, ◌∷◌, [], ◌∙◌, inl, inr, ℕ, Bool, true, false, List, Some, IsTrue, length, take, drop, refl, sym, ap, subst, append_assoc, length-append, take-append-drop, arith}
-use Rattle.std.specs.Prelude.{not, slice_get}
-use Rattle.std.specs.Fmt.{decimal}
-use Rattle.std.specs.Str.Lines.{strip_carriage_return}
-use Rattle.std.proofs.lemmas.Fmt.{decimal_nonempty}
-use Rattle.std.proofs.lemmas.List.{drop-append-le, drop_all, take-take, take_all, take_at}
+use Rattle.gu_keeping.proofs.Words.{◌≡◌, ◌≢◌, ◌≤◌, ◌<◌, ◌^◌, ◌+◌, ◌-◌, ◌++◌, ◌∷◌, [], ◌∙◌, inl, inr, ℕ, Bool, true, false, List, Some, IsTrue, length, take, drop, refl, sym, ap, subst, append_assoc, length-append, take-append-drop, arith, not, slice_get, decimal, strip_carriage_return, decimal_nonempty, drop-append-le, drop_all, take-take, take_all, take_at, Entry, HasNoLineFeed, IsParted, ended_lines, ended_lines-alone, ended_lines-parted, IsChainOf, AgreeTo, chain_to, digest_line, entries_between, is_digest_line, AddsToLink, IsLinkOf, Chain}
 use Rattle.hex.specs.Hex.{encode_lower}
-use Rattle.gu_terms.specs.declared.entry.Entry.{Entry}
-use Rattle.gu_text.specs.LineFeeds.{HasNoLineFeed, IsParted, ended_lines}
-use Rattle.gu_text.proofs.LineFeedLaws.{ended_lines-alone, ended_lines-parted}
-use Rattle.gu_keeping.specs.Chains.{IsChainOf}
-use Rattle.gu_keeping.specs.Digests.{AgreeTo, chain_to, digest_line, entries_between, is_digest_line}
-use Rattle.gu_keeping.specs.Making.{AddsToLink, IsLinkOf}
-use Rattle.gu_keeping.specs.declared.chain.Chain.{Chain}
 use Rattle.gu_keeping.specs.declared.chain.Link.{Link}
 use Rattle.gu_keeping.proofs.ChainLemmas.{chain_count, chain_long, chain_more}
 use Rattle.gu_keeping.proofs.Made.{length-take_within, link_more, next_taken}

@@ -1,10 +1,5 @@
 -- The entries that a keeper took from the desk.
-use Rattle.std.proofs.Common.{◌≡◌, ◌≤◌, ◌+◌, ◌++◌, ◌∙◌, ℕ, List, length, take, drop, sym, ap, subst, append_assoc, length-append, take-append-drop, arith}
-use Rattle.std.proofs.lemmas.List.{take-append-le, take_all, take_at}
-use Rattle.gu_terms.specs.declared.entry.Entry.{Entry}
-use Rattle.gu_keeping.specs.Chains.{IsChainOf, chain_after}
-use Rattle.gu_keeping.specs.Keeping.{kept_entries}
-use Rattle.gu_keeping.specs.declared.chain.Chain.{Chain}
+use Rattle.gu_keeping.proofs.Words.{◌≡◌, ◌≤◌, ◌+◌, ◌++◌, ◌∙◌, ℕ, List, length, take, drop, sym, ap, subst, append_assoc, length-append, take-append-drop, arith, take-append-le, take_all, take_at, Entry, IsChainOf, chain_after, kept_entries, Chain}
 use Rattle.gu_keeping.proofs.ChainLemmas.{chain_count, chain_more, count_of}
 
 -- all are kept

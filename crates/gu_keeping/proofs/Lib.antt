@@ -8,3 +8,4 @@ mod Keepers
 mod Made
 mod Opened
 mod Results
+pub mod Words

@@ -1,24 +1,8 @@
 -- Batches while they are made.
-use Rattle.std.proofs.Common.{◌≡◌, ◌≢◌, ◌≤◌, ◌<◌, ◌+◌, ◌-◌, ◌++◌, ◌∷◌, [], ◌∙◌, ℕ, zero, suc, List, Option, None, Some, length, map, take, get_or, refl, sym, ap, subst, append_assoc, append-nil, length-append, arith}
-use Rattle.std.specs.List.{flat_map}
-use Rattle.std.proofs.lemmas.Grind.{flat_map-append}
-use Rattle.std.specs.Prelude.{slice_get}
-use Rattle.std.proofs.lemmas.List.{take_at, take_more}
+use Rattle.gu_keeping.proofs.Words.{◌≡◌, ◌≢◌, ◌≤◌, ◌<◌, ◌+◌, ◌-◌, ◌++◌, ◌∷◌, [], ◌∙◌, ℕ, zero, suc, List, Option, None, Some, length, map, take, get_or, refl, sym, ap, subst, append_assoc, append-nil, length-append, arith, flat_map, flat_map-append, slice_get, take_at, take_more, sha256, joined, Day, Entry, line_of, Origin, open_after, AreEntryRows, AreRows, IsBatchText, digest_row, IsChainOf, IsCutTo, chain_after, chain_after_all, empty_chain, open_from, shown_after, shown_text, AreBatches, IsNextBatch, IsOpening, unknown_origins, AddsEntry, AddsToLink, IsBatchOf, IsLinkOf, Chain}
 use Rattle.std.proofs.lemmas.Option.{slice_get-get_or, slice_get_within}
-use Rattle.sha2.specs.Sha256.{sha256}
-use Rattle.gu_text.specs.ReadBack.{joined}
 use Rattle.gu_text.proofs.ReadBackLemmas.{line_of-joined}
-use Rattle.gu_terms.specs.declared.day.Day.{Day}
-use Rattle.gu_terms.specs.declared.entry.Entry.{Entry}
-use Rattle.gu_text.specs.Texts.{line_of}
-use Rattle.gu_desk.specs.declared.origin.Origin.{Origin}
-use Rattle.gu_script.specs.Journals.{open_after}
-use Rattle.gu_keeping.specs.Batches.{AreEntryRows, AreRows, IsBatchText, digest_row}
-use Rattle.gu_keeping.specs.Chains.{IsChainOf, IsCutTo, chain_after, chain_after_all, empty_chain, open_from, shown_after, shown_text}
-use Rattle.gu_keeping.specs.Keeping.{AreBatches, IsNextBatch, IsOpening, unknown_origins}
-use Rattle.gu_keeping.specs.Making.{AddsEntry, AddsToLink, IsBatchOf, IsLinkOf}
 use Rattle.gu_keeping.specs.declared.batch.Batch.{Batch}
-use Rattle.gu_keeping.specs.declared.chain.Chain.{Chain}
 use Rattle.gu_keeping.specs.declared.chain.Link.{Link}
 use Rattle.gu_keeping.proofs.ChainLemmas.{all_more, chain_count, same_chain}
 

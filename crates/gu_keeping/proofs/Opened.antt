@@ -1,9 +1,7 @@
 -- Texts written to a sink, one after another.
-use Rattle.std.proofs.Common.{◌≡◌, ◌++◌, ◌∷◌, [], ◌∙◌, ◌||◌, ◌==◌, inl, inr, ⊎_elim, ℕ, Bool, true, false, List, Option, Some, refl, sym, ap, subst, append_assoc, arith, if◌then◌else◌}
+use Rattle.gu_keeping.proofs.Words.{◌≡◌, ◌++◌, ◌∷◌, [], ◌∙◌, ◌||◌, ◌==◌, inl, inr, ⊎_elim, ℕ, Bool, true, false, List, Option, Some, refl, sym, ap, subst, append_assoc, arith, if◌then◌else◌, IsWholeLines, ends_line, whole_lines, Writes}
 use Rattle.gu_journal.specs.Crashes.{LeavesOnly}
 use Rattle.gu_journal.specs.Sink.{HasBegun}
-use Rattle.gu_journal.specs.Text.{IsWholeLines, ends_line, whole_lines}
-use Rattle.gu_keeping.specs.Keeping.{Writes}
 use Rattle.gu_keeping.proofs.Cuts.{rest_whole}
 
 -- ---- whole lines

@@ -1,9 +1,7 @@
 -- What holds if a call succeeded, or if a sink stopped.
-use Rattle.std.proofs.Common.{Result, Ok, Err, OnOk, Option, Some, None, ◌≡◌, refl}
-use Rattle.std.specs.Prelude.{MatchOption}
+use Rattle.gu_keeping.proofs.Words.{Result, Ok, Err, OnOk, Option, Some, None, ◌≡◌, refl, MatchOption, IfStopped}
 use Rattle.gu_journal.specs.declared.sink.SinkError.{SinkError}
 use Rattle.gu_journal.specs.declared.stopped.Stopped.{Stopped}
-use Rattle.gu_keeping.specs.Keeping.{IfStopped}
 use Rattle.gu_keeping.specs.declared.error.Unkept.{Unkept}
 use Rattle.gu_keeping.specs.declared.error.Unkept.TheVariants.{Memory, Missing, TooLong, Failed}
 

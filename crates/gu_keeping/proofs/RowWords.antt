@@ -1,11 +1,6 @@
 -- The rows of a batch are lines: comments are silent, and each entry's rows say it.
-use Rattle.std.proofs.Common.{◌≡◌, ◌≤◌, ◌<◌, ◌+◌, ◌*◌, ◌/◌, ◌%◌, ◌^◌, ◌++◌, ◌∷◌, [], ◌∙◌, ◌&&◌, ℕ, zero, suc, true, nat_le, List, Option, None, Some, IsTrue, inl, inr, length, slice_index, refl, sym, ap, subst, append-nil, length-append, arith}
-use Rattle.std.specs.Prelude.{codes}
-use Rattle.std.specs.Fmt.{decimal}
-use Rattle.std.specs.List.{AllByRecursion}
-use Rattle.std.specs.Str.Parse.{AllDigits, digits_value}
+use Rattle.gu_keeping.proofs.Words.{◌≡◌, ◌≤◌, ◌<◌, ◌+◌, ◌*◌, ◌/◌, ◌%◌, ◌^◌, ◌++◌, ◌∷◌, [], ◌∙◌, ◌&&◌, ℕ, zero, suc, true, nat_le, List, Option, None, Some, IsTrue, inl, inr, length, slice_index, refl, sym, ap, subst, append-nil, length-append, arith, codes, decimal, AllByRecursion, AllDigits, digits_value, decimal_nonempty, digits_decimal, digits_value-decimal, length-decimal-le, Day, Entry, IsWord, is_word_byte, joined, word, Line, Origin, IsWritableEntry, command_said, days_apart, entry_rows, entry_said, open_after, rows_apart, said_after, AreEntryRows, AreOriginRows, AreRows, IsOriginRow, digest_row, message_words, Chain}
 use Rattle.std.proofs.lemmas.Bool.{and_parts, le-leb, ne_eqb}
-use Rattle.std.proofs.lemmas.Fmt.{decimal_nonempty, digits_decimal, digits_value-decimal, length-decimal-le}
 use Rattle.std.proofs.lemmas.List.Elements.{All-from_recursion}
 use Rattle.std.proofs.lemmas.Str.Parse.{IsNumeralModel, digit_from_value}
 use Rattle.hex.specs.Hex.{encode_lower, encode_with, lower_digits}
@@ -13,24 +8,15 @@ use Rattle.gu_terms.specs.Names.{is_name}
 use Rattle.gu_terms.specs.WrittenNumbers.{date_text, two_digits}
 use Rattle.gu_terms.specs.declared.command.Command.{Command}
 use Rattle.gu_terms.specs.declared.command.Command.TheVariants.{OpenDay}
-use Rattle.gu_terms.specs.declared.day.Day.{Day}
-use Rattle.gu_terms.specs.declared.entry.Entry.{Entry}
 use Rattle.gu_terms.specs.declared.entry.Entry.TheVariants.{Asked, Swept}
 use Rattle.gu_terms.specs.declared.group.Group.{Group}
 use Rattle.gu_fix.specs.WholeMessage.{three_digits}
 use Rattle.gu_msgs.specs.MomentTexts.{WritesMoment, time_text}
 use Rattle.gu_text.specs.Lines.{is_silent, longest_line}
-use Rattle.gu_text.specs.ReadBack.{IsWord, is_word_byte, joined}
-use Rattle.gu_text.specs.Texts.{word}
 use Rattle.gu_text.specs.WrittenCommands.{IsSilentLineOf, IsWritableCommand, sweep_remarks}
-use Rattle.gu_text.specs.declared.script_line.Line.{Line}
 use Rattle.gu_text.proofs.WrittenCommandLemmas.{command_says, remark_is_silent, sweep_says, swept_is_silent}
 use Rattle.gu_desk.specs.declared.origin.FirmMessage.{FirmMessage}
-use Rattle.gu_desk.specs.declared.origin.Origin.{Origin}
-use Rattle.gu_script.specs.Journals.{IsWritableEntry, command_said, days_apart, entry_rows, entry_said, open_after, rows_apart, said_after}
-use Rattle.gu_keeping.specs.Batches.{AreEntryRows, AreOriginRows, AreRows, IsOriginRow, digest_row, message_words}
 use Rattle.gu_keeping.specs.Days.{IsWritableMessage, IsWritableOrigin}
-use Rattle.gu_keeping.specs.declared.chain.Chain.{Chain}
 use Rattle.gu_keeping.proofs.Tells.{Tell, silent_first, tell-append}
 
 -- ---- words

@@ -1,10 +1,7 @@
 -- Rows of words that say script lines, one after another.
-use Rattle.std.proofs.Common.{◌≤◌, ◌++◌, ◌∷◌, [], ℕ, zero, suc, List, ◌⊎◌, inl, inr, IsTrue, length, map, take, arith}
-use Rattle.std.specs.List.{AllByRecursion}
+use Rattle.gu_keeping.proofs.Words.{◌≤◌, ◌++◌, ◌∷◌, [], ℕ, zero, suc, List, ◌⊎◌, inl, inr, IsTrue, length, map, take, arith, AllByRecursion, AreWords, joined, Line}
 use Rattle.gu_text.specs.Lines.{is_silent}
-use Rattle.gu_text.specs.ReadBack.{AreWords, joined}
 use Rattle.gu_text.specs.WrittenCommands.{IsScriptLineOf, IsSilentLineOf}
-use Rattle.gu_text.specs.declared.script_line.Line.{Line}
 use Rattle.gu_script.specs.Replaying.{SayAll}
 
 -- each row is a silent line, or says the next of these

@@ -1,14 +1,11 @@
 -- Sets of firms that fit in one number.
-use Rattle.std.proofs.Common.{◌≡◌, ◌<◌, ◌-◌, ◌+◌, ◌*◌, ◌^◌, ℕ, true, not, List, [], ◌∷◌, ap, ◌∙◌, ◌==◌, ◌%◌, max, refl, inl, inr, arith}
+use Rattle.gu_notices.proofs.Words.{◌≡◌, ◌<◌, ◌-◌, ◌+◌, ◌*◌, ◌^◌, ℕ, true, not, List, [], ◌∷◌, ap, ◌∙◌, ◌==◌, ◌%◌, max, refl, inl, inr, arith, fold, cases_Bool, may_hold, next_place, place_of}
 use Rattle.std.specs.Int.{bit_at, w64}
 use Rattle.std.specs.Int.RustNames.{bit_or}
-use Rattle.std.specs.List.{fold}
-use Rattle.std.proofs.lemmas.Bool.{cases_Bool}
 use Rattle.std.proofs.lemmas.Bool.Decides.{Decides-eqb}
 use Rattle.std.proofs.lemmas.Nat.Bits.{bit_at_ones, bit_at_or, bit_at_set_same}
 use Rattle.std.proofs.lemmas.Nat.{mod_below}
 use Rattle.gu_terms.specs.declared.firm.FirmId.{FirmId}
-use Rattle.gu_notices.specs.Filters.{may_hold, next_place, place_of}
 
 -- a firm has one of 64 places
 pub place_few : (firm : FirmId) → place_of firm < 64

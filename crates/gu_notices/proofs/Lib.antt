@@ -1,3 +1,4 @@
 pub mod FilterLemmas
 pub mod NoticeLemmas
 pub mod RecipientLemmas
+pub mod Words

@@ -1,22 +1,15 @@
 -- Notices collected one after another.
-use Rattle.std.proofs.Common.{◌≡◌, ℕ, zero, suc, ◌+◌, ◌-◌, ◌<◌, ◌≤◌, ◌++◌, List, [], ◌∷◌, length, take, drop, get_or, None, Some, Result, Ok, Err, refl, sym, ap, ◌∙◌, arith, append-nil, append_assoc, subst, nat_lt, inl, inr}
-use Rattle.std.specs.List.{flat_map, range_with_len}
-use Rattle.std.specs.Prelude.{slice_get}
-use Rattle.std.proofs.lemmas.Bool.{cases_Bool, ltb-false, ltb-true}
+use Rattle.gu_notices.proofs.Words.{◌≡◌, ℕ, zero, suc, ◌+◌, ◌-◌, ◌<◌, ◌≤◌, ◌++◌, List, [], ◌∷◌, length, take, drop, get_or, None, Some, Result, Ok, Err, refl, sym, ap, ◌∙◌, arith, append-nil, append_assoc, subst, nat_lt, inl, inr, flat_map, range_with_len, slice_get, cases_Bool, ltb-false, ltb-true, Entry, Register, Told, told_by, told_from, told_of_line, told_on, told_to, register_in, IsTold}
 use Rattle.std.proofs.lemmas.List.{get_or-drop, length-drop, length-take, take_more}
 use Rattle.std.proofs.lemmas.List.Concat.{flat_map-append}
 use Rattle.std.proofs.lemmas.Option.{get_or_from_slice_get, slice_get_past, slice_get_within}
 use Rattle.gu_terms.specs.Numbers.{IsOfferNo}
 use Rattle.gu_terms.specs.Same.{same_side}
-use Rattle.gu_terms.specs.declared.entry.Entry.{Entry}
 use Rattle.gu_terms.specs.declared.notice.Notice.{Notice}
 use Rattle.gu_terms.specs.declared.report.Report.{Report}
 use Rattle.gu_terms.specs.declared.side.Side.{Side}
 use Rattle.gu_offers.proofs.NumberLists.{range_with_len-suc}
-use Rattle.gu_rules.specs.Notices.{Register, Told, told_by, told_from, told_of_line, told_on, told_to}
 use Rattle.gu_rules.proofs.StretchLemmas.{told_to-append}
-use Rattle.gu_notices.specs.Registers.{register_in}
-use Rattle.gu_notices.specs.Telling.{IsTold}
 use Rattle.gu_notices.specs.declared.register.Register.{Register as Kept}
 use Rattle.gu_notices.specs.declared.mailbox.Mailbox.{Mailbox}
 

@@ -1,12 +1,8 @@
 -- The firms that entries may notify.
-use Rattle.std.proofs.Common.{◌≡◌, ◌<◌, ◌≤◌, ◌+◌, ℕ, zero, suc, true, false, List, [], ◌∷◌, ◌++◌, length, Option, None, Some, IfSome, refl, sym, ap, ◌∙◌, arith, append-nil, append_assoc, subst, inl, inr, unwrap_or}
-use Rattle.std.specs.List.{AllByRecursion}
+use Rattle.gu_notices.proofs.Words.{◌≡◌, ◌<◌, ◌≤◌, ◌+◌, ℕ, zero, suc, true, false, List, [], ◌∷◌, ◌++◌, length, Option, None, Some, IfSome, refl, sym, ap, ◌∙◌, arith, append-nil, append_assoc, subst, inl, inr, unwrap_or, AllByRecursion, ◌&&◌, nat_le, slice_get, cases_Bool, Entry, Register, Told, offer_notice, to_both, to_carrier, told_of_event, told_of_line, told_of_take, told_by, told_of_trade, told_on, told_to, Keeps, has_place, may_hold, place_of, AreRecipients, Covers, CoversCarrier, Grows, Holds, carrier_in}
 use Rattle.std.specs.Option.{option_map, option_map_or}
-use Rattle.std.specs.Prelude.{◌&&◌, nat_le, slice_get}
-use Rattle.std.proofs.lemmas.Bool.{cases_Bool}
 use Rattle.std.proofs.lemmas.List.Elements.{filter-append}
 use Rattle.std.proofs.lemmas.Slice.Eq.{bytes_eq-Decides}
-use Rattle.gu_terms.specs.declared.entry.Entry.{Entry}
 use Rattle.gu_terms.specs.declared.firm.FirmId.{FirmId}
 use Rattle.gu_terms.specs.declared.id.Id.{Id}
 use Rattle.gu_terms.specs.declared.notice.Notice.{Notice}
@@ -24,10 +20,6 @@ use Rattle.gu_ref.specs.declared.accounts.Account.{Account}
 use Rattle.gu_trades.specs.Reports.{report_by, with_match}
 use Rattle.gu_trades.specs.Rules.{are_sides}
 use Rattle.gu_trades.specs.Terms.{terms_of}
-use Rattle.gu_rules.specs.Notices.{Register, Told, offer_notice, to_both, to_carrier, told_of_event, told_of_line, told_of_take, told_by, told_of_trade, told_on, told_to}
-use Rattle.gu_notices.specs.Filters.{Keeps, has_place, may_hold, place_of}
-use Rattle.gu_notices.specs.Recipients.{AreRecipients, Covers, CoversCarrier, Grows, Holds}
-use Rattle.gu_notices.specs.Registers.{carrier_in}
 use Rattle.gu_notices.specs.declared.firm_filter.FirmFilter.{FirmFilter}
 
 -- ---- what a set may hold

@@ -1,12 +1,5 @@
 -- The offer with a number, as stored.
-use Rattle.std.proofs.Common.{◌≡◌, ◌∙◌, sym, ap, ℕ, ◌+◌, ◌<◌, ◌≤◌, List, length, slice_get, slice_index_or, Option, Some, None, add-one}
-use Rattle.std.specs.Option.{option_map, option_map_or}
-use Rattle.std.proofs.lemmas.Option.{slice_get-get_or, slice_get-map, slice_get_past}
-use Rattle.gu_offers.specs.Given.{GivenUp}
-use Rattle.gu_offers.specs.declared.offers.Offers.TheInside.{Inside}
-use Rattle.gu_offers.specs.Given.{row_of}
-use Rattle.gu_offers.specs.Kept.{rows_of}
-use Rattle.gu_offers.specs.Rows.{Row, left_in, left_of, row_at}
+use Rattle.gu_offers.proofs.Words.{◌≡◌, ◌∙◌, sym, ap, ℕ, ◌+◌, ◌<◌, ◌≤◌, List, length, slice_get, slice_index_or, Option, Some, None, add-one, option_map, option_map_or, slice_get-get_or, slice_get-map, slice_get_past, GivenUp, Inside, row_of, rows_of, Row, left_in, left_of, row_at}
 
 -- the offer with a number is at its index
 pub row_at-place : (rows : List Row) (place number : ℕ) → place + 1 ≡ number → row_at rows number ≡ slice_get rows place

@@ -1,25 +1,10 @@
 -- A give-up's offers are added last, or a day is opened: everything stays stored correctly.
-use Rattle.std.proofs.Common.{◌≡◌, ◌∙◌, sym, refl, ap, subst, ℕ, ◌+◌, ◌-◌, ◌*◌, ◌≤◌, ◌==◌, Bool, true, false, cond, ◌&&◌, List, [], ◌∷◌, ◌++◌, length, map, arith, length-append, if◌then◌else◌}
-use Rattle.std.specs.List.{All, AllByRecursion, range_with_len}
+use Rattle.gu_offers.proofs.Words.{◌≡◌, ◌∙◌, sym, refl, ap, subst, ℕ, ◌+◌, ◌-◌, ◌*◌, ◌≤◌, ◌==◌, Bool, true, false, cond, ◌&&◌, List, [], ◌∷◌, ◌++◌, length, map, arith, length-append, if◌then◌else◌, AllByRecursion, range_with_len, length-map, map-append, recursion_from_All, FirmId, Group, Id, Line, same_firm, same_group, same_id, GivenUp, Inside, next_day, offered, with_lines, lots_under, forgotten, given_for, row_of, numbers_in, IsKept, rows_of, IsSound, Row, counted_of, counted_under, is_of_report, is_open, is_open_in, numbers_from, open_numbers}
+use Rattle.std.specs.List.{All}
 use Rattle.std.proofs.lemmas.Bool.Decides.{Decides-eqb}
-use Rattle.std.proofs.lemmas.List.{length-map, map-append}
-use Rattle.std.proofs.lemmas.List.Elements.{recursion_from_All}
 use Rattle.std.proofs.lemmas.List.Sums.{sum_by-append, sum_by-cons}
-use Rattle.gu_terms.specs.declared.firm.FirmId.{FirmId}
-use Rattle.gu_terms.specs.declared.group.Group.{Group}
-use Rattle.gu_terms.specs.declared.id.Id.{Id}
-use Rattle.gu_terms.specs.declared.lines.Line.{Line}
 use Rattle.gu_terms.specs.Lines.{lots_in_all}
 use Rattle.gu_terms.specs.Numbers.{IsLots}
-use Rattle.gu_terms.specs.Same.{same_firm, same_group, same_id}
-use Rattle.gu_offers.specs.Given.{GivenUp}
-use Rattle.gu_offers.specs.declared.offers.Offers.TheInside.{Inside}
-use Rattle.gu_offers.specs.Changes.{next_day, offered, with_lines}
-use Rattle.gu_offers.specs.Counts.{lots_under}
-use Rattle.gu_offers.specs.Given.{forgotten, given_for, row_of}
-use Rattle.gu_offers.specs.Groups.{numbers_in}
-use Rattle.gu_offers.specs.Kept.{IsKept, rows_of}
-use Rattle.gu_offers.specs.Rows.{IsSound, Row, counted_of, counted_under, is_of_report, is_open, is_open_in, numbers_from, open_numbers}
 use Rattle.gu_offers.proofs.KeptOffers.{above_zero}
 use Rattle.gu_offers.proofs.Listed.{all-append, all-imply, numbers-append}
 

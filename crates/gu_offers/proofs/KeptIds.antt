@@ -1,19 +1,11 @@
 -- Stored offers: the ids of their reports stay at their positions, whatever is added after them.
-use Rattle.std.proofs.Common.{◌≡◌, ◌∙◌, sym, refl, ap, subst, ℕ, suc, ◌+◌, ◌<◌, ◌≤◌, List, [], ◌∷◌, ◌++◌, All, length, map, set, take, drop, get_or, arith, slice_get, Option, Some, None}
-use Rattle.std.specs.Option.{option_map, option_map_or}
-use Rattle.std.proofs.lemmas.List.{drop-append-le, length-append, length-drop, length-map, map-append, map-set, take-append-le, take_all}
-use Rattle.std.proofs.lemmas.List.Elements.{All-append, All-map, All-set}
-use Rattle.std.proofs.lemmas.Option.{slice_get-get_or, slice_get-map}
+use Rattle.gu_offers.proofs.Words.{◌≡◌, ◌∙◌, sym, refl, ap, subst, ℕ, suc, ◌+◌, ◌<◌, ◌≤◌, List, [], ◌∷◌, ◌++◌, All, length, map, set, take, drop, get_or, arith, slice_get, Option, Some, None, option_map, option_map_or, drop-append-le, length-drop, length-map, map-append, map-set, take-append-le, take_all, All-append, All-map, All-set, slice_get-get_or, slice_get-map, Line, GivenUp, IsWithin, forgotten, given_for, given_in, kept_for, report_in, row_of, without_today, IsWritten, Row, left_of, Offer}
+use Rattle.std.proofs.lemmas.List.{length-append}
 use Rattle.std.proofs.Math.Seq.{drop-append_seam, take-append_seam}
 use Rattle.gu_terms.specs.Names.{IsId}
-use Rattle.gu_terms.specs.declared.lines.Line.{Line}
-use Rattle.gu_offers.specs.Given.{GivenUp, IsWithin, forgotten, given_for, given_in, kept_for, report_in, row_of, without_today}
-use Rattle.gu_offers.specs.Kept.{IsWritten}
-use Rattle.gu_offers.specs.Rows.{Row, left_of}
 use Rattle.gu_offers.specs.declared.given.Given.{Given}
 use Rattle.gu_offers.specs.declared.given.Shared.{Shared}
 use Rattle.gu_offers.specs.declared.open_offer.OpenOffer.{OpenOffer}
-use Rattle.gu_terms.specs.declared.offer.Offer.{Offer}
 
 module _ (ids more : List ℕ) (g : Given) (within : g.at + g.len ≤ length ids) where
   -- the id of a report is unchanged

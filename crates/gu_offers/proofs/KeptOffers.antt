@@ -1,25 +1,7 @@
 -- One stored offer is changed: everything stays stored correctly, and the others are unchanged.
-use Rattle.std.proofs.Common.{◌≡◌, ◌≢◌, ◌∙◌, sym, refl, ap, subst, ℕ, suc, ◌+◌, ◌-◌, ◌≤◌, Bool, true, false, ◌&&◌, List, length, map, set, slice_get, Some, nat_lt, arith, if◌then◌else◌}
-use Rattle.std.specs.List.{AllByRecursion}
-use Rattle.std.specs.Option.{option_map, option_map_or}
-use Rattle.std.proofs.lemmas.List.{length-set, map-set}
+use Rattle.gu_offers.proofs.Words.{◌≡◌, ◌≢◌, ◌∙◌, sym, refl, ap, subst, ℕ, suc, ◌+◌, ◌-◌, ◌≤◌, Bool, true, false, ◌&&◌, List, length, map, set, slice_get, Some, nat_lt, arith, if◌then◌else◌, AllByRecursion, option_map, option_map_or, length-set, map-set, slice_get-map, FirmId, Group, Id, Offer, same_firm, same_group, same_id, GivenUp, Inside, changed, closed, reversed, taken, lots_under, row_of, numbers_in, IsKept, IsSoundAt, IsWritten, rows_of, IsAscending, IsSound, Row, counted_of, counted_under, is_of_report, is_open, left_of, open_numbers}
 use Rattle.std.proofs.lemmas.Bool.{ltb-false}
-use Rattle.std.proofs.lemmas.Option.{slice_get-map}
 use Rattle.std.proofs.lemmas.Slice.Eq.{bytes_eq-Decides}
-use Rattle.gu_terms.specs.declared.firm.FirmId.{FirmId}
-use Rattle.gu_terms.specs.declared.group.Group.{Group}
-use Rattle.gu_terms.specs.declared.id.Id.{Id}
-use Rattle.gu_terms.specs.declared.offer.Offer.{Offer}
-use Rattle.gu_terms.specs.Same.{same_firm, same_group, same_id}
-use Rattle.gu_offers.specs.Given.{GivenUp}
-use Rattle.gu_offers.specs.declared.offers.Offers.TheInside.{Inside}
-use Rattle.gu_offers.specs.Changes.{changed, closed, reversed, taken}
-use Rattle.gu_offers.specs.Counts.{lots_under}
-use Rattle.gu_offers.specs.Given.{row_of}
-use Rattle.gu_offers.specs.Groups.{numbers_in}
-use Rattle.gu_offers.specs.Kept.{IsKept, IsSoundAt, IsWritten, rows_of}
-use Rattle.gu_offers.specs.Numbers.{IsAscending}
-use Rattle.gu_offers.specs.Rows.{IsSound, Row, counted_of, counted_under, is_of_report, is_open, left_of, open_numbers}
 use Rattle.gu_offers.proofs.Listed.{all-at, all-set, counted-set, numbers-ascend, numbers-closed, numbers-same}
 use Rattle.gu_offers.proofs.NumberLists.{without}
 use Rattle.gu_offers.proofs.Written.{left-fits}

@@ -1,15 +1,8 @@
 -- The tables beside the offers: the lots of reports, and the numbers of groups.
-use Rattle.std.proofs.Common.{◌≡◌, ◌∙◌, refl, ap, ℕ, Bool, true, false, cond, ◌&&◌, List, [], ◌++◌, Option, Some, None, is_some, unwrap_or, Result, Ok, Err, IsOk, OnOk, OnErr, if◌then◌else◌}
-use Rattle.std.specs.Option.{option_map_or}
-use Rattle.indexmap.specs.IndexMap.{IndexMap, get, Updates}
+use Rattle.gu_offers.proofs.Words.{◌≡◌, ◌∙◌, refl, ap, ℕ, Bool, true, false, cond, ◌&&◌, List, [], ◌++◌, Option, Some, None, is_some, unwrap_or, Result, Ok, Err, IsOk, OnOk, OnErr, if◌then◌else◌, option_map_or, IndexMap, get, Updates, FirmId, Group, Id, same_firm, same_group, same_id, lots_under, report_key, same_key}
 use Rattle.gu_terms.proofs.SameNames.{same_firm-true, same_group-true, same_id-true}
-use Rattle.gu_terms.specs.declared.firm.FirmId.{FirmId}
-use Rattle.gu_terms.specs.declared.group.Group.{Group}
-use Rattle.gu_terms.specs.declared.id.Id.{Id}
-use Rattle.gu_terms.specs.Same.{same_firm, same_group, same_id}
 use Rattle.gu_offers.specs.declared.counts.Counts.{Counts}
 use Rattle.gu_offers.specs.declared.counts.ReportKey.{ReportKey}
-use Rattle.gu_offers.specs.Counts.{lots_under, report_key, same_key}
 
 -- two tests that both pass
 pub both : (p q : Bool) → (p && q) ≡ true → (p ≡ true) × (q ≡ true)

@@ -6,3 +6,4 @@ pub mod KeptTables
 pub mod Listed
 pub mod NumberLists
 pub mod Written
+pub mod Words

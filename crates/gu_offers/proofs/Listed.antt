@@ -1,13 +1,6 @@
 -- How a change of one row, or more rows, affects the numbers of open offers and the lots of reports.
-use Rattle.std.proofs.Common.{◌≡◌, ◌≢◌, ◌∙◌, sym, refl, ap, subst, ℕ, zero, suc, ◌+◌, ◌<◌, ◌≤◌, ◌==◌, Bool, true, false, not, cond, ◌&&◌, List, [], ◌∷◌, ◌++◌, length, set, slice_get, Some, arith, if◌then◌else◌}
-use Rattle.std.specs.List.{AllByRecursion}
+use Rattle.gu_offers.proofs.Words.{◌≡◌, ◌≢◌, ◌∙◌, sym, refl, ap, subst, ℕ, zero, suc, ◌+◌, ◌<◌, ◌≤◌, ◌==◌, Bool, true, false, not, cond, ◌&&◌, List, [], ◌∷◌, ◌++◌, length, set, slice_get, Some, arith, if◌then◌else◌, AllByRecursion, FirmId, Group, Id, same_firm, same_id, IsAscending, Row, counted_of, counted_under, is_of_report, is_open_in, numbers_from}
 use Rattle.std.proofs.lemmas.List.Sums.{sum_by-cons}
-use Rattle.gu_terms.specs.declared.firm.FirmId.{FirmId}
-use Rattle.gu_terms.specs.declared.group.Group.{Group}
-use Rattle.gu_terms.specs.declared.id.Id.{Id}
-use Rattle.gu_terms.specs.Same.{same_firm, same_id}
-use Rattle.gu_offers.specs.Numbers.{IsAscending}
-use Rattle.gu_offers.specs.Rows.{Row, counted_of, counted_under, is_of_report, is_open_in, numbers_from}
 use Rattle.gu_offers.proofs.NumberLists.{other_than, own_number, without, without-above}
 
 module _ {X : Type 0} (P : X → Type 0) where

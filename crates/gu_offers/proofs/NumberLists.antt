@@ -1,12 +1,10 @@
 -- Ascending lists of numbers: one more, and one fewer.
-use Rattle.std.proofs.Common.{◌≡◌, ◌≢◌, ◌∙◌, sym, refl, ap, ℕ, zero, suc, ◌+◌, ◌<◌, ◌≤◌, ◌==◌, Bool, true, false, not, List, [], ◌∷◌, ◌++◌, length, get_or, filter, nat_lt, ◌⊎◌, inl, inr, Ok, Err, arith}
-use Rattle.std.specs.List.{AllByRecursion, range_with_len, remove}
+use Rattle.gu_offers.proofs.Words.{◌≡◌, ◌≢◌, ◌∙◌, sym, refl, ap, ℕ, zero, suc, ◌+◌, ◌<◌, ◌≤◌, ◌==◌, Bool, true, false, not, List, [], ◌∷◌, ◌++◌, length, get_or, filter, nat_lt, ◌⊎◌, inl, inr, Ok, Err, arith, AllByRecursion, range_with_len, remove, IsAscending}
 use Rattle.std.specs.List.Sorted.{IsBinarySearchResult}
 use Rattle.std.specs.Ordering.{nat_cmp}
 use Rattle.std.proofs.lemmas.Bool.{ltb-false, ltb-true}
 use Rattle.std.proofs.lemmas.Bool.Decides.{Decides-eqb}
 use Rattle.std.proofs.lemmas.List.Sorted.{searched}
-use Rattle.gu_offers.specs.Numbers.{IsAscending}
 
 cases_lt : (k i : ℕ) → (k < i) ⊎ (i ≤ k)
 cases_lt k i = by (nat_lt k i) refl

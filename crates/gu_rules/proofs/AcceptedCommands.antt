@@ -1,33 +1,7 @@
 -- Accepted commands: their entries, and what follows from the tests that they passed.
-use Rattle.std.proofs.Common.{◌≡◌, Bool, true, false, List, [], ◌∷◌, refl, ◌<◌, length, sym, ◌∙◌, ℕ, Option, Some, None, ap, not, suc, slice_get}
-use Rattle.std.specs.Option.{option_and_then, option_map, option_map_or}
-use Rattle.gu_terms.proofs.SameNames.{same_firm-true, same_id-true}
-use Rattle.gu_terms.proofs.SameValues.{both}
-use Rattle.gu_terms.specs.declared.command.Command.{Command}
-use Rattle.gu_terms.specs.declared.command.Command.TheVariants.{GiveUp, OpenDay, ReportSide, SetLimit}
+use Rattle.gu_rules.proofs.Words.{◌≡◌, Bool, true, false, List, [], ◌∷◌, refl, ◌<◌, length, sym, ◌∙◌, ℕ, Option, Some, None, ap, not, suc, slice_get, option_and_then, option_map, option_map_or, same_firm-true, same_id-true, both, Command, GiveUp, OpenDay, ReportSide, SetLimit, Day, Entry, Asked, FirmId, Group, Id, LimitKey, Line, Refusal, DuplicateId, MatchConflict, Done, LimitSet, Offered, Opened, Reply, Accepted, Denied, Report, Tables, conflicts, has_report, is_by, made_on, report_by, with_match, State, answer, done_of, first_standing, given_up, group_of, report_tests, state_of, tests_of, IsAccepted, accepts, Fits, open_day, reports_of}
 use Rattle.gu_terms.specs.declared.command.ReportSide.{ReportSide as ReportSideOf}
-use Rattle.gu_terms.specs.declared.day.Day.{Day}
-use Rattle.gu_terms.specs.declared.entry.Entry.{Entry}
-use Rattle.gu_terms.specs.declared.entry.Entry.TheVariants.{Asked}
-use Rattle.gu_terms.specs.declared.firm.FirmId.{FirmId}
-use Rattle.gu_terms.specs.declared.group.Group.{Group}
-use Rattle.gu_terms.specs.declared.id.Id.{Id}
-use Rattle.gu_terms.specs.declared.limit_key.LimitKey.{LimitKey}
-use Rattle.gu_terms.specs.declared.lines.Line.{Line}
-use Rattle.gu_terms.specs.declared.refusal.Refusal.{Refusal}
-use Rattle.gu_terms.specs.declared.refusal.Refusal.TheVariants.{DuplicateId, MatchConflict}
-use Rattle.gu_terms.specs.declared.reply.Done.{Done}
-use Rattle.gu_terms.specs.declared.reply.Done.TheVariants.{LimitSet, Offered, Opened}
-use Rattle.gu_terms.specs.declared.reply.Reply.{Reply}
-use Rattle.gu_terms.specs.declared.reply.Reply.TheVariants.{Accepted, Denied}
-use Rattle.gu_terms.specs.declared.report.Report.{Report}
-use Rattle.gu_ref.specs.Tables.{Tables}
-use Rattle.gu_trades.specs.Matching.{conflicts}
-use Rattle.gu_trades.specs.Reports.{has_report, is_by, made_on, report_by, with_match}
 use Rattle.gu_positions.proofs.Changed.{find-passes}
-use Rattle.gu_rules.specs.Answer.{State, answer, done_of, first_standing, given_up, group_of, report_tests, state_of, tests_of}
-use Rattle.gu_rules.specs.Legal.{IsAccepted, accepts}
-use Rattle.gu_rules.specs.Reports.{Fits, open_day, reports_of}
 use Rattle.gu_rules.proofs.Passing.{none_stands}
 
 -- an accepted command has the effect that it has if no test holds

@@ -1,18 +1,7 @@
 -- The total over the rows of positions is the total over the accounts.
-use Rattle.std.proofs.Common.{◌≡◌, ℕ, ◌&&◌, Bool, true, false, List, [], ◌∷◌, find, sum_by, is_some, refl, sym, ap, ◌∙◌, arith, if◌then◌else◌, inl, inr}
-use Rattle.std.proofs.lemmas.Bool.{cases_Bool}
-use Rattle.std.proofs.lemmas.List.Sums.{sum_by-cons}
+use Rattle.gu_rules.proofs.Words.{◌≡◌, ℕ, ◌&&◌, Bool, true, false, List, [], ◌∷◌, sum_by, is_some, refl, sym, ap, ◌∙◌, arith, if◌then◌else◌, inl, inr, cases_Bool, sum_by-cons, AllByRecursion, IsDistinct, option_map_or, sum_by-agree, sum_by-swap, same_account-true, same_account-turned, same_symbol-true, same_symbol-turned, both, same_account, same_symbol, AccountId, Symbol, account_in, Account}
+use Rattle.std.proofs.Common.{find}
 use Rattle.std.proofs.lemmas.Map.Keys.{IsDistinct-head, IsDistinct-tail}
-use Rattle.std.specs.List.{AllByRecursion, IsDistinct}
-use Rattle.std.specs.Option.{option_map_or}
-use Rattle.gu_terms.proofs.Lists.{sum_by-agree, sum_by-swap}
-use Rattle.gu_terms.proofs.SameNames.{same_account-true, same_account-turned, same_symbol-true, same_symbol-turned}
-use Rattle.gu_terms.proofs.SameValues.{both}
-use Rattle.gu_terms.specs.Same.{same_account, same_symbol}
-use Rattle.gu_terms.specs.declared.account.AccountId.{AccountId}
-use Rattle.gu_terms.specs.declared.symbol.Symbol.{Symbol}
-use Rattle.gu_ref.specs.Listed.{account_in}
-use Rattle.gu_ref.specs.declared.accounts.Account.{Account}
 use Rattle.gu_positions.specs.Rows.{Row, is_of, same_row}
 
 -- for any count over rows

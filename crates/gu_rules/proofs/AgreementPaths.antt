@@ -1,32 +1,10 @@
 -- The path of each agreement of a reference, and the keys on it.
-use Rattle.std.proofs.Common.{◌≡◌, ◌&&◌, Bool, true, false, not, is_none, List, [], ◌∷◌, Option, Some, None, is_some, unwrap_or, subst, refl, sym, ap, ◌∙◌, inl, inr}
-use Rattle.std.specs.List.{AllByRecursion, IsDistinct, find}
-use Rattle.std.specs.Option.{option_and_then, option_map}
-use Rattle.std.proofs.lemmas.Bool.{cases_Bool}
+use Rattle.gu_rules.proofs.Words.{◌≡◌, ◌&&◌, Bool, true, false, not, is_none, List, [], ◌∷◌, Option, Some, None, is_some, unwrap_or, subst, refl, sym, ap, ◌∙◌, inl, inr, AllByRecursion, IsDistinct, find, option_and_then, option_map, cases_Bool, recursion_from_All, along, both, key_eq, same_agreement, AccountId, AgreementId, FirmId, LimitKey, Line, Offer as GivenUp, path_of, agreement_for, account_row, agreement_between, agreement_row, guarantor_of, is_firm, IsSound, Tables, Account, has_unknown_account, lacks_agreement, path_after}
 use Rattle.std.proofs.lemmas.Cmp.{nat_list_eq_equiv}
-use Rattle.std.proofs.lemmas.List.Elements.{recursion_from_All}
-use Rattle.gu_terms.proofs.Lists.{along}
-use Rattle.gu_terms.proofs.SameValues.{both}
-use Rattle.gu_terms.specs.LimitKeys.{key_eq}
 use Rattle.gu_terms.specs.Paths.{path_through}
-use Rattle.gu_terms.specs.Same.{same_agreement}
-use Rattle.gu_terms.specs.declared.account.AccountId.{AccountId}
-use Rattle.gu_terms.specs.declared.agreement.AgreementId.{AgreementId}
-use Rattle.gu_terms.specs.declared.firm.FirmId.{FirmId}
-use Rattle.gu_terms.specs.declared.limit_key.LimitKey.{LimitKey}
-use Rattle.gu_terms.specs.declared.lines.Line.{Line}
-use Rattle.gu_terms.specs.declared.offer.Offer.{Offer as GivenUp}
 use Rattle.gu_limits.proofs.PathKeys.{kinds_differ}
 use Rattle.gu_limits.proofs.RowsBetween.{carried_between}
-use Rattle.gu_limits.specs.Paths.{path_of}
-use Rattle.gu_ref.specs.Listed.{agreement_for}
-use Rattle.gu_ref.specs.Reference.{account_row, agreement_between, agreement_row, guarantor_of, is_firm}
-use Rattle.gu_ref.specs.Rules.{IsSound}
-use Rattle.gu_ref.specs.Tables.{Tables}
-use Rattle.gu_ref.specs.declared.accounts.Account.{Account}
 use Rattle.gu_ref.specs.declared.agreements.Agreement.{Agreement}
-use Rattle.gu_rules.specs.Answer.{has_unknown_account, lacks_agreement}
-use Rattle.gu_rules.specs.Limits.{path_after}
 use Rattle.gu_rules.proofs.Facts.{some-is}
 use Rattle.gu_rules.proofs.KnownOnes.{all-found}
 

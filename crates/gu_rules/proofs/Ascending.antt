@@ -1,22 +1,6 @@
 -- The refusals of a command are tested in the order of their numbers, so the least one is given.
-use Rattle.std.proofs.Common.{◌≡◌, ℕ, ◌<◌, ◌≤◌, Bool, true, false, List, [], ◌∷◌, AllPairs, get_or, length, slice_get, zero, suc, Option, Some, None, ap, subst, arith}
-use Rattle.std.specs.Option.{option_map_or}
+use Rattle.gu_rules.proofs.Words.{◌≡◌, ℕ, ◌<◌, ◌≤◌, Bool, true, false, List, [], ◌∷◌, AllPairs, get_or, length, slice_get, zero, suc, Option, Some, None, ap, subst, arith, option_map_or, Command, OpenDay, SetLimit, ReportSide, GiveUp, Claim, Refuse, Reverse, Day, Group, LimitKey, Line, Refusal, Done, Denied, Report, Tables, made_on, Row, left_in, row_at, State, answer_in, done_of, first_standing, given_up, lines_tests, report_tests, room_tests, tests_of, path_after}
 use Rattle.gu_terms.specs.Refusals.{number_of}
-use Rattle.gu_terms.specs.declared.command.Command.{Command}
-use Rattle.gu_terms.specs.declared.command.Command.TheVariants.{OpenDay, SetLimit, ReportSide, GiveUp, Claim, Refuse, Reverse}
-use Rattle.gu_terms.specs.declared.day.Day.{Day}
-use Rattle.gu_terms.specs.declared.group.Group.{Group}
-use Rattle.gu_terms.specs.declared.limit_key.LimitKey.{LimitKey}
-use Rattle.gu_terms.specs.declared.lines.Line.{Line}
-use Rattle.gu_terms.specs.declared.refusal.Refusal.{Refusal}
-use Rattle.gu_terms.specs.declared.reply.Done.{Done}
-use Rattle.gu_terms.specs.declared.reply.Reply.TheVariants.{Denied}
-use Rattle.gu_terms.specs.declared.report.Report.{Report}
-use Rattle.gu_ref.specs.Tables.{Tables}
-use Rattle.gu_trades.specs.Reports.{made_on}
-use Rattle.gu_offers.specs.Rows.{Row, left_in, row_at}
-use Rattle.gu_rules.specs.Answer.{State, answer_in, done_of, first_standing, given_up, lines_tests, report_tests, room_tests, tests_of}
-use Rattle.gu_rules.specs.Limits.{path_after}
 
 -- the number of a test's refusal
 abbrev number : Bool × Refusal → ℕ

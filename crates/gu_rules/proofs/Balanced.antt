@@ -1,12 +1,5 @@
 -- Lots taken from offers and given back, after one more entry.
-use Rattle.std.proofs.Common.{◌≡◌, ℕ, ◌+◌, ◌-◌, ◌<◌, ◌≤◌, false, List, [], ◌∷◌, ◌++◌, length, sum_by, Some, None, refl, ap, ◌∙◌, arith, length-append}
-use Rattle.std.proofs.lemmas.List.Sums.{sum_by_push}
-use Rattle.gu_terms.specs.declared.day.Day.{Day}
-use Rattle.gu_terms.specs.declared.entry.Entry.{Entry}
-use Rattle.gu_terms.specs.declared.offer.Offer.{Offer}
-use Rattle.gu_rules.specs.Offers.{closes, given_back_by, lines_by, moved_of, offers_of, taken_by}
-use Rattle.gu_rules.specs.Orderly.{IsBalanced, IsNamed}
-use Rattle.gu_rules.specs.Reports.{entries_today, opened_day}
+use Rattle.gu_rules.proofs.Words.{◌≡◌, ℕ, ◌+◌, ◌-◌, ◌<◌, ◌≤◌, false, List, [], ◌∷◌, ◌++◌, length, sum_by, Some, None, refl, ap, ◌∙◌, arith, length-append, sum_by_push, Day, Entry, Offer, closes, given_back_by, lines_by, moved_of, offers_of, taken_by, IsBalanced, IsNamed, entries_today, opened_day}
 use Rattle.gu_rules.proofs.StandingLemmas.{IsIdle, is_shut-push, moved_of-push, offers_of-push}
 use Rattle.gu_rules.proofs.Today.{entries_today-kept, entries_today-new}
 

@@ -1,20 +1,5 @@
 -- Positions after one offer changes.
-use Rattle.std.proofs.Common.{◌≡◌, ℕ, ◌+◌, ◌-◌, ◌≤◌, ◌&&◌, Bool, true, false, List, [], ◌∷◌, map, sum_by, Some, refl, arith, if◌then◌else◌}
-use Rattle.std.proofs.lemmas.List.Sums.{sum_by-cons}
-use Rattle.gu_terms.specs.Same.{same_account, same_side, same_symbol}
-use Rattle.gu_terms.specs.declared.account.AccountId.{AccountId}
-use Rattle.gu_terms.specs.declared.firm.FirmId.{FirmId}
-use Rattle.gu_terms.specs.declared.group.Group.{Group}
-use Rattle.gu_terms.specs.declared.id.Id.{Id}
-use Rattle.gu_terms.specs.declared.lines.Line.{Line}
-use Rattle.gu_terms.specs.declared.report.Report.{Report}
-use Rattle.gu_terms.specs.declared.side.Side.{Side}
-use Rattle.gu_terms.specs.declared.symbol.Symbol.{Symbol}
-use Rattle.gu_positions.specs.Changes.{lots_at}
-use Rattle.gu_offers.specs.Changes.{changed, closed, next_day, offered, reversed, taken, with_lines}
-use Rattle.gu_offers.specs.Rows.{Row, row_at}
-use Rattle.gu_rules.specs.Orderly.{AreWithin, IsCovered}
-use Rattle.gu_rules.specs.Positions.{held_in, is_from, is_on, moved_into, moved_out, report_after}
+use Rattle.gu_rules.proofs.Words.{◌≡◌, ℕ, ◌+◌, ◌-◌, ◌≤◌, ◌&&◌, Bool, true, false, List, [], ◌∷◌, map, sum_by, Some, refl, arith, if◌then◌else◌, sum_by-cons, same_account, same_side, same_symbol, AccountId, FirmId, Group, Id, Line, Report, Side, Symbol, lots_at, changed, closed, next_day, offered, reversed, taken, with_lines, Row, row_at, AreWithin, IsCovered, held_in, is_from, is_on, moved_into, moved_out, report_after}
 use Rattle.gu_rules.proofs.ChangedSums.{moved_out-le-traded, sum-changed, sum-with_lines, either-nothing}
 
 -- lots on a side of an instrument, with the three tests in either order

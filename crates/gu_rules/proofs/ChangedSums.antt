@@ -1,25 +1,5 @@
 -- Uses and positions after one offer changes.
-use Rattle.std.proofs.Common.{◌≡◌, ℕ, zero, suc, ◌+◌, ◌≤◌, ◌&&◌, Bool, true, false, List, [], ◌∷◌, map, sum_by, get_or, Some, refl, ap, arith, if◌then◌else◌}
-use Rattle.std.specs.Prelude.{slice_set}
-use Rattle.std.proofs.lemmas.Option.{get_or_from_slice_get, slice_get_within}
-use Rattle.std.proofs.lemmas.List.Sums.{sum_by-append, sum_by-cons, sum_by-set}
-use Rattle.gu_terms.specs.declared.account.AccountId.{AccountId}
-use Rattle.gu_terms.specs.declared.firm.FirmId.{FirmId}
-use Rattle.gu_terms.specs.declared.group.Group.{Group}
-use Rattle.gu_terms.specs.declared.id.Id.{Id}
-use Rattle.gu_terms.specs.declared.limit_key.LimitKey.{LimitKey}
-use Rattle.gu_terms.specs.declared.lines.Line.{Line}
-use Rattle.gu_terms.specs.declared.report.Report.{Report}
-use Rattle.gu_terms.specs.declared.side.Side.{Side}
-use Rattle.gu_terms.specs.declared.symbol.Symbol.{Symbol}
-use Rattle.gu_terms.proofs.Lists.{along, sum_by-mono}
-use Rattle.gu_ref.specs.Tables.{Tables}
-use Rattle.gu_limits.specs.Changes.{lots_under}
-use Rattle.gu_offers.specs.Changes.{changed, closed, next_day, offered, reversed, taken, with_lines}
-use Rattle.gu_offers.specs.Rows.{Row, counted_of, row_at}
-use Rattle.gu_rules.specs.Limits.{is_under, path_after, use_in}
-use Rattle.gu_rules.specs.Orderly.{AreWithin, IsCovered}
-use Rattle.gu_rules.specs.Positions.{is_from, is_on, moved_out, traded}
+use Rattle.gu_rules.proofs.Words.{◌≡◌, ℕ, zero, suc, ◌+◌, ◌≤◌, ◌&&◌, Bool, true, false, List, [], ◌∷◌, map, sum_by, get_or, Some, refl, ap, arith, if◌then◌else◌, slice_set, get_or_from_slice_get, slice_get_within, sum_by-append, sum_by-cons, sum_by-set, AccountId, FirmId, Group, Id, LimitKey, Line, Report, Side, Symbol, along, sum_by-mono, Tables, lots_under, changed, closed, next_day, offered, reversed, taken, with_lines, Row, counted_of, row_at, is_under, path_after, use_in, AreWithin, IsCovered, is_from, is_on, moved_out, traded}
 use Rattle.gu_rules.proofs.Holding.{given_up_by, given_up-le-traded}
 
 -- a sum over offers after one is changed

@@ -1,39 +1,7 @@
 -- The use of a key after an entry: if it grows, it stays within the limit.
-use Rattle.std.proofs.Common.{◌≡◌, ℕ, zero, suc, ◌+◌, ◌-◌, ◌<◌, ◌≤◌, ◌++◌, ◌&&◌, true, List, [], ◌∷◌, length, sum_by, Option, refl, sym, ap, ◌∙◌, arith, append-nil, append_assoc, inl, inr, subst, unwrap_or}
-use Rattle.std.proofs.lemmas.Bool.{cases_Bool}
-use Rattle.std.proofs.lemmas.List.Sums.{sum_by-cons}
-use Rattle.std.specs.List.{AllByRecursion}
-use Rattle.std.specs.Option.{option_map_or}
-use Rattle.std.specs.Prelude.{slice_index_or}
-use Rattle.gu_terms.proofs.KeyLemmas.{key_eq-same}
-use Rattle.gu_terms.proofs.Lists.{Later, Later-from_AllPairs}
-use Rattle.gu_terms.proofs.SameNames.{same_group-true}
-use Rattle.gu_terms.proofs.SameValues.{both}
-use Rattle.gu_terms.specs.LimitKeys.{has_key, key_eq}
-use Rattle.gu_terms.specs.Same.{same_group}
-use Rattle.gu_terms.specs.Takes.{lots_of}
-use Rattle.gu_terms.specs.declared.command.Command.{Command}
-use Rattle.gu_terms.specs.declared.command.Command.TheVariants.{OpenDay, GiveUp, Claim, Refuse, Reverse}
+use Rattle.gu_rules.proofs.Words.{◌≡◌, ℕ, zero, suc, ◌+◌, ◌-◌, ◌<◌, ◌≤◌, ◌++◌, ◌&&◌, true, List, [], ◌∷◌, length, sum_by, Option, refl, sym, ap, ◌∙◌, arith, append-nil, append_assoc, inl, inr, subst, unwrap_or, cases_Bool, sum_by-cons, AllByRecursion, option_map_or, slice_index_or, key_eq-same, Later, Later-from_AllPairs, same_group-true, both, has_key, key_eq, same_group, lots_of, Command, OpenDay, GiveUp, Claim, Refuse, Reverse, Entry, Asked, Swept, SweepEntry, Group, LimitKey, Done, Reply, Accepted, Denied, Take, Tables, lots_under as lots_charged, changed, closed, reversed, taken, Row, left_in, IsAccepted, IsLegal, MayFollow, accepted_entry, limit_of, limit_set, path_after, room_of, use_in, use_of, standing_of, IsSweepOf, part, parts, group_view, offers_shown}
 use Rattle.gu_terms.specs.declared.command.Claim.{Claim as ClaimOf}
 use Rattle.gu_terms.specs.declared.command.GiveUp.{GiveUp as GiveUpOf}
-use Rattle.gu_terms.specs.declared.entry.Entry.{Entry}
-use Rattle.gu_terms.specs.declared.entry.Entry.TheVariants.{Asked, Swept}
-use Rattle.gu_terms.specs.declared.entry.SweepEntry.{SweepEntry}
-use Rattle.gu_terms.specs.declared.group.Group.{Group}
-use Rattle.gu_terms.specs.declared.limit_key.LimitKey.{LimitKey}
-use Rattle.gu_terms.specs.declared.reply.Done.{Done}
-use Rattle.gu_terms.specs.declared.reply.Reply.{Reply}
-use Rattle.gu_terms.specs.declared.reply.Reply.TheVariants.{Accepted, Denied}
-use Rattle.gu_terms.specs.declared.takes.Take.{Take}
-use Rattle.gu_ref.specs.Tables.{Tables}
-use Rattle.gu_limits.specs.Changes.{lots_under as lots_charged}
-use Rattle.gu_offers.specs.Changes.{changed, closed, reversed, taken}
-use Rattle.gu_offers.specs.Rows.{Row, left_in}
-use Rattle.gu_rules.specs.Legal.{IsAccepted, IsLegal, MayFollow, accepted_entry}
-use Rattle.gu_rules.specs.Limits.{limit_of, limit_set, path_after, room_of, use_in, use_of}
-use Rattle.gu_rules.specs.Offers.{standing_of}
-use Rattle.gu_rules.specs.Sweeps.{IsSweepOf, part, parts}
-use Rattle.gu_rules.specs.Views.{group_view, offers_shown}
 use Rattle.gu_rules.proofs.AcceptedCommands.{giving_up, is-accepted, opening}
 use Rattle.gu_rules.proofs.ChangedSums.{use_in-closed, use_in-next_day, use_in-reversed, use_in-taken, use_in-with_lines}
 use Rattle.gu_rules.proofs.Facts.{claimable, refusable, reversible, row_at-other, today-is}

@@ -1,23 +1,5 @@
 -- No more of a report is given up than it traded, after one more entry.
-use Rattle.std.proofs.Common.{◌≡◌, ℕ, zero, ◌+◌, ◌-◌, ◌≤◌, ◌&&◌, Bool, true, false, List, [], ◌∷◌, map, sum_by, Some, refl, sym, ap, ◌∙◌, arith, if◌then◌else◌, inl, inr, subst}
-use Rattle.std.proofs.lemmas.Bool.{cases_Bool}
-use Rattle.std.proofs.lemmas.List.Sums.{sum_by-append, sum_by-cons}
-use Rattle.gu_terms.proofs.SameNames.{same_firm-true, same_id-true}
-use Rattle.gu_terms.specs.Lines.{lots_in_all}
-use Rattle.gu_terms.specs.Same.{same_firm, same_id}
-use Rattle.gu_terms.specs.declared.firm.FirmId.{FirmId}
-use Rattle.gu_terms.specs.declared.group.Group.{Group}
-use Rattle.gu_terms.specs.declared.id.Id.{Id}
-use Rattle.gu_terms.specs.declared.lines.Line.{Line}
-use Rattle.gu_terms.specs.declared.offer.Offer.{Offer}
-use Rattle.gu_terms.specs.declared.report.Report.{Report}
-use Rattle.gu_terms.proofs.Lists.{along, along2}
-use Rattle.gu_terms.proofs.SameValues.{both}
-use Rattle.gu_trades.specs.Matching.{is_of_trade}
-use Rattle.gu_trades.specs.Reports.{report_by}
-use Rattle.gu_offers.specs.Changes.{changed, closed, next_day, offered, reversed, taken, with_lines}
-use Rattle.gu_offers.specs.Rows.{Row, counted_of, counted_under, is_of_report, row_at}
-use Rattle.gu_rules.specs.Orderly.{AreOwn, IsCovered, lots_traded}
+use Rattle.gu_rules.proofs.Words.{◌≡◌, ℕ, zero, ◌+◌, ◌-◌, ◌≤◌, ◌&&◌, Bool, true, false, List, [], ◌∷◌, map, sum_by, Some, refl, sym, ap, ◌∙◌, arith, if◌then◌else◌, inl, inr, subst, cases_Bool, sum_by-append, sum_by-cons, same_firm-true, same_id-true, lots_in_all, same_firm, same_id, FirmId, Group, Id, Line, Offer, Report, along, along2, both, is_of_trade, report_by, changed, closed, next_day, offered, reversed, taken, with_lines, Row, counted_of, counted_under, is_of_report, row_at, AreOwn, IsCovered, lots_traded}
 use Rattle.gu_rules.proofs.ChangedSums.{sum-changed}
 
 -- the lots of a report that one offer holds

@@ -1,42 +1,7 @@
 -- An entry that touches no offer and no limit of a group leaves its view unchanged.
-use Rattle.std.proofs.Common.{◌≡◌, ℕ, zero, suc, ◌+◌, ◌-◌, ◌==◌, ◌&&◌, ◌||◌, Bool, true, false, List, [], ◌∷◌, ◌++◌, length, map, Option, Some, None, unwrap_or, refl, sym, ap, ◌∙◌, arith, append_assoc, append-nil, if◌then◌else◌, subst, inl, inr}
-use Rattle.std.specs.Prelude.{IsTrue, slice_get}
-use Rattle.std.specs.List.{AllByRecursion, cons_option, filter_map, find}
-use Rattle.std.specs.Option.{option_map, option_map_or, option_to_list}
-use Rattle.std.proofs.lemmas.Bool.{cases_Bool}
-use Rattle.std.proofs.lemmas.Bool.Decides.{Decides-eqb}
-use Rattle.std.proofs.lemmas.List.Elements.{recursion_from_All}
-use Rattle.std.proofs.lemmas.List.Sums.{sum_by-cons, sum_by_push}
-use Rattle.gu_terms.proofs.SameNames.{same_group-own, same_group-true}
-use Rattle.gu_terms.specs.Same.{same_group}
-use Rattle.gu_terms.specs.Takes.{lots_of}
-use Rattle.gu_terms.specs.declared.agreement.AgreementId.{AgreementId}
-use Rattle.gu_terms.specs.declared.command.Command.TheVariants.{OpenDay, SetLimit, GiveUp, Claim, Refuse, Reverse}
-use Rattle.gu_terms.specs.declared.entry.Entry.{Entry}
-use Rattle.gu_terms.specs.declared.entry.Entry.TheVariants.{Asked, Swept}
-use Rattle.gu_terms.specs.declared.entry.SweepEntry.{SweepEntry}
-use Rattle.gu_terms.specs.declared.firm.FirmId.{FirmId}
-use Rattle.gu_terms.specs.declared.group.Group.{Group}
-use Rattle.gu_terms.specs.declared.id.Id.{Id}
-use Rattle.gu_terms.specs.declared.limit_key.LimitKey.{LimitKey}
-use Rattle.gu_terms.specs.declared.lines.Line.{Line}
-use Rattle.gu_terms.specs.declared.offer.Offer.{Offer}
-use Rattle.gu_terms.specs.declared.reply.Done.TheVariants.{Opened, LimitSet, Offered, Claimed, Refused, Reversed}
-use Rattle.gu_terms.specs.declared.reply.Reply.TheVariants.{Accepted}
-use Rattle.gu_terms.specs.declared.takes.Take.{Take}
-use Rattle.gu_ref.specs.Reference.{agreement_between}
-use Rattle.gu_ref.specs.Tables.{Tables}
-use Rattle.gu_offers.specs.Rows.{Row, is_open, is_open_in, left_of, numbers_from, open_offer_at, open_offers, row_at}
+use Rattle.gu_rules.proofs.Words.{◌≡◌, ℕ, zero, suc, ◌+◌, ◌-◌, ◌==◌, ◌&&◌, ◌||◌, Bool, true, false, List, [], ◌∷◌, ◌++◌, length, map, Option, Some, None, unwrap_or, refl, sym, ap, ◌∙◌, arith, append_assoc, append-nil, if◌then◌else◌, subst, inl, inr, IsTrue, slice_get, AllByRecursion, cons_option, filter_map, find, option_map, option_map_or, option_to_list, cases_Bool, Decides-eqb, recursion_from_All, sum_by-cons, sum_by_push, same_group-own, same_group-true, same_group, lots_of, AgreementId, OpenDay, SetLimit, GiveUp, Claim, Refuse, Reverse, Entry, Asked, Swept, SweepEntry, FirmId, Group, Id, LimitKey, Line, Offer, Opened, LimitSet, Offered, Claimed, Refused, Reversed, Accepted, Take, agreement_between, Tables, Row, is_open, is_open_in, left_of, numbers_from, open_offer_at, open_offers, row_at, keys_of, MayFollow, is_under, limit_of, limit_set_by, path_after, room_of, use_in, use_of, closes, given_back_by, is_shut, lines_by, moved_of, offers_of, standing, standing_from, standing_of, taken_by, entries_today, opened_day, MaySweep, is_of_group, touches, touching, touching_after, group_view, offers_shown, shown}
 use Rattle.gu_offers.specs.declared.open_offer.OpenOffer.{OpenOffer}
 use Rattle.gu_view.specs.Check.{has_offer}
-use Rattle.gu_view.specs.View.{keys_of}
-use Rattle.gu_rules.specs.Legal.{MayFollow}
-use Rattle.gu_rules.specs.Limits.{is_under, limit_of, limit_set_by, path_after, room_of, use_in, use_of}
-use Rattle.gu_rules.specs.Offers.{closes, given_back_by, is_shut, lines_by, moved_of, offers_of, standing, standing_from, standing_of, taken_by}
-use Rattle.gu_rules.specs.Reports.{entries_today, opened_day}
-use Rattle.gu_rules.specs.Sweeps.{MaySweep}
-use Rattle.gu_rules.specs.Versions.{is_of_group, touches, touching, touching_after}
-use Rattle.gu_rules.specs.Views.{group_view, offers_shown, shown}
 use Rattle.gu_rules.proofs.Growing.{last-kept}
 use Rattle.gu_rules.proofs.StandingLemmas.{either-false, is_shut-push, offers_of-push}
 use Rattle.gu_rules.proofs.Today.{entries_today-kept}

@@ -1,13 +1,6 @@
 -- Equal versions mean equal views.
-use Rattle.std.proofs.Common.{◌≡◌, List, length, take, sym, ap, ◌∙◌}
-use Rattle.std.proofs.Math.Seq.{take-append_seam}
+use Rattle.gu_rules.proofs.Words.{◌≡◌, List, length, take, sym, ap, ◌∙◌, take-append_seam, Entry, Group, Tables, IsLegal, version_of, group_view}
 use mathlib.Core.List.{IsPrefix}
-use Rattle.gu_terms.specs.declared.entry.Entry.{Entry}
-use Rattle.gu_terms.specs.declared.group.Group.{Group}
-use Rattle.gu_ref.specs.Tables.{Tables}
-use Rattle.gu_rules.specs.Legal.{IsLegal}
-use Rattle.gu_rules.specs.Versions.{version_of}
-use Rattle.gu_rules.specs.Views.{group_view}
 use Rattle.gu_rules.proofs.LegalLaws.{view-stays}
 use Rattle.gu_rules.proofs.VersionLemmas.{equal_versions}
 

@@ -1,16 +1,6 @@
 -- As many lots are held long as short once both sides of a trade exist.
-use Rattle.std.proofs.Common.{◌≡◌, ℕ, ◌+◌, Bool, ◌==◌, not, true, false, refl, arith}
+use Rattle.gu_rules.proofs.Words.{◌≡◌, ℕ, ◌+◌, Bool, ◌==◌, not, true, false, refl, arith, Decides-eqb, same_day, same_side, same_symbol, Report, Side, Buy, Sell, Symbol, same_symbol-true, both, lots_at_side, is_other_side}
 use Rattle.std.specs.Ordering.{int_eq}
-use Rattle.std.proofs.lemmas.Bool.Decides.{Decides-eqb}
-use Rattle.gu_terms.specs.Same.{same_day, same_side, same_symbol}
-use Rattle.gu_terms.specs.declared.report.Report.{Report}
-use Rattle.gu_terms.specs.declared.side.Side.{Side}
-use Rattle.gu_terms.specs.declared.side.Side.TheVariants.{Buy, Sell}
-use Rattle.gu_terms.specs.declared.symbol.Symbol.{Symbol}
-use Rattle.gu_terms.proofs.SameNames.{same_symbol-true}
-use Rattle.gu_terms.proofs.SameValues.{both}
-use Rattle.gu_positions.specs.Changes.{lots_at_side}
-use Rattle.gu_trades.specs.Matching.{is_other_side}
 
 -- lots of both sides of one instrument count equally on either
 pub sides-even : (one other : Side) (symbol on : Symbol) (lots : ℕ) → same_side one other ≡ false

@@ -1,26 +1,5 @@
 -- What is known of an offer for which a command is accepted.
-use Rattle.std.proofs.Common.{◌≡◌, ℕ, zero, suc, ◌+◌, ◌-◌, ◌<◌, ◌≤◌, ◌==◌, Bool, true, false, nat_lt, List, [], ◌∷◌, length, slice_get, slice_index_or, Option, Some, None, is_none, is_some, refl, ap, ◌∙◌, arith, ◌≢◌}
-use Rattle.std.specs.Option.{option_map_or}
-use Rattle.std.proofs.lemmas.Bool.{ltb-false}
-use Rattle.std.proofs.lemmas.Bool.Decides.{Decides-eqb}
-use Rattle.std.specs.Prelude.{slice_set}
-use Rattle.gu_terms.specs.declared.command.Command.TheVariants.{Claim, Refuse, Reverse}
-use Rattle.gu_terms.specs.declared.alloc_reject.AllocReject.{AllocReject}
-use Rattle.gu_terms.specs.declared.entry.Entry.{Entry}
-use Rattle.gu_terms.specs.declared.firm.FirmId.{FirmId}
-use Rattle.gu_terms.specs.declared.limit_key.LimitKey.{LimitKey}
-use Rattle.gu_terms.specs.declared.refusal.Refusal.{Refusal}
-use Rattle.gu_terms.specs.declared.refusal.Refusal.TheVariants.{UnknownOffer, OfferClosed, OfferOpen, NothingToReverse, LimitReached}
-use Rattle.gu_terms.specs.declared.report.Report.{Report}
-use Rattle.gu_ref.specs.Tables.{Tables}
-use Rattle.gu_offers.specs.Rows.{Row, left_in, left_of, row_at, today_in}
-use Rattle.gu_offers.specs.Changes.{changed}
-use Rattle.gu_rules.specs.Legal.{IsAccepted}
-use Rattle.gu_rules.specs.Answer.{done_of, room_tests, state_of, tests_of}
-use Rattle.gu_rules.specs.Limits.{path_after, room_of}
-use Rattle.gu_rules.specs.Offers.{standing_of}
-use Rattle.gu_rules.specs.Positions.{report_after}
-use Rattle.gu_rules.specs.Reports.{reports_of}
+use Rattle.gu_rules.proofs.Words.{◌≡◌, ℕ, zero, suc, ◌+◌, ◌-◌, ◌<◌, ◌≤◌, ◌==◌, Bool, true, false, nat_lt, List, [], ◌∷◌, length, slice_get, slice_index_or, Option, Some, None, is_none, is_some, refl, ap, ◌∙◌, arith, ◌≢◌, option_map_or, ltb-false, Decides-eqb, slice_set, Claim, Refuse, Reverse, AllocReject, Entry, FirmId, LimitKey, Refusal, UnknownOffer, OfferClosed, OfferOpen, NothingToReverse, LimitReached, Report, Tables, Row, left_in, left_of, row_at, today_in, changed, IsAccepted, done_of, room_tests, state_of, tests_of, path_after, room_of, standing_of, report_after, reports_of}
 use Rattle.gu_rules.proofs.InOrder.{IsInOrder}
 use Rattle.gu_rules.proofs.OrderlyLemmas.{all-at}
 use Rattle.gu_rules.proofs.Passing.{none_stands}

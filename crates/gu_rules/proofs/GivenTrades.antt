@@ -1,46 +1,8 @@
 -- Each offer of a legal history gives up a trade, and the two sides of a trade have as many lots.
-use Rattle.std.proofs.Common.{◌≡◌, ℕ, ◌+◌, ◌<◌, ◌&&◌, ◌++◌, Bool, true, false, not, List, [], ◌∷◌, length, map, slice_get, sum_by, Option, Some, None, is_none, is_some, if◌then◌else◌, refl, sym, ap, ◌∙◌, arith, append-nil, subst}
-use Rattle.std.specs.List.{AllByRecursion, IsDistinct, find}
-use Rattle.std.specs.Option.{option_map_or, option_or, option_to_list}
-use Rattle.std.proofs.lemmas.List.Folds.{find-append}
-use Rattle.gu_terms.proofs.Lists.{along, sum_by-add, sum_by-agree, sum_by-zeros}
-use Rattle.gu_terms.proofs.SameNames.{same_account-turned, same_symbol-own}
-use Rattle.gu_terms.specs.Same.{same_account, same_id, same_side, same_symbol}
-use Rattle.gu_terms.specs.declared.account.AccountId.{AccountId}
-use Rattle.gu_terms.specs.declared.command.Command.{Command}
-use Rattle.gu_terms.specs.declared.command.Command.TheVariants.{ReportSide, GiveUp}
+use Rattle.gu_rules.proofs.Words.{◌≡◌, ℕ, ◌+◌, ◌<◌, ◌&&◌, ◌++◌, Bool, true, false, not, List, [], ◌∷◌, length, map, slice_get, sum_by, Option, Some, None, is_none, is_some, if◌then◌else◌, refl, sym, ap, ◌∙◌, arith, append-nil, subst, AllByRecursion, IsDistinct, find, option_map_or, option_or, option_to_list, find-append, along, sum_by-add, sum_by-agree, sum_by-zeros, same_account-turned, same_symbol-own, same_account, same_id, same_side, same_symbol, AccountId, Command, ReportSide, GiveUp, Day, Entry, Asked, Swept, FirmId, Group, Id, Line, Offer, Refusal, UnknownAccount, Done, Reply, Accepted, Denied, Report, Side, Buy, Sell, Symbol, account_in, account_row, agreement_between, Tables, Account, lots_at, lots_at_side, conflicts, is_other_side, is_by, made_on, with_match, IsAccepted, IsLegal, MayFollow, accepted_entry, done_of, report_tests, state_of, tests_of, lines_by, offers_of, standing_of, traded, Fits, open_day, report_on, reports_of}
 use Rattle.gu_terms.specs.declared.command.GiveUp.{GiveUp as GiveUpOf}
-use Rattle.gu_terms.specs.declared.day.Day.{Day}
-use Rattle.gu_terms.specs.declared.entry.Entry.{Entry}
-use Rattle.gu_terms.specs.declared.entry.Entry.TheVariants.{Asked, Swept}
-use Rattle.gu_terms.specs.declared.firm.FirmId.{FirmId}
-use Rattle.gu_terms.specs.declared.group.Group.{Group}
-use Rattle.gu_terms.specs.declared.id.Id.{Id}
-use Rattle.gu_terms.specs.declared.lines.Line.{Line}
-use Rattle.gu_terms.specs.declared.offer.Offer.{Offer}
-use Rattle.gu_terms.specs.declared.refusal.Refusal.{Refusal}
-use Rattle.gu_terms.specs.declared.refusal.Refusal.TheVariants.{UnknownAccount}
-use Rattle.gu_terms.specs.declared.reply.Done.{Done}
-use Rattle.gu_terms.specs.declared.reply.Reply.{Reply}
-use Rattle.gu_terms.specs.declared.reply.Reply.TheVariants.{Accepted, Denied}
-use Rattle.gu_terms.specs.declared.report.Report.{Report}
-use Rattle.gu_terms.specs.declared.side.Side.{Side}
-use Rattle.gu_terms.specs.declared.side.Side.TheVariants.{Buy, Sell}
-use Rattle.gu_terms.specs.declared.symbol.Symbol.{Symbol}
-use Rattle.gu_ref.specs.Listed.{account_in}
-use Rattle.gu_ref.specs.Reference.{account_row, agreement_between}
-use Rattle.gu_ref.specs.Tables.{Tables}
-use Rattle.gu_ref.specs.declared.accounts.Account.{Account}
-use Rattle.gu_positions.specs.Changes.{lots_at, lots_at_side}
 use Rattle.gu_positions.specs.Rows.{Row as PositionRow, is_of}
-use Rattle.gu_trades.specs.Matching.{conflicts, is_other_side}
-use Rattle.gu_trades.specs.Reports.{is_by, made_on, with_match}
-use Rattle.gu_rules.specs.Legal.{IsAccepted, IsLegal, MayFollow, accepted_entry}
-use Rattle.gu_rules.specs.Answer.{done_of, report_tests, state_of, tests_of}
 use Rattle.gu_rules.specs.Laws.{AllGiveUpTrades, GivesUpTrade}
-use Rattle.gu_rules.specs.Offers.{lines_by, offers_of, standing_of}
-use Rattle.gu_rules.specs.Positions.{traded}
-use Rattle.gu_rules.specs.Reports.{Fits, open_day, report_on, reports_of}
 use Rattle.gu_rules.proofs.AcceptedCommands.{fits-in, giving_up, is-accepted}
 use Rattle.gu_rules.proofs.Even.{other-side, sides-even}
 use Rattle.gu_rules.proofs.Facts.{some-is}

@@ -1,30 +1,6 @@
 -- What is known of an accepted give-up.
-use Rattle.std.proofs.Common.{◌≡◌, ℕ, suc, ◌+◌, ◌-◌, ◌≤◌, Bool, true, false, not, nat_lt, List, [], length, slice_get, Option, Some, is_none, is_some, None, refl, sym, ap, ◌∙◌}
-use Rattle.std.specs.List.{AllByRecursion}
-use Rattle.std.specs.Option.{option_and_then, option_map, option_map_or}
-use Rattle.std.proofs.lemmas.Bool.{ltb-false}
-use Rattle.gu_terms.proofs.Lists.{along, any_none}
-use Rattle.gu_terms.specs.Lines.{lots_in_all}
-use Rattle.gu_terms.specs.declared.command.Command.TheVariants.{GiveUp}
+use Rattle.gu_rules.proofs.Words.{◌≡◌, ℕ, suc, ◌+◌, ◌-◌, ◌≤◌, Bool, true, false, not, nat_lt, List, [], length, slice_get, Option, Some, is_none, is_some, None, refl, sym, ap, ◌∙◌, AllByRecursion, option_and_then, option_map, option_map_or, ltb-false, along, any_none, lots_in_all, GiveUp, Entry, FirmId, Group, Id, Line, Refusal, NoAgreement, NotMatched, TooManyLots, TooManyOffers, UnknownAccount, UnknownTrade, Offered, Opened, Report, account_row, agreement_between, Tables, is_of_trade, report_by, counted_under, open_count, IsAccepted, State, done_of, given_up, group_of, has_unknown_account, lacks_agreement, lines_tests, state_of, tests_of, standing_of, reports_of}
 use Rattle.gu_terms.specs.declared.command.GiveUp.{GiveUp as GiveUpOf}
-use Rattle.gu_terms.specs.declared.entry.Entry.{Entry}
-use Rattle.gu_terms.specs.declared.firm.FirmId.{FirmId}
-use Rattle.gu_terms.specs.declared.group.Group.{Group}
-use Rattle.gu_terms.specs.declared.id.Id.{Id}
-use Rattle.gu_terms.specs.declared.lines.Line.{Line}
-use Rattle.gu_terms.specs.declared.refusal.Refusal.{Refusal}
-use Rattle.gu_terms.specs.declared.refusal.Refusal.TheVariants.{NoAgreement, NotMatched, TooManyLots, TooManyOffers, UnknownAccount, UnknownTrade}
-use Rattle.gu_terms.specs.declared.reply.Done.TheVariants.{Offered, Opened}
-use Rattle.gu_terms.specs.declared.report.Report.{Report}
-use Rattle.gu_ref.specs.Reference.{account_row, agreement_between}
-use Rattle.gu_ref.specs.Tables.{Tables}
-use Rattle.gu_trades.specs.Matching.{is_of_trade}
-use Rattle.gu_trades.specs.Reports.{report_by}
-use Rattle.gu_offers.specs.Rows.{counted_under, open_count}
-use Rattle.gu_rules.specs.Legal.{IsAccepted}
-use Rattle.gu_rules.specs.Answer.{State, done_of, given_up, group_of, has_unknown_account, lacks_agreement, lines_tests, state_of, tests_of}
-use Rattle.gu_rules.specs.Offers.{standing_of}
-use Rattle.gu_rules.specs.Reports.{reports_of}
 use Rattle.gu_rules.proofs.Facts.{some-of}
 use Rattle.gu_rules.proofs.KnownOnes.{some-not-none}
 use Rattle.gu_rules.proofs.Passing.{none_stands}

@@ -1,15 +1,6 @@
 -- One more entry.
-use Rattle.std.proofs.Common.{◌≡◌, ℕ, ◌+◌, ◌<◌, List, [], ◌∷◌, ◌++◌, length, take, Option, Some, None, refl, sym, ap, ◌∙◌, arith, length-append, append_assoc, append-nil, get_or}
-use Rattle.std.specs.List.{filter_map, last_or}
-use Rattle.std.specs.Option.{option_to_list}
-use Rattle.std.proofs.lemmas.List.{take_more}
-use Rattle.std.proofs.lemmas.List.Elements.{filter_map-append}
+use Rattle.gu_rules.proofs.Words.{◌≡◌, ℕ, ◌+◌, ◌<◌, List, [], ◌∷◌, ◌++◌, length, take, Option, Some, None, refl, sym, ap, ◌∙◌, arith, length-append, append_assoc, append-nil, get_or, filter_map, last_or, option_to_list, take_more, filter_map-append, Entry, Report, IsLegal, MayBeEntered, MayFollow, StandsLast, open_day, report_on, reports_after, reports_of, Tables}
 use Rattle.gu_terms.proofs.Gathered.{last_or-last, push_each}
-use Rattle.gu_terms.specs.declared.entry.Entry.{Entry}
-use Rattle.gu_terms.specs.declared.report.Report.{Report}
-use Rattle.gu_rules.specs.Legal.{IsLegal, MayBeEntered, MayFollow, StandsLast}
-use Rattle.gu_rules.specs.Reports.{open_day, report_on, reports_after, reports_of}
-use Rattle.gu_ref.specs.Tables.{Tables}
 
 -- what one more item gives is the last
 pub last-given : {X Y : Type 0} (given : X → Option Y) (before : List X) (item : X) (value : Y) → given item ≡ Some value → last_or None (filter_map given (before ++ item ∷ [])) ≡ Some value

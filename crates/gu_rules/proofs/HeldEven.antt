@@ -1,30 +1,6 @@
 -- Over all accounts, as many lots are held long as short.
-use Rattle.std.proofs.Common.{◌≡◌, ℕ, ◌+◌, ◌&&◌, Bool, true, false, List, [], ◌∷◌, sum_by, Option, Some, is_some, if◌then◌else◌, refl, sym, ap, ◌∙◌, subst, arith, inl, inr}
-use Rattle.std.specs.List.{AllByRecursion, IsDistinct}
-use Rattle.std.specs.Option.{option_map_or}
-use Rattle.std.proofs.lemmas.Bool.{cases_Bool}
-use Rattle.std.proofs.lemmas.List.Sums.{sum_by-cons}
-use Rattle.gu_terms.proofs.Lists.{sum_by-add, sum_by-agree, sum_by-swap}
-use Rattle.gu_terms.proofs.SameNames.{same_account-true}
-use Rattle.gu_terms.specs.Same.{same_account, same_side, same_symbol}
-use Rattle.gu_terms.specs.declared.account.AccountId.{AccountId}
-use Rattle.gu_terms.specs.declared.entry.Entry.{Entry}
-use Rattle.gu_terms.specs.declared.offer.Offer.{Offer}
-use Rattle.gu_terms.specs.declared.report.Report.{Report}
-use Rattle.gu_terms.specs.declared.side.Side.{Side}
-use Rattle.gu_terms.specs.declared.side.Side.TheVariants.{Buy, Sell}
-use Rattle.gu_terms.specs.declared.symbol.Symbol.{Symbol}
-use Rattle.gu_ref.specs.Reference.{account_row}
-use Rattle.gu_ref.specs.Tables.{Tables}
-use Rattle.gu_ref.specs.declared.accounts.Account.{Account}
-use Rattle.gu_offers.specs.Rows.{Row}
-use Rattle.gu_trades.specs.Matching.{is_of_trade}
-use Rattle.gu_trades.specs.Reports.{is_by}
+use Rattle.gu_rules.proofs.Words.{◌≡◌, ℕ, ◌+◌, ◌&&◌, Bool, true, false, List, [], ◌∷◌, sum_by, Option, Some, is_some, if◌then◌else◌, refl, sym, ap, ◌∙◌, subst, arith, inl, inr, AllByRecursion, IsDistinct, option_map_or, cases_Bool, sum_by-cons, sum_by-add, sum_by-agree, sum_by-swap, same_account-true, same_account, same_side, same_symbol, AccountId, Entry, Offer, Report, Side, Buy, Sell, Symbol, account_row, Tables, Account, Row, is_of_trade, is_by, offers_of, standing_from, standing_of, AreWithin, IsCovered, LongIsShort, brought, held_in, held_of, is_from, is_on, moved_into, moved_out, report_after, traded, reports_of}
 use Rattle.gu_rules.specs.Laws.{GivesUpTrade}
-use Rattle.gu_rules.specs.Offers.{offers_of, standing_from, standing_of}
-use Rattle.gu_rules.specs.Orderly.{AreWithin, IsCovered}
-use Rattle.gu_rules.specs.Positions.{LongIsShort, brought, held_in, held_of, is_from, is_on, moved_into, moved_out, report_after, traded}
-use Rattle.gu_rules.specs.Reports.{reports_of}
 use Rattle.gu_rules.proofs.ChangedSums.{moved_out-le-traded}
 use Rattle.gu_rules.proofs.GivenTrades.{IsSourced, alone-if, traded_on}
 use Rattle.gu_rules.proofs.KnownOnes.{all-found, is_there}

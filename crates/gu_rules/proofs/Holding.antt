@@ -1,21 +1,6 @@
 -- No more of an account's reports is given up than it traded.
-use Rattle.std.proofs.Common.{◌≡◌, ℕ, ◌≤◌, ◌&&◌, Bool, true, false, List, sum_by, Option, Some, None, refl, sym, ◌∙◌, arith, if◌then◌else◌, inl, inr}
-use Rattle.std.proofs.lemmas.Bool.{cases_Bool}
-use Rattle.std.proofs.lemmas.List.Sums.{sum_by-le-sum_by}
-use Rattle.gu_terms.proofs.SameNames.{same_firm-own, same_firm-true, same_id-own, same_id-true}
-use Rattle.gu_terms.specs.Same.{same_account, same_firm, same_id, same_side, same_symbol}
-use Rattle.gu_terms.proofs.Lists.{along, sum_by-mono, sum_by-swap, sum_by-zeros}
-use Rattle.gu_terms.proofs.SameValues.{both}
-use Rattle.gu_terms.specs.declared.account.AccountId.{AccountId}
-use Rattle.gu_terms.specs.declared.report.Report.{Report}
-use Rattle.gu_terms.specs.declared.side.Side.{Side}
-use Rattle.gu_terms.specs.declared.symbol.Symbol.{Symbol}
+use Rattle.gu_rules.proofs.Words.{◌≡◌, ℕ, ◌≤◌, ◌&&◌, Bool, true, false, List, sum_by, Option, Some, None, refl, sym, ◌∙◌, arith, if◌then◌else◌, inl, inr, cases_Bool, sum_by-le-sum_by, same_firm-own, same_firm-true, same_id-own, same_id-true, same_account, same_firm, same_id, same_side, same_symbol, along, sum_by-mono, sum_by-swap, sum_by-zeros, both, AccountId, Report, Side, Symbol, is_of_trade, is_by, Row, counted_of, counted_under, is_of_report, IsCovered, lots_traded, brought, is_from, is_on, report_after, traded}
 use Rattle.gu_positions.proofs.Changed.{find-passes, found_within_sum}
-use Rattle.gu_trades.specs.Matching.{is_of_trade}
-use Rattle.gu_trades.specs.Reports.{is_by}
-use Rattle.gu_offers.specs.Rows.{Row, counted_of, counted_under, is_of_report}
-use Rattle.gu_rules.specs.Orderly.{IsCovered, lots_traded}
-use Rattle.gu_rules.specs.Positions.{brought, is_from, is_on, report_after, traded}
 
 -- a report is on this side of this instrument, for this account
 abbrev is_at : Side → AccountId → Symbol → Report → Bool

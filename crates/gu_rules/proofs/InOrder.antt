@@ -1,9 +1,5 @@
 -- Orderly histories, whatever the number of offers.
-use Rattle.std.proofs.Common.{◌*◌, ◌≤◌, List, length, [], refl, arith}
-use Rattle.gu_terms.specs.declared.entry.Entry.{Entry}
-use Rattle.gu_rules.specs.Offers.{offers_of, standing_of}
-use Rattle.gu_rules.specs.Orderly.{AreFound, AreOwn, AreWithin, IsBalanced, IsCovered, IsNamed, IsOrderly}
-use Rattle.gu_rules.specs.Reports.{reports_of}
+use Rattle.gu_rules.proofs.Words.{◌*◌, ◌≤◌, List, length, [], refl, arith, Entry, offers_of, standing_of, AreFound, AreOwn, AreWithin, IsBalanced, IsCovered, IsNamed, IsOrderly, reports_of}
 
 -- everything except the number of offers
 pub record IsInOrder (history : List Entry) : Type 0 where

@@ -1,10 +1,5 @@
 -- Elements found in a list with a property of each, and accounts in the reference.
-use Rattle.std.proofs.Common.{◌≡◌, true, is_some, Bool, List, [], ◌∷◌, Some, refl, sym, ◌∙◌, subst, inl, inr, false, filter, if◌then◌else◌, Option, None, is_none}
-use Rattle.std.proofs.lemmas.Bool.{cases_Bool}
-use Rattle.std.specs.List.{AllByRecursion, find}
-use Rattle.gu_terms.specs.declared.account.AccountId.{AccountId}
-use Rattle.gu_ref.specs.Reference.{account_row}
-use Rattle.gu_ref.specs.Tables.{Tables}
+use Rattle.gu_rules.proofs.Words.{◌≡◌, true, is_some, Bool, List, [], ◌∷◌, Some, refl, sym, ◌∙◌, subst, inl, inr, false, filter, if◌then◌else◌, Option, None, is_none, cases_Bool, AllByRecursion, find, AccountId, account_row, Tables}
 
 -- an account is in the reference
 abbrev pub is_there : Tables → AccountId → Type 0

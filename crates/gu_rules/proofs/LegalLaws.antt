@@ -1,32 +1,5 @@
 -- Laws of legal histories.
-use Rattle.std.proofs.Common.{◌≡◌, ℕ, ◌+◌, ◌*◌, ◌≤◌, ◌++◌, true, false, suc, List, [], ◌∷◌, length, take, slice_get, Option, Some, is_some, refl, sym, ap, ◌∙◌, arith, length-append, take-append-drop}
-use Rattle.std.proofs.lemmas.List.{length-map, length-take}
-use Rattle.std.proofs.lemmas.Option.{slice_get_within}
-use Rattle.std.specs.Prelude.{drop}
-use Rattle.gu_terms.specs.declared.account.AccountId.{AccountId}
-use Rattle.gu_terms.specs.declared.agreement.AgreementId.{AgreementId}
-use Rattle.gu_terms.specs.declared.command.Command.TheVariants.{GiveUp}
-use Rattle.gu_terms.specs.declared.entry.Entry.{Entry}
-use Rattle.gu_terms.specs.declared.entry.Entry.TheVariants.{Asked}
-use Rattle.gu_terms.specs.declared.firm.FirmId.{FirmId}
-use Rattle.gu_terms.specs.declared.group.Group.{Group}
-use Rattle.gu_terms.specs.declared.limit_key.LimitKey.{LimitKey}
-use Rattle.gu_terms.specs.declared.lines.Line.{Line}
-use Rattle.gu_terms.specs.declared.offer.Offer.{Offer}
-use Rattle.gu_terms.specs.declared.reply.Done.TheVariants.{Offered}
-use Rattle.gu_terms.specs.declared.reply.Reply.TheVariants.{Accepted}
-use Rattle.gu_terms.specs.declared.side.Side.{Side}
-use Rattle.gu_terms.specs.declared.symbol.Symbol.{Symbol}
-use Rattle.gu_limits.specs.Paths.{path_of}
-use Rattle.gu_ref.specs.Reference.{account_row, agreement_between}
-use Rattle.gu_ref.specs.Rules.{IsSound}
-use Rattle.gu_ref.specs.Tables.{Tables}
-use Rattle.gu_rules.specs.Legal.{IsLegal, MayBeEntered}
-use Rattle.gu_rules.specs.Offers.{lines_by, offers_of, standing_of}
-use Rattle.gu_rules.specs.Positions.{LongIsShort, held_of, moved_out, traded}
-use Rattle.gu_rules.specs.Reports.{reports_of}
-use Rattle.gu_rules.specs.Versions.{touches}
-use Rattle.gu_rules.specs.Views.{group_view}
+use Rattle.gu_rules.proofs.Words.{◌≡◌, ℕ, ◌+◌, ◌*◌, ◌≤◌, ◌++◌, true, false, suc, List, [], ◌∷◌, length, take, slice_get, Option, Some, is_some, refl, sym, ap, ◌∙◌, arith, length-append, take-append-drop, length-map, length-take, slice_get_within, drop, AccountId, AgreementId, GiveUp, Entry, Asked, FirmId, Group, LimitKey, Line, Offer, Offered, Accepted, Side, Symbol, path_of, account_row, agreement_between, IsSound, Tables, IsLegal, MayBeEntered, lines_by, offers_of, standing_of, LongIsShort, held_of, moved_out, traded, reports_of, touches, group_view}
 use Rattle.gu_rules.proofs.AgreementPaths.{path-there}
 use Rattle.gu_rules.proofs.ChangedSums.{moved_out-le-traded}
 use Rattle.gu_rules.proofs.Elsewhere.{view-elsewhere}

@@ -1,36 +1,7 @@
 -- Every legal history is orderly; no group has more than 4,096 open offers, and each offer was made under an agreement.
-use Rattle.std.proofs.Common.{◌≡◌, ℕ, ◌+◌, ◌<◌, ◌≤◌, ◌++◌, List, [], ◌∷◌, length, Option, Some, is_none, refl, sym, ap, ◌∙◌, arith, append-nil, append_assoc, subst}
-use Rattle.std.specs.List.{AllByRecursion}
-use Rattle.std.specs.Option.{option_map_or, option_to_list}
-use Rattle.gu_terms.proofs.Lists.{Later, Later-from_AllPairs, along, along2}
-use Rattle.gu_terms.specs.declared.command.Command.{Command}
-use Rattle.gu_terms.specs.declared.command.Command.TheVariants.{OpenDay, SetLimit, ReportSide, GiveUp, Claim, Refuse, Reverse}
+use Rattle.gu_rules.proofs.Words.{◌≡◌, ℕ, ◌+◌, ◌<◌, ◌≤◌, ◌++◌, List, [], ◌∷◌, length, Option, Some, is_none, refl, sym, ap, ◌∙◌, arith, append-nil, append_assoc, subst, AllByRecursion, option_map_or, option_to_list, Later, Later-from_AllPairs, along, along2, Command, OpenDay, SetLimit, ReportSide, GiveUp, Claim, Refuse, Reverse, Day, Entry, Asked, Swept, SweepEntry, FirmId, Id, Refusal, NoDay, Done, Reply, Accepted, Denied, Report, Take, Tables, made_on, changed, taken, Row, left_in, left_of, row_at, IsAccepted, IsLegal, MayFollow, accepted_entry, done_of, state_of, tests_of, IsShown, IsSweepOf, part, parts, standing_of, open_day, report_on, reports_of, group_view, offers_shown}
 use Rattle.gu_terms.specs.declared.command.GiveUp.{GiveUp as GiveUpOf}
 use Rattle.gu_terms.specs.declared.command.ReportSide.{ReportSide as ReportSideOf}
-use Rattle.gu_terms.specs.declared.day.Day.{Day}
-use Rattle.gu_terms.specs.declared.entry.Entry.{Entry}
-use Rattle.gu_terms.specs.declared.entry.Entry.TheVariants.{Asked, Swept}
-use Rattle.gu_terms.specs.declared.entry.SweepEntry.{SweepEntry}
-use Rattle.gu_terms.specs.declared.firm.FirmId.{FirmId}
-use Rattle.gu_terms.specs.declared.id.Id.{Id}
-use Rattle.gu_terms.specs.declared.refusal.Refusal.{Refusal}
-use Rattle.gu_terms.specs.declared.refusal.Refusal.TheVariants.{NoDay}
-use Rattle.gu_terms.specs.declared.reply.Done.{Done}
-use Rattle.gu_terms.specs.declared.reply.Reply.{Reply}
-use Rattle.gu_terms.specs.declared.reply.Reply.TheVariants.{Accepted, Denied}
-use Rattle.gu_terms.specs.declared.report.Report.{Report}
-use Rattle.gu_terms.specs.declared.takes.Take.{Take}
-use Rattle.gu_ref.specs.Tables.{Tables}
-use Rattle.gu_trades.specs.Reports.{made_on}
-use Rattle.gu_offers.specs.Changes.{changed, taken}
-use Rattle.gu_offers.specs.Rows.{Row, left_in, left_of, row_at}
-use Rattle.gu_rules.specs.Legal.{IsAccepted, IsLegal, MayFollow, accepted_entry}
-use Rattle.gu_rules.specs.Answer.{done_of, state_of, tests_of}
-use Rattle.gu_rules.specs.Orderly.{IsShown}
-use Rattle.gu_rules.specs.Sweeps.{IsSweepOf, part, parts}
-use Rattle.gu_rules.specs.Offers.{standing_of}
-use Rattle.gu_rules.specs.Reports.{open_day, report_on, reports_of}
-use Rattle.gu_rules.specs.Views.{group_view, offers_shown}
 use Rattle.gu_rules.proofs.AcceptedCommands.{fits-in, giving_up, is-accepted, opening, setting}
 use Rattle.gu_rules.proofs.InOrder.{IsInOrder, in_order, nothing-orderly}
 use Rattle.gu_rules.proofs.Facts.{claimable, open-there, refusable, reversible, row_at-other, some-of, today-is}

@@ -43,3 +43,4 @@ pub mod Today
 pub mod UnknownGroups
 pub mod VersionLemmas
 pub mod ViewLemmas
+pub mod Words

@@ -1,8 +1,5 @@
 -- Sums over offers after one of them changes.
-use Rattle.std.proofs.Common.{◌≡◌, ◌≢◌, ℕ, zero, suc, ◌+◌, ◌<◌, List, [], ◌∷◌, sum_by, Some, refl, sym, ap, arith, slice_get, subst}
-use Rattle.std.proofs.lemmas.List.Sums.{sum_by-cons}
-use Rattle.gu_terms.specs.declared.entry.Entry.{Entry}
-use Rattle.gu_offers.specs.Rows.{Row}
+use Rattle.gu_rules.proofs.Words.{◌≡◌, ◌≢◌, ℕ, zero, suc, ◌+◌, ◌<◌, List, [], ◌∷◌, sum_by, Some, refl, sym, ap, arith, slice_get, subst, sum_by-cons, Entry, Row}
 use Rattle.gu_rules.proofs.StandingLemmas.{stepped, stepped_from}
 
 -- an entry changes no offer except one

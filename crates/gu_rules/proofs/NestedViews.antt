@@ -1,25 +1,7 @@
 -- Views of the book are nested: an account is carried by one firm, and a firm has at most one guarantor.
-use Rattle.std.proofs.Common.{◌≡◌, ◌||◌, Bool, true, false, List, Option, Some, None, refl, sym, ap, ◌∙◌}
-use Rattle.std.specs.Prelude.{All}
-use Rattle.std.specs.List.{AllByRecursion}
-use Rattle.std.specs.Option.{option_map}
-use Rattle.std.proofs.lemmas.List.Elements.{All-from_recursion}
-use Rattle.gu_terms.proofs.KeyLemmas.{key_eq-refl}
-use Rattle.gu_terms.proofs.Lists.{along}
-use Rattle.gu_terms.proofs.SameNames.{same_account-true, same_firm-true}
-use Rattle.gu_terms.specs.LimitKeys.{has_key}
+use Rattle.gu_rules.proofs.Words.{◌≡◌, ◌||◌, Bool, true, false, List, Option, Some, None, refl, sym, ap, ◌∙◌, All, AllByRecursion, option_map, All-from_recursion, key_eq-refl, along, same_account-true, same_firm-true, has_key, same_account, same_firm, AccountId, AgreementId, FirmId, LimitKey, account_row, guarantor_of, Tables, Account, GoOnAlike, GroupView, IsNested, IsPath, next_key, ViewOffer}
 use Rattle.gu_terms.specs.Paths.{path_through}
-use Rattle.gu_terms.specs.Same.{same_account, same_firm}
-use Rattle.gu_terms.specs.declared.account.AccountId.{AccountId}
-use Rattle.gu_terms.specs.declared.agreement.AgreementId.{AgreementId}
-use Rattle.gu_terms.specs.declared.firm.FirmId.{FirmId}
-use Rattle.gu_terms.specs.declared.limit_key.LimitKey.{LimitKey}
 use Rattle.gu_terms.specs.declared.limit_key.LimitKey.TheVariants.{Acct, Carry, Guar}
-use Rattle.gu_ref.specs.Reference.{account_row, guarantor_of}
-use Rattle.gu_ref.specs.Tables.{Tables}
-use Rattle.gu_ref.specs.declared.accounts.Account.{Account}
-use Rattle.gu_view.specs.View.{GoOnAlike, GroupView, IsNested, IsPath, next_key}
-use Rattle.gu_view.specs.declared.view.ViewOffer.{ViewOffer}
 use Rattle.gu_rules.proofs.AgreementPaths.{GoesThrough, goes_through}
 use Rattle.gu_rules.proofs.ViewLemmas.{HasPath}
 

@@ -1,11 +1,5 @@
 -- A property of no entries that one more entry keeps is one of every legal history.
-use Rattle.std.proofs.Common.{◌≡◌, ℕ, ◌<◌, ◌++◌, List, [], ◌∷◌, length, slice_get, take, Some, refl, sym, ap, ◌∙◌, arith, append_assoc, append-nil, subst}
-use Rattle.std.proofs.Math.Seq.{take-append_seam}
-use Rattle.std.proofs.lemmas.List.{length-take}
-use Rattle.std.proofs.lemmas.Option.{slice_get_within}
-use Rattle.gu_terms.specs.declared.entry.Entry.{Entry}
-use Rattle.gu_ref.specs.Tables.{Tables}
-use Rattle.gu_rules.specs.Legal.{IsLegal, MayFollow}
+use Rattle.gu_rules.proofs.Words.{◌≡◌, ℕ, ◌<◌, ◌++◌, List, [], ◌∷◌, length, slice_get, take, Some, refl, sym, ap, ◌∙◌, arith, append_assoc, append-nil, subst, take-append_seam, length-take, slice_get_within, Entry, Tables, IsLegal, MayFollow}
 
 -- the entry after others is at their number
 seam : (before later : List Entry) (entry : Entry) → slice_get (before ++ entry ∷ later) (length before) ≡ Some entry

@@ -1,23 +1,6 @@
 -- An orderly history stays orderly after one more report.
-use Rattle.std.proofs.Common.{◌≡◌, false, List, Option, Some, None, is_some, refl, ◌∙◌, ℕ, true, [], ◌∷◌, sym, ap, arith, if◌then◌else◌, inl, inr, ◌++◌, ◌≤◌, Bool}
-use Rattle.std.proofs.lemmas.Bool.{cases_Bool}
-use Rattle.std.proofs.lemmas.List.Folds.{find-append}
-use Rattle.std.proofs.lemmas.List.Sums.{sum_by-cons}
-use Rattle.std.specs.List.{AllByRecursion, find}
-use Rattle.std.specs.Option.{option_or}
+use Rattle.gu_rules.proofs.Words.{◌≡◌, false, List, Option, Some, None, is_some, refl, ◌∙◌, ℕ, true, [], ◌∷◌, sym, ap, arith, if◌then◌else◌, inl, inr, ◌++◌, ◌≤◌, Bool, cases_Bool, find-append, sum_by-cons, AllByRecursion, find, option_or, along, same_firm-own, same_firm-true, same_id-own, same_id-true, both, Entry, Report, is_of_trade, has_report, is_by, report_by, Row, counted_of, counted_under, is_of_report, standing_of, AreFound, AreOwn, IsCovered, lots_traded, report_after, Fits, opened_day, reports_of}
 use Rattle.gu_terms.proofs.Found.{is_some-find}
-use Rattle.gu_terms.proofs.Lists.{along}
-use Rattle.gu_terms.proofs.SameNames.{same_firm-own, same_firm-true, same_id-own, same_id-true}
-use Rattle.gu_terms.proofs.SameValues.{both}
-use Rattle.gu_terms.specs.declared.entry.Entry.{Entry}
-use Rattle.gu_terms.specs.declared.report.Report.{Report}
-use Rattle.gu_trades.specs.Matching.{is_of_trade}
-use Rattle.gu_trades.specs.Reports.{has_report, is_by, report_by}
-use Rattle.gu_offers.specs.Rows.{Row, counted_of, counted_under, is_of_report}
-use Rattle.gu_rules.specs.Offers.{standing_of}
-use Rattle.gu_rules.specs.Orderly.{AreFound, AreOwn, IsCovered, lots_traded}
-use Rattle.gu_rules.specs.Positions.{report_after}
-use Rattle.gu_rules.specs.Reports.{Fits, opened_day, reports_of}
 use Rattle.gu_rules.proofs.Balanced.{balanced-push, named-push}
 use Rattle.gu_rules.proofs.InOrder.{IsInOrder}
 use Rattle.gu_rules.proofs.Reported.{behind-push, is_of_trade-grows}

@@ -1,28 +1,5 @@
 -- What holds of every legal history still holds after one more entry.
-use Rattle.std.proofs.Common.{◌≡◌, ◌≢◌, ℕ, zero, suc, ◌+◌, ◌*◌, ◌-◌, ◌<◌, ◌≤◌, true, false, List, [], ◌∷◌, ◌++◌, length, map, Option, Some, None, is_some, refl, sym, ap, ◌∙◌, arith, length-append, append-nil, subst, ◌==◌, inl, inr}
-use Rattle.std.proofs.lemmas.Bool.{cases_Bool}
-use Rattle.std.proofs.lemmas.Bool.Decides.{Decides-eqb}
-use Rattle.std.proofs.lemmas.List.{length-map}
-use Rattle.std.specs.List.{AllByRecursion}
-use Rattle.std.specs.Prelude.{slice_get, slice_set}
-use Rattle.std.specs.Option.{option_to_list}
-use Rattle.gu_terms.specs.Lines.{lots_in_all}
-use Rattle.gu_terms.specs.declared.alloc_reject.AllocReject.{AllocReject}
-use Rattle.gu_terms.specs.declared.day.Day.{Day}
-use Rattle.gu_terms.specs.declared.entry.Entry.{Entry}
-use Rattle.gu_terms.specs.declared.firm.FirmId.{FirmId}
-use Rattle.gu_terms.specs.declared.group.Group.{Group}
-use Rattle.gu_terms.specs.declared.lines.Line.{Line}
-use Rattle.gu_terms.specs.declared.offer.Offer.{Offer}
-use Rattle.gu_terms.specs.declared.report.Report.{Report}
-use Rattle.gu_trades.specs.Matching.{is_of_trade}
-use Rattle.gu_trades.specs.Reports.{report_by}
-use Rattle.gu_offers.specs.Changes.{changed, closed, next_day, offered, reversed, taken, with_lines}
-use Rattle.gu_offers.specs.Rows.{Row, counted_under, row_at}
-use Rattle.gu_rules.specs.Offers.{closes, given_back_by, lines_by, moved_of, offers_of, standing, standing_from, standing_of, taken_by}
-use Rattle.gu_rules.specs.Orderly.{AreFound, AreOwn, AreWithin, IsBalanced, IsCovered, IsNamed, IsOrderly}
-use Rattle.gu_rules.specs.Positions.{report_after}
-use Rattle.gu_rules.specs.Reports.{entries_today, open_day, opened_day, report_on, reports_of}
+use Rattle.gu_rules.proofs.Words.{◌≡◌, ◌≢◌, ℕ, zero, suc, ◌+◌, ◌*◌, ◌-◌, ◌<◌, ◌≤◌, true, false, List, [], ◌∷◌, ◌++◌, length, map, Option, Some, None, is_some, refl, sym, ap, ◌∙◌, arith, length-append, append-nil, subst, ◌==◌, inl, inr, cases_Bool, Decides-eqb, length-map, AllByRecursion, slice_get, slice_set, option_to_list, lots_in_all, AllocReject, Day, Entry, FirmId, Group, Line, Offer, Report, is_of_trade, report_by, changed, closed, next_day, offered, reversed, taken, with_lines, Row, counted_under, row_at, closes, given_back_by, lines_by, moved_of, offers_of, standing, standing_from, standing_of, taken_by, AreFound, AreOwn, AreWithin, IsBalanced, IsCovered, IsNamed, IsOrderly, report_after, entries_today, open_day, opened_day, report_on, reports_of}
 use Rattle.gu_rules.proofs.Balanced.{balanced-opened, balanced-push, named-opened, named-push}
 use Rattle.gu_rules.proofs.Covered.{covered-closed, covered-next_day, covered-reversed, covered-taken, covered-with_lines}
 use Rattle.gu_rules.proofs.Growing.{reports_of-push}

@@ -1,27 +1,5 @@
 -- A sweep has the same effect as its takes, one after another.
-use Rattle.std.proofs.Common.{◌≡◌, ℕ, ◌+◌, ◌<◌, ◌==◌, List, [], ◌∷◌, ◌++◌, length, sum_by, if◌then◌else◌, refl, sym, ap, ◌∙◌, arith, append-nil, append_assoc, subst, inl, inr}
-use Rattle.std.proofs.lemmas.Bool.{cases_Bool}
-use Rattle.std.proofs.lemmas.Bool.Decides.{Decides-eqb}
-use Rattle.std.proofs.lemmas.List.Sums.{sum_by-append, sum_by-cons, sum_by_push}
-use Rattle.std.specs.List.{AllByRecursion}
-use Rattle.gu_terms.proofs.Lists.{Later, Later-from_AllPairs}
-use Rattle.gu_terms.specs.Takes.{IsAscending, lots_of}
-use Rattle.gu_terms.specs.declared.entry.Entry.{Entry}
-use Rattle.gu_terms.specs.declared.entry.Entry.TheVariants.{Swept}
-use Rattle.gu_terms.specs.declared.entry.SweepEntry.{SweepEntry}
-use Rattle.gu_terms.specs.declared.firm.FirmId.{FirmId}
-use Rattle.gu_terms.specs.declared.group.Group.{Group}
-use Rattle.gu_terms.specs.declared.id.Id.{Id}
-use Rattle.gu_terms.specs.declared.limit_key.LimitKey.{LimitKey}
-use Rattle.gu_terms.specs.declared.offer.Offer.{Offer}
-use Rattle.gu_terms.specs.declared.report.Report.{Report}
-use Rattle.gu_terms.specs.declared.takes.Take.{Take}
-use Rattle.gu_offers.specs.Rows.{Row}
-use Rattle.gu_rules.specs.Limits.{limit_set}
-use Rattle.gu_rules.specs.Sweeps.{part, parts}
-use Rattle.gu_rules.specs.Offers.{given_back_by, has_give_up, is_shut, moved_of, offers_of, standing_from, standing_of, taken_by}
-use Rattle.gu_rules.specs.Orderly.{AreFound, AreOwn, AreWithin, IsCovered}
-use Rattle.gu_rules.specs.Reports.{entries_today, open_day, reports_of}
+use Rattle.gu_rules.proofs.Words.{◌≡◌, ℕ, ◌+◌, ◌<◌, ◌==◌, List, [], ◌∷◌, ◌++◌, length, sum_by, if◌then◌else◌, refl, sym, ap, ◌∙◌, arith, append-nil, append_assoc, subst, inl, inr, cases_Bool, Decides-eqb, sum_by-append, sum_by-cons, sum_by_push, AllByRecursion, Later, Later-from_AllPairs, IsAscending, lots_of, Entry, Swept, SweepEntry, FirmId, Group, Id, LimitKey, Offer, Report, Take, Row, limit_set, part, parts, given_back_by, has_give_up, is_shut, moved_of, offers_of, standing_from, standing_of, taken_by, AreFound, AreOwn, AreWithin, IsCovered, entries_today, open_day, reports_of}
 use Rattle.gu_rules.proofs.InOrder.{IsInOrder}
 use Rattle.gu_rules.proofs.OrderlyLemmas.{reports_of-kept}
 use Rattle.gu_rules.proofs.Quiet.{has_give_up-kept, limit_set-kept, open_day-kept}

@@ -1,14 +1,5 @@
 -- Commands that pass all tests.
-use Rattle.std.proofs.Common.{◌≡◌, ℕ, Bool, true, false, List, [], ◌∷◌, ◌++◌, Option, Some, None, slice_get, zero, suc, refl, sym, ap, nat_lt, inl, inr}
-use Rattle.std.specs.List.{find}
-use Rattle.std.specs.Option.{option_map, option_map_or}
-use Rattle.std.proofs.lemmas.Bool.{cases_Bool}
-use Rattle.gu_terms.specs.declared.refusal.Refusal.{Refusal}
-use Rattle.gu_terms.specs.declared.reply.Done.{Done}
-use Rattle.gu_terms.specs.declared.reply.Reply.TheVariants.{Accepted, Denied}
-use Rattle.gu_terms.specs.declared.limit_key.LimitKey.{LimitKey}
-use Rattle.gu_terms.specs.declared.refusal.Refusal.TheVariants.{LimitReached}
-use Rattle.gu_rules.specs.Answer.{first_standing, refusal_in, room_tests}
+use Rattle.gu_rules.proofs.Words.{◌≡◌, ℕ, Bool, true, false, List, [], ◌∷◌, ◌++◌, Option, Some, None, slice_get, zero, suc, refl, sym, ap, nat_lt, inl, inr, find, option_map, option_map_or, cases_Bool, Refusal, Done, Accepted, Denied, LimitKey, LimitReached, first_standing, refusal_in, room_tests}
 
 -- if a command is accepted, no test holds
 pub none_stands : (tests : List (Bool × Refusal)) (done given : Done) → first_standing tests done ≡ Accepted given → (k : ℕ) (stands : Bool) (why : Refusal) → slice_get tests k ≡ Some (stands, why) → stands ≡ false

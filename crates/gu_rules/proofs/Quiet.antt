@@ -1,20 +1,5 @@
 -- Entries that open no day, report nothing, give nothing up and set no limit.
-use Rattle.std.proofs.Common.{◌≡◌, ◌||◌, false, List, [], ◌∷◌, ◌++◌, Option, Some, None, refl, ap, ◌∙◌}
-use Rattle.std.proofs.lemmas.List.Folds.{list_any-append}
-use Rattle.gu_terms.specs.declared.command.Command.{Command}
-use Rattle.gu_terms.specs.declared.command.Command.TheVariants.{OpenDay}
-use Rattle.gu_terms.specs.declared.day.Day.{Day}
-use Rattle.gu_terms.specs.declared.entry.Entry.{Entry}
-use Rattle.gu_terms.specs.declared.entry.Entry.TheVariants.{Asked}
-use Rattle.gu_terms.specs.declared.firm.FirmId.{FirmId}
-use Rattle.gu_terms.specs.declared.group.Group.{Group}
-use Rattle.gu_terms.specs.declared.id.Id.{Id}
-use Rattle.gu_terms.specs.declared.limit_key.LimitKey.{LimitKey}
-use Rattle.gu_terms.specs.declared.refusal.Refusal.{Refusal}
-use Rattle.gu_terms.specs.declared.reply.Reply.TheVariants.{Denied}
-use Rattle.gu_rules.specs.Limits.{limit_set, limit_set_by}
-use Rattle.gu_rules.specs.Offers.{gave_up, has_give_up, lines_by}
-use Rattle.gu_rules.specs.Reports.{open_day, opened_day, report_on}
+use Rattle.gu_rules.proofs.Words.{◌≡◌, ◌||◌, false, List, [], ◌∷◌, ◌++◌, Option, Some, None, refl, ap, ◌∙◌, list_any-append, Command, OpenDay, Day, Entry, Asked, FirmId, Group, Id, LimitKey, Refusal, Denied, limit_set, limit_set_by, gave_up, has_give_up, lines_by, open_day, opened_day, report_on}
 use Rattle.gu_rules.proofs.Growing.{last-kept}
 use Rattle.gu_rules.proofs.StandingLemmas.{either-false}
 

@@ -1,25 +1,5 @@
 -- The effect of one more report.
-use Rattle.std.proofs.Common.{◌≡◌, ℕ, ◌+◌, ◌≤◌, ◌&&◌, nat_le, Bool, true, false, List, [], ◌∷◌, ◌++◌, length, filter, sum_by, Option, Some, None, is_some, refl, sym, ap, ◌∙◌, arith, append-nil, length-append, if◌then◌else◌, inl, inr}
-use Rattle.std.specs.List.{find}
-use Rattle.std.specs.Option.{option_or}
-use Rattle.std.proofs.lemmas.Bool.{cases_Bool, le-leb, leb-true}
-use Rattle.std.proofs.lemmas.List.Elements.{filter-append}
-use Rattle.std.proofs.lemmas.List.Folds.{find-append}
-use Rattle.std.proofs.lemmas.List.Sums.{sum_by-append, sum_by-cons}
-use Rattle.gu_terms.proofs.SameNames.{same_id-own, same_id-true, same_id-turned}
-use Rattle.gu_terms.specs.Same.{same_account, same_id, same_side, same_symbol}
-use Rattle.gu_terms.specs.declared.account.AccountId.{AccountId}
-use Rattle.gu_terms.specs.declared.id.Id.{Id}
-use Rattle.gu_terms.specs.declared.report.Report.{Report}
-use Rattle.gu_terms.specs.declared.side.Side.{Side}
-use Rattle.gu_terms.specs.declared.symbol.Symbol.{Symbol}
-use Rattle.gu_terms.proofs.Lists.{sum_by-add, sum_by-agree}
-use Rattle.gu_trades.specs.Matching.{is_of_trade}
-use Rattle.gu_trades.specs.Reports.{is_by, with_match}
-use Rattle.gu_positions.specs.Changes.{lots_at}
-use Rattle.gu_offers.specs.Rows.{Row}
-use Rattle.gu_rules.specs.Orderly.{AreFound}
-use Rattle.gu_rules.specs.Positions.{brought, is_from, is_on, moved_into, moved_out, report_after, traded}
+use Rattle.gu_rules.proofs.Words.{◌≡◌, ℕ, ◌+◌, ◌≤◌, ◌&&◌, nat_le, Bool, true, false, List, [], ◌∷◌, ◌++◌, length, filter, sum_by, Option, Some, None, is_some, refl, sym, ap, ◌∙◌, arith, append-nil, length-append, if◌then◌else◌, inl, inr, find, option_or, cases_Bool, le-leb, leb-true, filter-append, find-append, sum_by-append, sum_by-cons, same_id-own, same_id-true, same_id-turned, same_account, same_id, same_side, same_symbol, AccountId, Id, Report, Side, Symbol, sum_by-add, sum_by-agree, is_of_trade, is_by, with_match, lots_at, Row, AreFound, brought, is_from, is_on, moved_into, moved_out, report_after, traded}
 
 -- the reports with a match id, after one more report
 with_match-push : (match_id : Id) (reports : List Report) (r : Report) → with_match match_id (reports ++ r ∷ []) ≡ with_match match_id reports ++ (if same_id r.match_id match_id then r ∷ [] else [])

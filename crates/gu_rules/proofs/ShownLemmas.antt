@@ -1,22 +1,5 @@
 -- No group has more than 4,096 open offers, and each was made under an agreement: changes that preserve this.
-use Rattle.std.proofs.Common.{◌≡◌, ℕ, zero, suc, ◌+◌, ◌-◌, ◌<◌, ◌≤◌, Bool, true, false, cond, ◌&&◌, List, [], ◌∷◌, ◌++◌, length, map, Option, Some, None, is_some, refl, sym, ap, ◌∙◌, arith, subst, length-append, inl, inr}
-use Rattle.std.specs.Prelude.{slice_get, slice_set}
-use Rattle.std.specs.List.{AllByRecursion}
-use Rattle.std.proofs.lemmas.Bool.{cases_Bool, lt-ltb, ltb-true}
-use Rattle.std.proofs.lemmas.List.{length-map}
-use Rattle.gu_terms.proofs.SameNames.{same_group-true}
-use Rattle.gu_terms.specs.Same.{same_group}
-use Rattle.gu_terms.specs.declared.firm.FirmId.{FirmId}
-use Rattle.gu_terms.specs.declared.group.Group.{Group}
-use Rattle.gu_terms.specs.declared.id.Id.{Id}
-use Rattle.gu_terms.specs.declared.lines.Line.{Line}
-use Rattle.gu_terms.specs.declared.offer.Offer.{Offer}
-use Rattle.gu_ref.specs.Reference.{agreement_between}
-use Rattle.gu_ref.specs.Tables.{Tables}
-use Rattle.gu_offers.proofs.Listed.{numbers-append}
-use Rattle.gu_offers.specs.Changes.{changed, closed, next_day, offered, reversed, taken, with_lines}
-use Rattle.gu_offers.specs.Rows.{Row, is_open, is_open_in, left_of, numbers_from, open_count, open_numbers}
-use Rattle.gu_rules.specs.Orderly.{AreAgreed, AreFew, IsShown}
+use Rattle.gu_rules.proofs.Words.{◌≡◌, ℕ, zero, suc, ◌+◌, ◌-◌, ◌<◌, ◌≤◌, Bool, true, false, cond, ◌&&◌, List, [], ◌∷◌, ◌++◌, length, map, Option, Some, None, is_some, refl, sym, ap, ◌∙◌, arith, subst, length-append, inl, inr, slice_get, slice_set, AllByRecursion, cases_Bool, lt-ltb, ltb-true, length-map, same_group-true, same_group, FirmId, Group, Id, Line, Offer, agreement_between, Tables, numbers-append, changed, closed, next_day, offered, reversed, taken, with_lines, Row, is_open, is_open_in, left_of, numbers_from, open_count, open_numbers, AreAgreed, AreFew, IsShown}
 use Rattle.gu_rules.proofs.OrderlyLemmas.{all-at, all-changed}
 
 -- a change keeps the offer itself, and opens no closed one

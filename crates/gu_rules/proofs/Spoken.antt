@@ -1,17 +1,5 @@
 -- Entries that involve one offer, and entries that involve none.
-use Rattle.std.proofs.Common.{◌≡◌, ℕ, ◌+◌, ◌-◌, ◌||◌, Bool, true, false, refl, arith}
-use Rattle.gu_terms.specs.declared.alloc_reject.AllocReject.{AllocReject}
-use Rattle.gu_terms.specs.declared.command.Command.{Command}
-use Rattle.gu_terms.specs.declared.command.Command.TheVariants.{OpenDay, Refuse, Reverse}
-use Rattle.gu_terms.specs.declared.entry.Entry.{Entry}
-use Rattle.gu_terms.specs.declared.entry.Entry.TheVariants.{Asked}
-use Rattle.gu_terms.specs.declared.firm.FirmId.{FirmId}
-use Rattle.gu_terms.specs.declared.refusal.Refusal.{Refusal}
-use Rattle.gu_terms.specs.declared.reply.Done.TheVariants.{Refused, Reversed}
-use Rattle.gu_terms.specs.declared.reply.Reply.TheVariants.{Accepted, Denied}
-use Rattle.gu_offers.specs.Changes.{closed, reversed}
-use Rattle.gu_offers.specs.Rows.{Row}
-use Rattle.gu_rules.specs.Offers.{closes, given_back_by, taken_by}
+use Rattle.gu_rules.proofs.Words.{◌≡◌, ℕ, ◌+◌, ◌-◌, ◌||◌, Bool, true, false, refl, arith, AllocReject, Command, OpenDay, Refuse, Reverse, Entry, Asked, FirmId, Refusal, Refused, Reversed, Accepted, Denied, closed, reversed, Row, closes, given_back_by, taken_by}
 use Rattle.gu_rules.proofs.Moved.{LeavesOthers}
 use Rattle.gu_rules.proofs.StandingLemmas.{IsIdle, stepped, stepped-still}
 use Rattle.gu_rules.proofs.Takers.{apart, same}

@@ -1,16 +1,6 @@
 -- Offers as they are now, after one more entry.
-use Rattle.std.proofs.Common.{◌≡◌, ℕ, zero, suc, ◌+◌, ◌-◌, ◌≤◌, Bool, true, false, ◌||◌, List, [], ◌∷◌, ◌++◌, length, sum_by, Some, None, refl, ap, ◌∙◌, arith, append-nil}
-use Rattle.std.specs.Prelude.{slice_get}
-use Rattle.std.specs.Option.{option_map}
+use Rattle.gu_rules.proofs.Words.{◌≡◌, ℕ, zero, suc, ◌+◌, ◌-◌, ◌≤◌, Bool, true, false, ◌||◌, List, [], ◌∷◌, ◌++◌, length, sum_by, Some, None, refl, ap, ◌∙◌, arith, append-nil, slice_get, option_map, list_any-append, sum_by_push, Entry, Offer, Row, closes, given_back_by, is_shut, lines_by, moved_of, offers_of, standing, standing_from, standing_of, taken_by, IsBalanced, entries_today, opened_day}
 use Rattle.std.proofs.lemmas.List.Concat.{flat_map-append}
-use Rattle.std.proofs.lemmas.List.Folds.{list_any-append}
-use Rattle.std.proofs.lemmas.List.Sums.{sum_by_push}
-use Rattle.gu_terms.specs.declared.entry.Entry.{Entry}
-use Rattle.gu_terms.specs.declared.offer.Offer.{Offer}
-use Rattle.gu_offers.specs.Rows.{Row}
-use Rattle.gu_rules.specs.Offers.{closes, given_back_by, is_shut, lines_by, moved_of, offers_of, standing, standing_from, standing_of, taken_by}
-use Rattle.gu_rules.specs.Orderly.{IsBalanced}
-use Rattle.gu_rules.specs.Reports.{entries_today, opened_day}
 use Rattle.gu_rules.proofs.Today.{entries_today-kept}
 
 -- an offer after one more entry takes from it, gives back to it or closes it

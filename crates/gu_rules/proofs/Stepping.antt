@@ -1,19 +1,5 @@
 -- The effect of one more entry on the offers.
-use Rattle.std.proofs.Common.{◌≡◌, ℕ, zero, suc, ◌+◌, ◌<◌, false, List, [], ◌∷◌, ◌++◌, length, map, sum_by, Some, None, refl, sym, ap, ◌∙◌, arith, append-nil, subst}
-use Rattle.std.specs.Prelude.{slice_get, slice_set}
-use Rattle.std.proofs.lemmas.List.Sums.{sum_by_push}
-use Rattle.gu_terms.specs.declared.day.Day.{Day}
-use Rattle.gu_terms.specs.declared.entry.Entry.{Entry}
-use Rattle.gu_terms.specs.declared.firm.FirmId.{FirmId}
-use Rattle.gu_terms.specs.declared.group.Group.{Group}
-use Rattle.gu_terms.specs.declared.id.Id.{Id}
-use Rattle.gu_terms.specs.declared.lines.Line.{Line}
-use Rattle.gu_terms.specs.declared.offer.Offer.{Offer}
-use Rattle.gu_offers.specs.Changes.{changed, next_day, offered, with_lines}
-use Rattle.gu_offers.specs.Rows.{Row, row_at}
-use Rattle.gu_rules.specs.Offers.{is_shut, lines_by, moved_of, offers_of, standing, standing_from, standing_of, taken_by}
-use Rattle.gu_rules.specs.Orderly.{IsBalanced, IsNamed}
-use Rattle.gu_rules.specs.Reports.{entries_today, opened_day}
+use Rattle.gu_rules.proofs.Words.{◌≡◌, ℕ, zero, suc, ◌+◌, ◌<◌, false, List, [], ◌∷◌, ◌++◌, length, map, sum_by, Some, None, refl, sym, ap, ◌∙◌, arith, append-nil, subst, slice_get, slice_set, sum_by_push, Day, Entry, FirmId, Group, Id, Line, Offer, changed, next_day, offered, with_lines, Row, row_at, is_shut, lines_by, moved_of, offers_of, standing, standing_from, standing_of, taken_by, IsBalanced, IsNamed, entries_today, opened_day}
 use Rattle.gu_rules.proofs.Moved.{LeavesOthers, behind}
 use Rattle.gu_rules.proofs.StandingLemmas.{IsIdle, is_shut-push, moved_of-push, offers_of-push, standing_of-push, either-false, stepped, stepped_from, stepped_from-idle}
 use Rattle.gu_rules.proofs.Today.{entries_today-kept, entries_today-new}

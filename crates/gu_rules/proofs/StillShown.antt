@@ -1,22 +1,6 @@
 -- After an accepted command no group has more than 4,096 open offers, and each offer was made under an agreement.
-use Rattle.std.proofs.Common.{◌≡◌, ℕ, ◌+◌, ◌++◌, true, List, [], ◌∷◌, length, is_some, refl, sym, subst}
-use Rattle.std.specs.List.{AllByRecursion}
-use Rattle.gu_terms.specs.declared.command.Command.{Command}
-use Rattle.gu_terms.specs.declared.command.Command.TheVariants.{OpenDay, GiveUp, Claim, Refuse, Reverse}
+use Rattle.gu_rules.proofs.Words.{◌≡◌, ℕ, ◌+◌, ◌++◌, true, List, [], ◌∷◌, length, is_some, refl, sym, subst, AllByRecursion, Command, OpenDay, GiveUp, Claim, Refuse, Reverse, Entry, Asked, FirmId, Line, Done, Accepted, agreement_between, Tables, closed, reversed, taken, left_in, IsAccepted, accepted_entry, IsShown, standing_of}
 use Rattle.gu_terms.specs.declared.command.GiveUp.{GiveUp as GiveUpOf}
-use Rattle.gu_terms.specs.declared.entry.Entry.{Entry}
-use Rattle.gu_terms.specs.declared.entry.Entry.TheVariants.{Asked}
-use Rattle.gu_terms.specs.declared.firm.FirmId.{FirmId}
-use Rattle.gu_terms.specs.declared.lines.Line.{Line}
-use Rattle.gu_terms.specs.declared.reply.Done.{Done}
-use Rattle.gu_terms.specs.declared.reply.Reply.TheVariants.{Accepted}
-use Rattle.gu_ref.specs.Reference.{agreement_between}
-use Rattle.gu_ref.specs.Tables.{Tables}
-use Rattle.gu_offers.specs.Changes.{closed, reversed, taken}
-use Rattle.gu_offers.specs.Rows.{left_in}
-use Rattle.gu_rules.specs.Legal.{IsAccepted, accepted_entry}
-use Rattle.gu_rules.specs.Orderly.{IsShown}
-use Rattle.gu_rules.specs.Offers.{standing_of}
 use Rattle.gu_rules.proofs.Facts.{claimable, refusable, reversible, today-is}
 use Rattle.gu_rules.proofs.GivenUp.{givable}
 use Rattle.gu_rules.proofs.InOrder.{IsInOrder}

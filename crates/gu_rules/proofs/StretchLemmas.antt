@@ -1,11 +1,6 @@
 -- Batches of notices: together they are the whole.
-use Rattle.std.proofs.Common.{◌≡◌, ℕ, zero, suc, ◌+◌, ◌-◌, ◌<◌, ◌≤◌, ◌++◌, List, [], ◌∷◌, length, take, drop, max, refl, sym, ap, ◌∙◌, arith, append_assoc, map, filter}
-use Rattle.std.proofs.lemmas.List.{drop-take, length-drop, take_all, map-append}
+use Rattle.gu_rules.proofs.Words.{◌≡◌, ℕ, zero, suc, ◌+◌, ◌-◌, ◌<◌, ◌≤◌, ◌++◌, List, [], ◌∷◌, length, take, drop, max, refl, sym, ap, ◌∙◌, arith, append_assoc, map, filter, drop-take, length-drop, take_all, map-append, filter-append, Entry, FirmId, same_firm}
 use Rattle.std.proofs.Math.Nat.{add-zero, suc-add, zero-add}
-use Rattle.std.proofs.lemmas.List.Elements.{filter-append}
-use Rattle.gu_terms.specs.declared.entry.Entry.{Entry}
-use Rattle.gu_terms.specs.declared.firm.FirmId.{FirmId}
-use Rattle.gu_terms.specs.Same.{same_firm}
 use Rattle.gu_rules.specs.BookState.{BookState}
 use Rattle.gu_rules.specs.Notices.{Register, Told, notices_between, notices_of, register_of, told_between, told_by, told_from, told_to}
 

@@ -1,27 +1,8 @@
 -- The lots swept in a legal history are bounded: each sweep takes from at most 4,096 offers, and from each no more than it has.
-use Rattle.std.proofs.Common.{◌≡◌, ℕ, zero, suc, ◌+◌, ◌-◌, ◌*◌, ◌≤◌, ◌<◌, ◌++◌, Bool, true, false, List, [], ◌∷◌, length, slice_get, take, Option, Some, None, if◌then◌else◌, refl, sym, ap, ◌∙◌, arith, length-append, subst}
-use Rattle.std.specs.List.{AllByRecursion}
-use Rattle.std.specs.Option.{option_and_then, option_map}
-use Rattle.std.proofs.lemmas.List.Elements.{recursion_from_All}
-use Rattle.std.proofs.lemmas.List.Sums.{sum_by-append, sum_by-cons}
+use Rattle.gu_rules.proofs.Words.{◌≡◌, ℕ, zero, suc, ◌+◌, ◌-◌, ◌*◌, ◌≤◌, ◌<◌, ◌++◌, Bool, true, false, List, [], ◌∷◌, length, slice_get, take, Option, Some, None, if◌then◌else◌, refl, sym, ap, ◌∙◌, arith, length-append, subst, AllByRecursion, option_and_then, option_map, recursion_from_All, sum_by-append, sum_by-cons, lots_of, AgreementId, Entry, Asked, Swept, SweepEntry, Offer, agreement_between, Tables, all-at, Row, left_of, open_numbers, ViewOffer as ShownOffer, IsLegal, MayFollow, path_after, lines_by, offers_of, standing_from, standing_of, offers_shown, shown, shown_at, MaySweep}
 use Rattle.gu_terms.specs.Histories.{lots_swept, swept_by}
-use Rattle.gu_terms.specs.Takes.{lots_of}
-use Rattle.gu_terms.specs.declared.agreement.AgreementId.{AgreementId}
-use Rattle.gu_terms.specs.declared.entry.Entry.{Entry}
-use Rattle.gu_terms.specs.declared.entry.Entry.TheVariants.{Asked, Swept}
-use Rattle.gu_terms.specs.declared.entry.SweepEntry.{SweepEntry}
-use Rattle.gu_terms.specs.declared.offer.Offer.{Offer}
-use Rattle.gu_ref.specs.Reference.{agreement_between}
-use Rattle.gu_ref.specs.Tables.{Tables}
-use Rattle.gu_offers.proofs.Listed.{all-at}
-use Rattle.gu_offers.specs.Rows.{IsSound, Row, left_of, open_numbers}
+use Rattle.gu_offers.specs.Rows.{IsSound}
 use Rattle.gu_view.specs.Takes.{total}
-use Rattle.gu_view.specs.declared.view.ViewOffer.{ViewOffer as ShownOffer}
-use Rattle.gu_rules.specs.Legal.{IsLegal, MayFollow}
-use Rattle.gu_rules.specs.Limits.{path_after}
-use Rattle.gu_rules.specs.Offers.{lines_by, offers_of, standing_from, standing_of}
-use Rattle.gu_rules.specs.Views.{offers_shown, shown, shown_at}
-use Rattle.gu_rules.specs.Sweeps.{MaySweep}
 use Rattle.gu_rules.proofs.LegalOrder.{IsOrdered, follows, none-ordered}
 use Rattle.gu_rules.proofs.Onward.{each_legal}
 use Rattle.gu_rules.proofs.StandingLemmas.{offers_of-push}

@@ -1,29 +1,5 @@
 -- What a sweep of a group's view takes is left.
-use Rattle.std.proofs.Common.{◌≡◌, ℕ, zero, suc, ◌+◌, ◌<◌, ◌≤◌, ◌==◌, Bool, true, false, cond, List, [], ◌∷◌, sum_by, slice_get, Option, Some, None, refl, sym, ap, ◌∙◌, arith, subst, inl, inr}
-use Rattle.std.specs.List.{AllByRecursion, cons_option, filter_map, list_any}
-use Rattle.std.specs.Option.{option_and_then, option_map}
-use Rattle.std.proofs.lemmas.Bool.{cases_Bool, ltb-true}
-use Rattle.std.proofs.lemmas.Bool.Decides.{Decides-eqb}
-use Rattle.std.proofs.lemmas.List.Elements.{recursion_from_All}
-use Rattle.std.proofs.lemmas.List.Sums.{sum_by-cons}
-use Rattle.gu_terms.proofs.Lists.{Later, Later-from_AllPairs, along, along2}
-use Rattle.gu_terms.proofs.SameNames.{same_group-true}
-use Rattle.gu_terms.proofs.SameValues.{both}
-use Rattle.gu_terms.specs.Takes.{lots_of}
-use Rattle.gu_terms.specs.declared.agreement.AgreementId.{AgreementId}
-use Rattle.gu_terms.specs.declared.entry.Entry.{Entry}
-use Rattle.gu_terms.specs.declared.entry.SweepEntry.{SweepEntry}
-use Rattle.gu_terms.specs.declared.group.Group.{Group}
-use Rattle.gu_terms.specs.declared.takes.Take.{Take}
-use Rattle.gu_ref.specs.Reference.{agreement_between}
-use Rattle.gu_ref.specs.Tables.{Tables}
-use Rattle.gu_offers.specs.Rows.{Row, is_open_in, left_of, numbers_from, open_numbers, open_offer_at, row_at}
-use Rattle.gu_view.specs.View.{offer_of}
-use Rattle.gu_view.specs.declared.view.ViewOffer.{ViewOffer}
-use Rattle.gu_rules.specs.Limits.{path_after}
-use Rattle.gu_rules.specs.Offers.{standing_of}
-use Rattle.gu_rules.specs.Sweeps.{IsSweepOf}
-use Rattle.gu_rules.specs.Views.{group_view, offers_shown, shown}
+use Rattle.gu_rules.proofs.Words.{◌≡◌, ℕ, zero, suc, ◌+◌, ◌<◌, ◌≤◌, ◌==◌, Bool, true, false, cond, List, [], ◌∷◌, sum_by, slice_get, Option, Some, None, refl, sym, ap, ◌∙◌, arith, subst, inl, inr, AllByRecursion, cons_option, filter_map, list_any, option_and_then, option_map, cases_Bool, ltb-true, Decides-eqb, recursion_from_All, sum_by-cons, Later, Later-from_AllPairs, along, along2, same_group-true, both, lots_of, AgreementId, Entry, SweepEntry, Group, Take, agreement_between, Tables, Row, is_open_in, left_of, numbers_from, open_numbers, open_offer_at, row_at, offer_of, ViewOffer, path_after, standing_of, IsSweepOf, group_view, offers_shown, shown}
 use Rattle.gu_rules.proofs.ViewLemmas.{shown-numbers}
 use Rattle.gu_rules.proofs.Takers.{apart, same}
 

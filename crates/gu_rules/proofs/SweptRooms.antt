@@ -1,30 +1,8 @@
 -- There is room under each key for what a sweep of a group's view takes.
-use Rattle.std.proofs.Common.{ℕ, ◌==◌, if◌then◌else◌, ◌≡◌, zero, ◌<◌, Bool, true, false, List, [], ◌∷◌, sum_by, refl, sym, arith, inl, inr, ◌≤◌, ◌&&◌, Some, ap, ◌∙◌, subst, map}
-use Rattle.std.proofs.lemmas.Bool.{cases_Bool}
-use Rattle.std.proofs.lemmas.Bool.Decides.{Decides-eqb}
-use Rattle.std.proofs.lemmas.List.Elements.{recursion_from_All}
-use Rattle.std.proofs.lemmas.List.Sums.{sum_by-cons}
-use Rattle.std.specs.List.{AllByRecursion, list_any}
-use Rattle.std.specs.Option.{option_map_or}
-use Rattle.gu_terms.proofs.KeyLemmas.{key_eq-same}
-use Rattle.gu_terms.proofs.Lists.{Later, along, any_none, sum_by-agree, sum_by-mono, sum_by-swap}
-use Rattle.gu_terms.specs.LimitKeys.{has_key, key_eq}
-use Rattle.gu_terms.specs.Same.{same_group}
-use Rattle.gu_terms.specs.Takes.{lots_of}
-use Rattle.gu_terms.specs.declared.entry.Entry.{Entry}
-use Rattle.gu_terms.specs.declared.group.Group.{Group}
-use Rattle.gu_terms.specs.declared.limit_key.LimitKey.{LimitKey}
-use Rattle.gu_terms.specs.declared.takes.Take.{Take}
-use Rattle.gu_ref.specs.Tables.{Tables}
-use Rattle.gu_limits.specs.Changes.{lots_under as lots_charged}
-use Rattle.gu_offers.specs.Rows.{Row, row_at}
+use Rattle.gu_rules.proofs.Words.{ℕ, ◌==◌, if◌then◌else◌, ◌≡◌, zero, ◌<◌, Bool, true, false, List, [], ◌∷◌, sum_by, refl, sym, arith, inl, inr, ◌≤◌, ◌&&◌, Some, ap, ◌∙◌, subst, map, cases_Bool, Decides-eqb, recursion_from_All, sum_by-cons, AllByRecursion, list_any, option_map_or, key_eq-same, Later, along, any_none, sum_by-agree, sum_by-mono, sum_by-swap, has_key, key_eq, same_group, lots_of, Entry, Group, LimitKey, Take, Tables, lots_under as lots_charged, Row, row_at, keys_of, ViewOffer, path_after, room_of, group_view, offers_shown}
 use Rattle.gu_view.proofs.RoomLemmas.{has_key-keys_of}
 use Rattle.gu_view.specs.Takes.{IsAdmissible, lots_under}
-use Rattle.gu_view.specs.View.{keys_of}
 use Rattle.gu_view.specs.declared.view.Room.{Room}
-use Rattle.gu_view.specs.declared.view.ViewOffer.{ViewOffer}
-use Rattle.gu_rules.specs.Limits.{path_after, room_of}
-use Rattle.gu_rules.specs.Views.{group_view, offers_shown}
 use Rattle.gu_rules.proofs.Parts.{lots_of-sum}
 use Rattle.gu_rules.proofs.SweptOffers.{TakesLeft}
 

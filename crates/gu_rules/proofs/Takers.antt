@@ -1,25 +1,5 @@
 -- Entries that take lots from offers, and do nothing else.
-use Rattle.std.proofs.Common.{◌≡◌, ◌≢◌, ℕ, ◌+◌, ◌-◌, ◌==◌, ◌||◌, true, false, [], ◌∷◌, Option, Some, None, refl, sym, arith, inl, inr}
-use Rattle.std.proofs.lemmas.Bool.{cases_Bool}
-use Rattle.std.proofs.lemmas.Bool.Decides.{Decides-eqb}
-use Rattle.gu_terms.specs.declared.command.Command.TheVariants.{Claim}
-use Rattle.gu_terms.specs.declared.day.Day.{Day}
-use Rattle.gu_terms.specs.declared.entry.Entry.{Entry}
-use Rattle.gu_terms.specs.declared.entry.Entry.TheVariants.{Asked, Swept}
-use Rattle.gu_terms.specs.declared.entry.SweepEntry.{SweepEntry}
-use Rattle.gu_terms.specs.declared.firm.FirmId.{FirmId}
-use Rattle.gu_terms.specs.declared.group.Group.{Group}
-use Rattle.gu_terms.specs.declared.id.Id.{Id}
-use Rattle.gu_terms.specs.declared.limit_key.LimitKey.{LimitKey}
-use Rattle.gu_terms.specs.declared.reply.Done.TheVariants.{Claimed}
-use Rattle.gu_terms.specs.declared.reply.Reply.TheVariants.{Accepted}
-use Rattle.gu_terms.specs.declared.takes.Take.{Take}
-use Rattle.gu_offers.specs.Changes.{taken}
-use Rattle.gu_offers.specs.Rows.{Row}
-use Rattle.gu_rules.specs.Limits.{limit_set_by}
-use Rattle.gu_rules.specs.Sweeps.{part}
-use Rattle.gu_rules.specs.Offers.{closes, gave_up, given_back_by, lines_by, taken_by}
-use Rattle.gu_rules.specs.Reports.{opened_day, report_on}
+use Rattle.gu_rules.proofs.Words.{◌≡◌, ◌≢◌, ℕ, ◌+◌, ◌-◌, ◌==◌, ◌||◌, true, false, [], ◌∷◌, Option, Some, None, refl, sym, arith, inl, inr, cases_Bool, Decides-eqb, Claim, Day, Entry, Asked, Swept, SweepEntry, FirmId, Group, Id, LimitKey, Claimed, Accepted, Take, taken, Row, limit_set_by, part, closes, gave_up, given_back_by, lines_by, taken_by, opened_day, report_on}
 use Rattle.gu_rules.proofs.Moved.{LeavesOthers}
 use Rattle.gu_rules.proofs.StandingLemmas.{either-false, stepped, stepped-still}
 

@@ -1,11 +1,5 @@
 -- Today's entries, after one more entry.
-use Rattle.std.proofs.Common.{◌≡◌, ℕ, ◌+◌, ◌-◌, Bool, true, false, not, List, [], ◌∷◌, ◌++◌, length, drop, Option, Some, None, is_some, ap, ◌∙◌, arith, length-append, if◌then◌else◌}
-use Rattle.std.specs.List.{after_last, prefix_len, suffix_len}
-use Rattle.std.proofs.lemmas.List.{drop-append-le, reverse-append}
-use Rattle.std.proofs.Math.Seq.{drop-length}
-use Rattle.gu_terms.specs.declared.day.Day.{Day}
-use Rattle.gu_terms.specs.declared.entry.Entry.{Entry}
-use Rattle.gu_rules.specs.Reports.{entries_today, opened_day}
+use Rattle.gu_rules.proofs.Words.{◌≡◌, ℕ, ◌+◌, ◌-◌, Bool, true, false, not, List, [], ◌∷◌, ◌++◌, length, drop, Option, Some, None, is_some, ap, ◌∙◌, arith, length-append, if◌then◌else◌, after_last, prefix_len, suffix_len, drop-append-le, reverse-append, drop-length, Day, Entry, entries_today, opened_day}
 
 -- from the end back, the last item comes first
 suffix_len-push : {X : Type 0} (p : X → Bool) (xs : List X) (x : X) → suffix_len p (xs ++ x ∷ []) ≡ (if p x then 1 + suffix_len p xs else 0)

@@ -1,24 +1,7 @@
 -- A group that the reference lacks has no limits.
-use Rattle.std.proofs.Common.{◌≡◌, ℕ, ◌&&◌, not, Bool, true, false, List, [], ◌∷◌, take, slice_get, zero, suc, Option, Some, None, inl, inr, refl, sym, ap, subst}
-use Rattle.std.specs.List.{filter_map, last_or}
-use Rattle.std.proofs.lemmas.Bool.{cases_Bool}
-use Rattle.gu_terms.proofs.SameNames.{same_group-true}
-use Rattle.gu_terms.specs.declared.command.Command.TheVariants.{SetLimit}
+use Rattle.gu_rules.proofs.Words.{◌≡◌, ℕ, ◌&&◌, not, Bool, true, false, List, [], ◌∷◌, take, slice_get, zero, suc, Option, Some, None, inl, inr, refl, sym, ap, subst, filter_map, last_or, cases_Bool, same_group-true, SetLimit, Entry, Asked, Group, LimitKey, UnknownKey, LimitSet, Accepted, same_group, is_group, Tables, is_known_key, limit_tests, IsLegal, MayFollow, keys_in_order, limit_row, limit_rows, limit_set, limit_set_by}
 use Rattle.gu_terms.specs.declared.command.SetLimit.{SetLimit as SetLimitOf}
-use Rattle.gu_terms.specs.declared.entry.Entry.{Entry}
-use Rattle.gu_terms.specs.declared.entry.Entry.TheVariants.{Asked}
-use Rattle.gu_terms.specs.declared.group.Group.{Group}
-use Rattle.gu_terms.specs.declared.limit_key.LimitKey.{LimitKey}
-use Rattle.gu_terms.specs.declared.refusal.Refusal.TheVariants.{UnknownKey}
-use Rattle.gu_terms.specs.declared.reply.Done.TheVariants.{LimitSet}
-use Rattle.gu_terms.specs.declared.reply.Reply.TheVariants.{Accepted}
-use Rattle.gu_terms.specs.Same.{same_group}
-use Rattle.gu_ref.specs.Reference.{is_group}
-use Rattle.gu_ref.specs.Tables.{Tables}
-use Rattle.gu_rules.specs.Answer.{is_known_key, limit_tests}
 use Rattle.gu_rules.specs.BookState.{BookState}
-use Rattle.gu_rules.specs.Legal.{IsLegal, MayFollow}
-use Rattle.gu_rules.specs.Limits.{keys_in_order, limit_row, limit_rows, limit_set, limit_set_by}
 use Rattle.gu_rules.proofs.Passing.{none_stands}
 
 known : (a b : Bool) → not (a && b) ≡ false → a ≡ true

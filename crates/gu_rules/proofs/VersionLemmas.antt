@@ -1,13 +1,5 @@
 -- Versions: what entries add to them, and when two are equal.
-use Rattle.std.proofs.Common.{◌≡◌, ◌↔◌, ℕ, zero, suc, ◌+◌, ◌-◌, ◌<◌, ◌≤◌, Bool, true, false, List, [], ◌∷◌, ◌++◌, length, take, drop, get_or, Some, None, refl, sym, ap, ◌∙◌, arith, append-nil, append_assoc, length-append, take-append-drop, if◌then◌else◌}
-use Rattle.std.specs.Prelude.{slice_get}
-use Rattle.std.specs.Option.{option_to_list}
-use Rattle.std.proofs.Math.Seq.{take-add}
-use Rattle.std.proofs.lemmas.List.{get_or-drop, length-drop}
-use Rattle.std.proofs.lemmas.Option.{get_or_from_slice_get, slice_get-get_or, slice_get_within}
-use Rattle.gu_terms.specs.declared.entry.Entry.{Entry}
-use Rattle.gu_terms.specs.declared.group.Group.{Group}
-use Rattle.gu_rules.specs.Versions.{touches, touching, touching_after, version_of}
+use Rattle.gu_rules.proofs.Words.{◌≡◌, ◌↔◌, ℕ, zero, suc, ◌+◌, ◌-◌, ◌<◌, ◌≤◌, Bool, true, false, List, [], ◌∷◌, ◌++◌, length, take, drop, get_or, Some, None, refl, sym, ap, ◌∙◌, arith, append-nil, append_assoc, length-append, take-append-drop, if◌then◌else◌, slice_get, option_to_list, take-add, get_or-drop, length-drop, get_or_from_slice_get, slice_get-get_or, slice_get_within, Entry, Group, touches, touching, touching_after, version_of}
 
 -- the touches of consecutive entries
 pub touching_after-append : (before first later : List Entry) (group : Group)

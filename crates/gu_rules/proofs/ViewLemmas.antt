@@ -1,33 +1,13 @@
 -- The open offers of a group make a view.
-use Rattle.std.proofs.Common.{◌≡◌, ℕ, suc, ◌+◌, ◌-◌, ◌<◌, ◌≤◌, ◌==◌, ◌||◌, ◌&&◌, not, Bool, true, false, cond, nat_le, nat_lt, List, [], ◌∷◌, Option, Some, None, length, slice_get, refl, sym, ap, ◌∙◌, subst, arith, inl, inr}
-use Rattle.std.specs.List.{AllByRecursion, cons_option, filter_map}
+use Rattle.gu_rules.proofs.Words.{◌≡◌, ℕ, suc, ◌+◌, ◌-◌, ◌<◌, ◌≤◌, ◌==◌, ◌||◌, ◌&&◌, not, Bool, true, false, cond, nat_le, nat_lt, List, [], ◌∷◌, Option, Some, None, length, slice_get, refl, sym, ap, ◌∙◌, subst, arith, inl, inr, AllByRecursion, cons_option, filter_map, option_and_then, option_map, option_map_or, and_left, and_right, cases_Bool, le-ltb, ltb-true, or_from, nat_tests, key_eq-refl, along, none_any, none_found, key_eq, same_group, AgreementId, Group, LimitKey, agreement_between, IsSound as IsSoundReference, Tables, path_of, all-at, all-imply, numbers-ascend, numbers-within, Row, is_open_in, left_in, left_of, numbers_from, open_numbers, open_offer_at, row_at, ViewOffer, IsShown, path_after, offers_in, shown, shown_at}
 use Rattle.std.specs.Cmp.Lexicographic.{pointwise}
-use Rattle.std.specs.Option.{option_and_then, option_map, option_map_or}
-use Rattle.std.proofs.lemmas.Bool.{and_left, and_right, cases_Bool, le-ltb, ltb-true, or_from}
-use Rattle.std.proofs.lemmas.Bool.Decides.{nat_tests}
-use Rattle.gu_terms.proofs.KeyLemmas.{key_eq-refl}
-use Rattle.gu_terms.proofs.Lists.{along, none_any, none_found}
-use Rattle.gu_terms.specs.LimitKeys.{key_eq}
 use Rattle.gu_terms.specs.Numbers.{IsLots}
-use Rattle.gu_terms.specs.Same.{same_group}
-use Rattle.gu_terms.specs.declared.agreement.AgreementId.{AgreementId}
-use Rattle.gu_terms.specs.declared.group.Group.{Group}
-use Rattle.gu_terms.specs.declared.limit_key.LimitKey.{LimitKey}
 use Rattle.gu_terms.specs.declared.limit_key.LimitKey.TheVariants.{Agr}
-use Rattle.gu_ref.specs.Reference.{agreement_between}
-use Rattle.gu_ref.specs.Rules.{IsSound as IsSoundReference}
-use Rattle.gu_ref.specs.Tables.{Tables}
-use Rattle.gu_limits.specs.Paths.{path_of}
 use Rattle.gu_offers.proofs.Found.{row_at-place}
-use Rattle.gu_offers.proofs.Listed.{all-at, all-imply, numbers-ascend, numbers-within}
 use Rattle.gu_offers.specs.Numbers.{IsAscending}
-use Rattle.gu_offers.specs.Rows.{IsSound, Row, is_open_in, left_in, left_of, numbers_from, open_numbers, open_offer_at, row_at}
+use Rattle.gu_offers.specs.Rows.{IsSound}
 use Rattle.gu_view.specs.Making.{bad_offer, has_other_path, is_bad, is_own, path_differs, same_agreement}
-use Rattle.gu_view.specs.declared.view.ViewOffer.{ViewOffer}
 use Rattle.gu_view.proofs.MakingLemmas.{agreement_eq-same, bad_after, bad_of_few, path_eq-refl}
-use Rattle.gu_rules.specs.Orderly.{IsShown}
-use Rattle.gu_rules.specs.Limits.{path_after}
-use Rattle.gu_rules.specs.Views.{offers_in, shown, shown_at}
 use Rattle.gu_rules.proofs.AgreementPaths.{goes_through, path-there}
 
 -- what is shown of open offers is shown for their numbers

@@ -1,14 +1,10 @@
 -- Each committed sweep of a legal history prints a right sheet.
-use Rattle.std.proofs.Common.{◌≡◌, ℕ, zero, suc, ◌<◌, List, [], ◌∷◌, take, slice_get, sym, ◌∙◌, subst, arith, refl}
-use Rattle.std.proofs.lemmas.List.{length-take, take-take}
+use Rattle.gu_script.proofs.Words.{◌≡◌, ℕ, zero, suc, ◌<◌, List, [], ◌∷◌, take, slice_get, sym, ◌∙◌, subst, arith, refl, length-take, take-take, Entry, Swept, group_view}
 use Rattle.std.proofs.lemmas.Option.{slice_get_within}
-use Rattle.gu_terms.specs.declared.entry.Entry.{Entry}
-use Rattle.gu_terms.specs.declared.entry.Entry.TheVariants.{Swept}
 use Rattle.gu_ref.specs.Rules.{IsSound}
 use Rattle.gu_ref.specs.Tables.{Tables}
 use Rattle.gu_view.proofs.Checked.{ok_from_right}
 use Rattle.gu_rules.specs.Legal.{IsLegal, MayFollow}
-use Rattle.gu_rules.specs.Views.{group_view}
 use Rattle.gu_script.specs.CommittedSheets.{PrintRightSheets}
 use Rattle.gu_text.specs.WrittenSheets.{cut_of, takes_of}
 use Rattle.gu_script.proofs.GroupViews.{few_touches, is_view, named, nested}

@@ -1,11 +1,6 @@
 -- The view of a group after a legal history: it has the properties of every view, is nested, and its names and numbers can be written.
-use Rattle.std.proofs.Common.{◌≡◌, ℕ, suc, ◌+◌, ◌*◌, ◌<◌, ◌≤◌, ◌&&◌, ◌++◌, Bool, true, false, not, cond, List, [], ◌∷◌, length, map, filter, nat_lt, slice_get, Option, Some, None, unwrap_or, refl, sym, ap, ◌∙◌, subst, arith, inl, inr, ◌^◌, length-append}
-use Rattle.std.specs.Prelude.{IsTrue, if◌then◌else◌}
-use Rattle.std.specs.List.{AllByRecursion, cons_option, filter_map, flat_map, list_all}
-use Rattle.std.specs.Option.{option_and_then, option_map}
+use Rattle.gu_script.proofs.Words.{◌≡◌, ℕ, suc, ◌+◌, ◌*◌, ◌<◌, ◌≤◌, ◌&&◌, ◌++◌, Bool, true, false, not, cond, List, [], ◌∷◌, length, map, filter, nat_lt, slice_get, Option, Some, None, unwrap_or, refl, sym, ap, ◌∙◌, subst, arith, inl, inr, ◌^◌, length-append, IsTrue, if◌then◌else◌, AllByRecursion, cons_option, filter_map, flat_map, list_all, option_and_then, option_map, length-map, All-from_recursion, recursion_from_All, Entry, Asked, Group, account_row, agreement_row, guarantor_of, is_group, IsNested, IsView, firsts, keys_of, ViewOffer, group_view, offers_shown, shown_at}
 use Rattle.std.proofs.lemmas.Bool.{cases_Bool, ltb-false}
-use Rattle.std.proofs.lemmas.List.{length-map}
-use Rattle.std.proofs.lemmas.List.Elements.{All-from_recursion, recursion_from_All}
 use Rattle.std.proofs.lemmas.Slice.Eq.{bytes_eq-Decides}
 use Rattle.gu_terms.proofs.Lists.{along}
 use Rattle.gu_terms.proofs.SameNames.{same_group-true}
@@ -18,10 +13,7 @@ use Rattle.gu_terms.specs.Same.{same_account, same_agreement, same_firm, same_gr
 use Rattle.gu_terms.specs.declared.account.AccountId.{AccountId}
 use Rattle.gu_terms.specs.declared.agreement.AgreementId.{AgreementId}
 use Rattle.gu_terms.specs.declared.command.Command.TheVariants.{GiveUp, SetLimit}
-use Rattle.gu_terms.specs.declared.entry.Entry.{Entry}
-use Rattle.gu_terms.specs.declared.entry.Entry.TheVariants.{Asked}
 use Rattle.gu_terms.specs.declared.firm.FirmId.{FirmId}
-use Rattle.gu_terms.specs.declared.group.Group.{Group}
 use Rattle.gu_terms.specs.declared.id.Id.{Id}
 use Rattle.gu_terms.specs.declared.limit_key.LimitKey.{LimitKey}
 use Rattle.gu_terms.specs.declared.lines.Line.{Line}
@@ -30,7 +22,6 @@ use Rattle.gu_terms.specs.declared.refusal.Refusal.TheVariants.{TooHigh}
 use Rattle.gu_terms.specs.declared.reply.Done.TheVariants.{LimitSet, Offered}
 use Rattle.gu_terms.specs.declared.reply.Reply.TheVariants.{Accepted}
 use Rattle.gu_ref.specs.Listed.{guarantor_for, has_group}
-use Rattle.gu_ref.specs.Reference.{account_row, agreement_row, guarantor_of, is_group}
 use Rattle.gu_ref.specs.Rules.{AreNamed, IsSound}
 use Rattle.gu_ref.specs.Tables.{Tables}
 use Rattle.gu_ref.specs.declared.accounts.Account.{Account}
@@ -42,15 +33,12 @@ use Rattle.gu_offers.proofs.Listed.{all-append, numbers-within}
 use Rattle.gu_offers.specs.Rows.{IsSound as IsSoundRow, Row, open_numbers}
 use Rattle.gu_view.proofs.MakingLemmas.{even_paths, good_offers}
 use Rattle.gu_view.specs.Making.{bad_offer}
-use Rattle.gu_view.specs.View.{IsNested, IsView, firsts, keys_of}
-use Rattle.gu_view.specs.declared.view.ViewOffer.{ViewOffer}
 use Rattle.gu_view.specs.declared.view.Room.{Room}
 use Rattle.gu_rules.specs.Answer.{done_of, most_limit, state_of, tests_of}
 use Rattle.gu_rules.specs.Legal.{IsLegal, MayBeEntered, MayFollow}
 use Rattle.gu_rules.specs.Limits.{limit_of, limit_set_by, room_of}
 use Rattle.gu_rules.specs.Offers.{lines_by, offers_of, standing_from, standing_of}
 use Rattle.gu_rules.specs.Orderly.{IsBalanced}
-use Rattle.gu_rules.specs.Views.{group_view, offers_shown, shown_at}
 use Rattle.gu_rules.specs.Versions.{version_of}
 use Rattle.gu_rules.proofs.AgreementPaths.{goes_through}
 use Rattle.gu_rules.proofs.AcceptedCommands.{is-accepted}

@@ -1,19 +1,11 @@
 -- The lines of a journal say the entries of its history.
-use Rattle.std.proofs.Common.{◌≡◌, ◌++◌, ◌∷◌, [], ℕ, List, Option, None, Some, map, refl, sym, ap, subst, inl, inr}
-use Rattle.std.specs.List.{AllByRecursion}
-use Rattle.std.specs.Str.Lines.{lines}
+use Rattle.gu_script.proofs.Words.{◌≡◌, ◌++◌, ◌∷◌, [], ℕ, List, Option, None, Some, map, refl, sym, ap, subst, inl, inr, AllByRecursion, lines, Day, Entry, Asked, Swept, Line, IsWritableEntry, command_said, days_apart, entry_rows, entry_said, journal_text, open_after, rows_after, rows_apart, said_after, SayAll}
 use Rattle.gu_terms.specs.declared.command.Command.{Command}
 use Rattle.gu_terms.specs.declared.command.Command.TheVariants.{OpenDay}
-use Rattle.gu_terms.specs.declared.day.Day.{Day}
-use Rattle.gu_terms.specs.declared.entry.Entry.{Entry}
-use Rattle.gu_terms.specs.declared.entry.Entry.TheVariants.{Asked, Swept}
 use Rattle.gu_text.specs.ReadBack.{AreWords, joined}
 use Rattle.gu_text.specs.WrittenCommands.{IsSilentLineOf, IsWritableCommand, sweep_remarks}
-use Rattle.gu_text.specs.declared.script_line.Line.{Line}
 use Rattle.gu_text.proofs.ReadBackLemmas.{lines_of_rows}
 use Rattle.gu_text.proofs.WrittenCommandLemmas.{command_says, remark_is_silent, sweep_says, swept_is_silent}
-use Rattle.gu_script.specs.Journals.{IsWritableEntry, command_said, days_apart, entry_rows, entry_said, journal_text, open_after, rows_after, rows_apart, said_after}
-use Rattle.gu_script.specs.Replaying.{SayAll}
 
 -- rows are lines, and say this followed by what later rows say
 record SayFirst (rows : List (List (List ℕ))) (said : Line) : Type 0 where

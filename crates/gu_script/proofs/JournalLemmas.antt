@@ -1,17 +1,11 @@
 -- A journal, written entry by entry.
-use Rattle.std.proofs.Common.{◌≡◌, ◌+◌, ◌++◌, ◌∷◌, [], ◌∙◌, ℕ, List, Option, None, Some, take, drop, get_or, refl, sym, ap, subst, append_assoc}
-use Rattle.std.specs.Prelude.{slice_get}
+use Rattle.gu_script.proofs.Words.{◌≡◌, ◌+◌, ◌++◌, ◌∷◌, [], ◌∙◌, ℕ, List, Option, None, Some, take, drop, get_or, refl, sym, ap, subst, append_assoc, slice_get, flat_map, take-append-drop, take_more, Day, Entry, WrotePart, entry_rows, journal_text, open_after, rows_after}
 use Rattle.std.specs.Io.KnownBytes.{Appends}
-use Rattle.std.specs.List.{flat_map}
 use Rattle.std.proofs.KnownBytes.{Appends-nil, Appends-trans}
 use Rattle.std.proofs.lemmas.Grind.{flat_map-append}
-use Rattle.std.proofs.lemmas.List.{append-nil, take-append-drop, take_more}
+use Rattle.std.proofs.lemmas.List.{append-nil}
 use Rattle.std.proofs.lemmas.Option.{slice_get-get_or, slice_get_within}
-use Rattle.gu_terms.specs.declared.day.Day.{Day}
-use Rattle.gu_terms.specs.declared.entry.Entry.{Entry}
-use Rattle.gu_streams.specs.Written.{WrotePart}
 use Rattle.gu_text.specs.Texts.{line_of}
-use Rattle.gu_script.specs.Journals.{entry_rows, journal_text, open_after, rows_after}
 
 -- the day that is open after entries
 abbrev pub open_from : Option Day → List Entry → Option Day

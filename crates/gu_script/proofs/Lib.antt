@@ -10,3 +10,4 @@ pub mod ReplayTexts
 pub mod JournalLaws
 mod JournalLemmas
 pub mod ScriptLaws
+pub mod Words

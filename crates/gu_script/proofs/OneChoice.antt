@@ -1,16 +1,11 @@
 -- Two sweeps of one view take the same lots from each offer.
-use Rattle.std.proofs.Common.{◌≡◌, ℕ, Bool, true, false, ◌||◌, List, [], ◌∷◌, IsTrue, refl, sym, ap, ◌∙◌, subst, arith, inl, inr}
-use Rattle.std.specs.List.{AllByRecursion}
+use Rattle.gu_script.proofs.Words.{◌≡◌, ℕ, Bool, true, false, ◌||◌, List, [], ◌∷◌, IsTrue, refl, sym, ap, ◌∙◌, subst, arith, inl, inr, AllByRecursion, recursion_from_All, SweepEntry, GroupView, ViewOffer}
 use Rattle.std.proofs.lemmas.Bool.{cases_eq, ne_eqb}
-use Rattle.std.proofs.lemmas.List.Elements.{recursion_from_All}
 use Rattle.std.proofs.lemmas.List.Sums.{sum_by-cons}
 use Rattle.gu_terms.specs.Takes.{lots_of}
-use Rattle.gu_terms.specs.declared.entry.SweepEntry.{SweepEntry}
 use Rattle.gu_terms.specs.declared.takes.Take.{Take}
 use Rattle.gu_view.specs.Check.{has_offer}
 use Rattle.gu_view.specs.Takes.{total}
-use Rattle.gu_view.specs.View.{GroupView}
-use Rattle.gu_view.specs.declared.view.ViewOffer.{ViewOffer}
 use Rattle.gu_view.proofs.OldestGreatest.{oldest_greatest_is_one}
 use Rattle.gu_rules.specs.Sweeps.{IsSweepOf}
 

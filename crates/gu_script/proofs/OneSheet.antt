@@ -1,15 +1,11 @@
 -- Two sweeps of one view print the same sheet.
-use Rattle.std.proofs.Common.{◌≡◌, List, [], ◌∷◌, ◌++◌, Bool, refl, sym, ap, if◌then◌else◌}
-use Rattle.std.specs.List.{AllByRecursion, flat_map}
+use Rattle.gu_script.proofs.Words.{◌≡◌, List, [], ◌∷◌, ◌++◌, Bool, refl, sym, ap, if◌then◌else◌, AllByRecursion, flat_map, SweepEntry, GroupView, IsView, ViewOffer}
 use Rattle.gu_terms.specs.Cuts.{CutLists, has_number}
 use Rattle.gu_terms.specs.LimitKeys.{has_key}
 use Rattle.gu_terms.specs.Takes.{lots_of}
-use Rattle.gu_terms.specs.declared.entry.SweepEntry.{SweepEntry}
 use Rattle.gu_terms.specs.declared.takes.Take.{Take}
 use Rattle.gu_view.proofs.NearestCuts.{nearest_cut_is_one}
 use Rattle.gu_view.specs.Nearest.{AreSame}
-use Rattle.gu_view.specs.View.{GroupView, IsView}
-use Rattle.gu_view.specs.declared.view.ViewOffer.{ViewOffer}
 use Rattle.gu_view.specs.declared.view.Room.{Room}
 use Rattle.gu_rules.specs.Sweeps.{IsSweepOf}
 use Rattle.gu_text.specs.SheetText.{cut_key_line, cut_key_words, cut_offer_line, cut_offer_words, end_line, head_line, offer_line, room_line, sheet_text, take_line, take_words}

@@ -1,21 +1,11 @@
 -- Looks in a run: a worker proposes a sweep of the group that it looked at.
-use Rattle.std.proofs.Common.{◌≡◌, length, ◌∙◌, ◌⊎◌, ℕ, zero, suc, Bool, true, false, List, [], ◌∷◌, Option, Some, None, replicate, refl, sym, ap, subst, cond, inl, inr}
-use Rattle.std.specs.Prelude.{slice_index_or, slice_set}
-use Rattle.std.specs.Option.{option_map_or}
+use Rattle.gu_script.proofs.Words.{◌≡◌, length, ◌∙◌, ◌⊎◌, ℕ, zero, suc, Bool, true, false, List, [], ◌∷◌, Option, Some, None, replicate, refl, sym, ap, subst, cond, inl, inr, slice_index_or, slice_set, option_map_or, Asked as AskedEntry, Swept as SweptEntry, SweepEntry, Group, is_group, Course, IsReached, IsRun, LeadsTo, Look, ProposesOn, State, committed_for, committed_on, is_full, is_overtaken, look_of, next_receipt, seen_history, start, with_entry, with_look, with_proposal, Outcome, Enter, See, Propose, Commit}
 use Rattle.gu_terms.specs.declared.command.Command.{Command}
-use Rattle.gu_terms.specs.declared.entry.Entry.TheVariants.{Asked as AskedEntry, Swept as SweptEntry}
-use Rattle.gu_terms.specs.declared.entry.SweepEntry.{SweepEntry}
-use Rattle.gu_terms.specs.declared.group.Group.{Group}
 use Rattle.gu_terms.specs.declared.receipt.Receipt.{Receipt}
-use Rattle.gu_ref.specs.Reference.{is_group}
 use Rattle.gu_rules.specs.Answer.{answer}
 use Rattle.gu_rules.specs.Versions.{version_of}
-use Rattle.gu_world.specs.Runs.{Course, IsReached, IsRun}
-use Rattle.gu_world.specs.Steps.{LeadsTo, Look, ProposesOn, State, committed_for, committed_on, is_full, is_overtaken, look_of, next_receipt, seen_history, start, with_entry, with_look, with_proposal}
-use Rattle.gu_world.specs.declared.outcome.Outcome.{Outcome}
 use Rattle.gu_world.specs.declared.outcome.Outcome.TheVariants.{Asked, Full, Seen, NoGroup, Proposed, Swept, Stale, Nothing}
 use Rattle.gu_world.specs.declared.step.Step.{Step}
-use Rattle.gu_world.specs.declared.step.Step.TheVariants.{Enter, See, Propose, Commit}
 
 -- ---- looks with proposals for their own groups
 

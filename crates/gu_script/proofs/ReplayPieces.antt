@@ -1,17 +1,8 @@
 -- A script while it is read: the lines that a piece ends, and the bytes that wait for more.
-use Rattle.std.proofs.Common.{◌≡◌, ◌≢◌, ◌∙◌, ℕ, ◌+◌, ◌<◌, ◌≤◌, Bool, true, false, ◌&&◌, ◌==◌, nat_le, List, [], ◌∷◌, ◌++◌, length, refl, sym, ap, subst, append_assoc, append-nil, length-append, arith, Result, Ok, Err}
-use Rattle.std.specs.Str.Lines.{lines, strip_carriage_return}
-use Rattle.std.specs.Prelude.{IsErrAnd, IsErrOf, OnOk}
-use Rattle.std.proofs.lemmas.List.Elements.{All-nil}
-use Rattle.gu_world.specs.Runs.{Course}
-use Rattle.gu_text.specs.LineFeeds.{HasNoLineFeed, IsParted, IsTooLong, LeavesOpen}
-use Rattle.gu_text.specs.Lines.{is_silent, longest_line}
-use Rattle.gu_text.specs.Scripts.{IsBad}
+use Rattle.gu_script.proofs.Words.{◌≡◌, ◌≢◌, ◌∙◌, ℕ, ◌+◌, ◌<◌, ◌≤◌, Bool, true, false, ◌&&◌, ◌==◌, nat_le, List, [], ◌∷◌, ◌++◌, length, refl, sym, ap, subst, append_assoc, append-nil, length-append, arith, Result, Ok, Err, lines, strip_carriage_return, IsErrAnd, IsErrOf, OnOk, All-nil, Course, HasNoLineFeed, IsParted, IsTooLong, LeavesOpen, is_silent, longest_line, IsBad, AnswersEnd, AnswersEnded, AnswersPiece, Place, StopsInPiece, TakesPiece, AnswersLines}
 use Rattle.gu_text.specs.declared.error.TextError.{TextError}
 use Rattle.gu_text.specs.declared.error.TextError.TheVariants as text_error
 use Rattle.gu_text.proofs.LineFeedLaws.{leaves_all, leaves_after, leaves_on, lines-alone, no_feed-append, parted_after}
-use Rattle.gu_script.specs.ScriptPieces.{AnswersEnd, AnswersEnded, AnswersPiece, Place, StopsInPiece, TakesPiece}
-use Rattle.gu_script.specs.ScriptSteps.{AnswersLines}
 use Rattle.gu_script.proofs.ReplayTexts.{lines_none, lines_then}
 
 -- ---- a piece

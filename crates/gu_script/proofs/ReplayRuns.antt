@@ -1,24 +1,14 @@
 -- A script while it is played: what was read, what waits, and what was written.
-use Rattle.std.proofs.Common.{◌==◌, Bool, true, false, zero, suc, ◌≡◌, ◌≢◌, ◌∙◌, ℕ, ◌+◌, ◌-◌, ◌*◌, ◌<◌, ◌≤◌, List, [], ◌++◌, length, take, Option, Result, Ok, Err, refl, sym, ap, subst, append-nil, length-append, arith, inl, inr}
-use Rattle.std.specs.Str.Lines.{lines}
+use Rattle.gu_script.proofs.Words.{◌==◌, Bool, true, false, zero, suc, ◌≡◌, ◌≢◌, ◌∙◌, ℕ, ◌+◌, ◌-◌, ◌*◌, ◌<◌, ◌≤◌, List, [], ◌++◌, length, take, Option, Result, Ok, Err, refl, sym, ap, subst, append-nil, length-append, arith, inl, inr, lines, IsErrOf, OnOk, All-nil, Course, HasNoLineFeed, LeavesOpen, ended_lines, IsTextOfLines, AnswersEnd, AnswersPiece, Ended, Gives, Place, StopsInPiece, TakesPiece, WrotePart, Memory, Read, Write, BadLine, wrote_all, wrote_then}
 use Rattle.std.specs.Io.KnownBytes.{Consumes, Appends, Keeps, IsAtEnd}
 use Rattle.std.proofs.KnownBytes.{Appends-trans, Appends-nil, Consumes-trans, Consumes-nil, Consumes-kept}
-use Rattle.std.specs.Prelude.{IsErrOf, OnOk}
-use Rattle.std.proofs.lemmas.List.Elements.{All-nil}
-use Rattle.gu_world.specs.Runs.{Course}
-use Rattle.gu_text.specs.LineFeeds.{HasNoLineFeed, LeavesOpen, ended_lines}
 use Rattle.gu_text.specs.declared.error.TextError.{TextError}
 use Rattle.gu_text.specs.declared.error.TextError.TheVariants as text_error
 use Rattle.gu_text.proofs.LineFeedLaws.{leaves_all, leaves_on, leaves_with, lines-left, ended_lines-left}
-use Rattle.gu_script.specs.Replaying.{IsTextOfLines}
-use Rattle.gu_script.specs.ScriptPieces.{AnswersEnd, AnswersPiece, Ended, Gives, Place, StopsInPiece, TakesPiece}
 use Rattle.gu_script.specs.ScriptRuns.{Replayed, ReplayedInPart, ReplayedSoFar, StopsAtBadLine}
 use Rattle.gu_streams.specs.Streams.{Streams}
-use Rattle.gu_streams.specs.Written.{WrotePart}
 use Rattle.gu_script.specs.declared.error.ScriptError.{ScriptError}
-use Rattle.gu_script.specs.declared.error.ScriptError.TheVariants.{Memory, Read, Write, BadLine}
 use Rattle.gu_script.proofs.ReplayTexts.{lines_none, lines_then}
-use Rattle.gu_streams.proofs.Writing.{wrote_all, wrote_then}
 
 module _ (old : Course) where
   -- so far the ended lines read are answered, and their text was written

@@ -1,26 +1,9 @@
 -- The texts appended for steps and for whole sweeps.
-use Rattle.std.proofs.Common.{◌≡◌, ◌∙◌, ℕ, true, false, List, [], ◌∷◌, ◌++◌, Option, Some, None, refl, sym, ap, subst, inl, inr, append-nil, append_assoc}
-use Rattle.std.specs.Prelude.{IsSome, IsTrue, MatchOption}
-use Rattle.gu_terms.specs.declared.entry.Entry.TheVariants.{Swept as SweptEntry}
-use Rattle.gu_terms.specs.declared.entry.SweepEntry.{SweepEntry}
-use Rattle.gu_terms.specs.declared.group.Group.{Group}
-use Rattle.gu_ref.specs.Reference.{is_group}
-use Rattle.gu_view.specs.View.{GroupView}
+use Rattle.gu_script.proofs.Words.{◌≡◌, ◌∙◌, ℕ, true, false, List, [], ◌∷◌, ◌++◌, Option, Some, None, refl, sym, ap, subst, inl, inr, append-nil, append_assoc, IsSome, IsTrue, MatchOption, Swept as SweptEntry, SweepEntry, Group, is_group, GroupView, group_view, Course, GoesOn, IsReached, IsRun, LeadsTo, ShowsProposed, State, next_receipt, with_look, Outcome, Enter, See, Propose, Commit, is_silent, outcome_text, Says, Line, IsTextOfLines, line_text, looked, step_text, steps_of, sweep_text, sweeper, Proposes, ShowsFor, AnswersLine, AnswersLines, AnswersSaid, AnswersStep}
 use Rattle.gu_rules.specs.BookState.{BookState}
-use Rattle.gu_rules.specs.Views.{group_view}
-use Rattle.gu_world.specs.Runs.{Course, GoesOn, IsReached, IsRun}
-use Rattle.gu_world.specs.Steps.{LeadsTo, ShowsProposed, State, next_receipt, with_look}
-use Rattle.gu_world.specs.declared.outcome.Outcome.{Outcome}
 use Rattle.gu_world.specs.declared.outcome.Outcome.TheVariants.{NoGroup, Swept}
 use Rattle.gu_world.specs.declared.step.Step.{Step}
-use Rattle.gu_world.specs.declared.step.Step.TheVariants.{Enter, See, Propose, Commit}
-use Rattle.gu_text.specs.Lines.{is_silent}
-use Rattle.gu_text.specs.Outcomes.{outcome_text}
-use Rattle.gu_text.specs.Scripts.{Says}
-use Rattle.gu_text.specs.declared.script_line.Line.{Line}
 use Rattle.gu_text.specs.declared.script_line.Line.TheVariants as line
-use Rattle.gu_script.specs.Replaying.{IsTextOfLines, line_text, looked, step_text, steps_of, sweep_text, sweeper}
-use Rattle.gu_script.specs.ScriptSteps.{Proposes, ShowsFor, AnswersLine, AnswersLines, AnswersSaid, AnswersStep}
 use Rattle.gu_script.proofs.ReplayLooks.{AreOwn, IsCommitted, IsUncommitted, own_reached, step_committed, step_entered, step_looked, step_proposed}
 use Rattle.gu_script.proofs.ReplayTexts.{line_said, line_silent}
 

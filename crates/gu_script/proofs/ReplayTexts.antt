@@ -1,10 +1,5 @@
 -- Texts of lines: those of some lines, followed by those of others.
-use Rattle.std.proofs.Common.{◌∙◌, ℕ, List, [], ◌∷◌, ◌++◌, IsTrue, refl, sym, ap, subst, append_assoc, append-nil, inl, inr}
-use Rattle.gu_world.specs.Runs.{Course}
-use Rattle.gu_text.specs.Lines.{is_silent}
-use Rattle.gu_text.specs.Scripts.{Says}
-use Rattle.gu_text.specs.declared.script_line.Line.{Line}
-use Rattle.gu_script.specs.Replaying.{HasLineText, HasText, IsTextOfLines, SayAll}
+use Rattle.gu_script.proofs.Words.{◌∙◌, ℕ, List, [], ◌∷◌, ◌++◌, IsTrue, refl, sym, ap, subst, append_assoc, append-nil, inl, inr, Course, is_silent, Says, Line, HasLineText, HasText, IsTextOfLines, SayAll}
 
 -- lines say something, and others say more
 pub SayAll-append : (texts more : List (List ℕ)) (said others : List Line) → SayAll texts said → SayAll more others → SayAll (texts ++ more) (said ++ others)

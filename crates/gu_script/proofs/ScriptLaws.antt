@@ -1,11 +1,6 @@
 -- A script is one run of the steps of its lines.
-use Rattle.std.proofs.Common.{◌≡◌, ◌∙◌, ℕ, List, [], ◌∷◌, ◌++◌, ap, sym, append_assoc, append-nil}
-use Rattle.std.specs.List.{flat_map}
-use Rattle.gu_world.specs.Runs.{Course, IsRun}
-use Rattle.gu_world.specs.declared.outcome.Outcome.{Outcome}
+use Rattle.gu_script.proofs.Words.{◌≡◌, ◌∙◌, ℕ, List, [], ◌∷◌, ◌++◌, ap, sym, append_assoc, append-nil, flat_map, Course, IsRun, Outcome, Line, HasText, steps_of}
 use Rattle.gu_world.proofs.RunLemmas.{IsRun-append}
-use Rattle.gu_text.specs.declared.script_line.Line.{Line}
-use Rattle.gu_script.specs.Replaying.{HasText, steps_of}
 
 -- the steps of lines that are answered so are a run, and the outcomes are those of this run
 pub steps_are_a_run : (old new : Course) (said : List Line) (text : List ℕ) → HasText old said text new

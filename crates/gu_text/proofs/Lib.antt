@@ -23,3 +23,4 @@ mod WordLemmas
 pub mod Writable
 pub mod WrittenCommandLemmas
 pub mod WrittenTakes
+pub mod Words

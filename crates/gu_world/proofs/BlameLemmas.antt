@@ -1,26 +1,14 @@
 -- Seeking the entry to blame.
-use Rattle.std.proofs.Common.{◌≡◌, ◌⊎◌, ℕ, zero, suc, ◌+◌, ◌<◌, ◌≤◌, Bool, true, false, nat_lt, List, [], ◌∷◌, ◌++◌, length, map, take, drop, replicate, get_or, Some, None, refl, sym, ap, ◌∙◌, arith, inl, inr, append-nil, if◌then◌else◌}
-use Rattle.std.specs.Prelude.{slice_get, slice_index_or}
-use Rattle.std.specs.List.{find}
-use Rattle.std.specs.Option.{option_map_or, option_to_list}
-use Rattle.std.proofs.lemmas.Bool.Decides.{nat_tests}
-use Rattle.std.proofs.lemmas.List.{drop_more, length-take-le, map-append, take_all, take_more}
+use Rattle.gu_world.proofs.Words.{◌≡◌, ◌⊎◌, ℕ, zero, suc, ◌+◌, ◌<◌, ◌≤◌, Bool, true, false, nat_lt, List, [], ◌∷◌, ◌++◌, length, map, take, drop, replicate, get_or, Some, None, refl, sym, ap, ◌∙◌, arith, inl, inr, append-nil, if◌then◌else◌, slice_get, slice_index_or, find, option_map_or, option_to_list, nat_tests, drop_more, length-take-le, map-append, take_all, take_more, Entry, Asked, Group, is_of_group, touches, touching, touching_after, own_of, first_touch_above, touching_after-append}
 use Rattle.gu_terms.specs.Same.{same_group}
 use Rattle.gu_terms.specs.declared.command.Command.TheVariants.{GiveUp}
 use Rattle.gu_terms.specs.declared.command.GiveUp.{GiveUp as GiveUpOf}
-use Rattle.gu_terms.specs.declared.entry.Entry.{Entry}
-use Rattle.gu_terms.specs.declared.entry.Entry.TheVariants.{Asked}
-use Rattle.gu_terms.specs.declared.group.Group.{Group}
 use Rattle.gu_terms.specs.declared.lines.Line.{Line}
 use Rattle.gu_terms.specs.declared.offer.Offer.{Offer}
 use Rattle.gu_terms.specs.declared.reply.Done.TheVariants.{Offered}
 use Rattle.gu_terms.specs.declared.reply.Reply.TheVariants.{Accepted}
 use Rattle.gu_rules.specs.Offers.{lines_by, offers_of}
-use Rattle.gu_rules.specs.Versions.{is_of_group, touches, touching, touching_after}
 use Rattle.gu_rules.proofs.StandingLemmas.{offers_of-push}
-use Rattle.gu_world.specs.Blame.{own_of}
-use Rattle.gu_world.specs.Steps.{first_touch_above}
-use Rattle.gu_rules.proofs.VersionLemmas.{touching_after-append}
 use Rattle.gu_world.proofs.Touches.{found_after, touching_at}
 
 -- it is known whether the offer with a number is in the group

@@ -1,15 +1,5 @@
 -- The entry to blame for an outcome.
-use Rattle.std.proofs.Common.{◌≡◌, ℕ, zero, suc, ◌-◌, ◌<◌, true, false, List, [], ◌∷◌, ◌++◌, length, take, get_or, Option, Some, None, Result, Ok, Err, refl, sym, ap, ◌∙◌, arith, subst, length-append}
-use Rattle.std.specs.Prelude.{slice_get, IfOk}
-use Rattle.std.specs.Option.{option_map_or}
-use Rattle.gu_ref.specs.Tables.{Tables}
-use Rattle.gu_world.specs.Blame.{IsBlamedFor, ends_stale, first_after, is_stale}
-use Rattle.gu_world.specs.Runs.{Course, GoesOn, IsBlamedAt, IsCulprit, IsRunOf, blamed}
-use Rattle.gu_world.specs.Steps.{State}
-use Rattle.gu_world.specs.declared.outcome.Outcome.{Outcome}
-use Rattle.gu_world.specs.declared.outcome.Outcome.TheVariants.{Stale}
-use Rattle.gu_world.specs.declared.step.Step.{Step}
-use Rattle.gu_world.specs.declared.step.Step.TheVariants.{Enter, See, Propose, Commit}
+use Rattle.gu_world.proofs.Words.{◌≡◌, ℕ, zero, suc, ◌-◌, ◌<◌, true, false, List, [], ◌∷◌, ◌++◌, length, take, get_or, Option, Some, None, Result, Ok, Err, refl, sym, ap, ◌∙◌, arith, subst, length-append, slice_get, IfOk, option_map_or, Tables, IsBlamedFor, ends_stale, first_after, is_stale, Course, GoesOn, IsBlamedAt, IsCulprit, IsRunOf, blamed, State, Outcome, Stale, Step, Enter, See, Propose, Commit}
 
 -- the last element
 last-at : {X : Type 0} (xs : List X) (x : X) → slice_get (xs ++ x ∷ []) (length xs) ≡ Some x

@@ -1,24 +1,7 @@
 -- What a book's answer to a commit means for the look that it is for.
-use Rattle.std.proofs.Common.{◌≡◌, ◌≢◌, ℕ, ◌+◌, ◌<◌, true, false, List, [], ◌∷◌, ◌++◌, drop, length, take, take-append-drop, Option, is_some, sym, ap, ◌∙◌, arith, inl, inr}
-use Rattle.std.specs.Prelude.{nat_le}
-use Rattle.std.proofs.lemmas.Bool.{cases_Bool}
-use Rattle.std.proofs.lemmas.Bool.Decides.{nat_tests}
-use Rattle.gu_terms.specs.declared.entry.Entry.{Entry}
-use Rattle.gu_terms.specs.declared.entry.Entry.TheVariants.{Swept as SweptEntry}
-use Rattle.gu_terms.specs.declared.group.Group.{Group}
-use Rattle.gu_terms.specs.declared.receipt.Receipt.{Receipt}
+use Rattle.gu_world.proofs.Words.{◌≡◌, ◌≢◌, ℕ, ◌+◌, ◌<◌, true, false, List, [], ◌∷◌, ◌++◌, drop, length, take, take-append-drop, Option, is_some, sym, ap, ◌∙◌, arith, inl, inr, nat_le, cases_Bool, nat_tests, Entry, Swept as SweptEntry, Group, Receipt, GroupView, BookState, IsLegal, version_of, group_view, equal_views, IsCurrent, IsForeign, IsStale, sweep_of, IsTrueLook, look_by, Look, committed_for, first_touch_above, Ready, Stale}
 use Rattle.gu_flow.specs.Proposals.{ProposedSweep}
-use Rattle.gu_view.specs.View.{GroupView}
-use Rattle.gu_rules.specs.BookState.{BookState}
-use Rattle.gu_rules.specs.Legal.{IsLegal}
-use Rattle.gu_rules.specs.Versions.{version_of}
-use Rattle.gu_rules.specs.Views.{group_view}
-use Rattle.gu_rules.proofs.EqualViews.{equal_views}
-use Rattle.gu_book.specs.Commits.{IsCurrent, IsForeign, IsStale, sweep_of}
-use Rattle.gu_world.specs.Looks.{IsTrueLook, look_by}
-use Rattle.gu_world.specs.Steps.{Look, committed_for, first_touch_above}
-use Rattle.gu_world.specs.declared.held.Work.TheVariants.{Ready}
-use Rattle.gu_world.specs.declared.outcome.Outcome.TheVariants.{Stale, Swept}
+use Rattle.gu_world.specs.declared.outcome.Outcome.TheVariants.{Swept}
 use Rattle.gu_world.proofs.Touches.{versions_and_touches}
 
 -- a book with less than 1,000,000 entries isn't full

@@ -1,22 +1,7 @@
 -- Work in hand of a worker that proposes.
-use Rattle.std.proofs.Common.{◌≡◌, ℕ, List, length, take, Option, Some, None, refl, sym, ap, ◌∙◌, subst}
-use Rattle.std.specs.Prelude.{slice_index_or, slice_set}
-use Rattle.std.specs.Option.{option_map}
-use Rattle.std.proofs.lemmas.List.{length-set}
-use Rattle.gu_ref.specs.Reference.{is_group}
+use Rattle.gu_world.proofs.Words.{◌≡◌, ℕ, List, length, take, Option, Some, None, refl, sym, ap, ◌∙◌, subst, slice_index_or, slice_set, option_map, length-set, is_group, GroupView, IsNested, BookState, group_view, sweep_of, AreTrue, Grows, IsTrueLook, look_by, look_in, looks_in, state_in, view_in, Look, ProposesOn, committed_for, committed_on, look_of, with_proposal, Held, Work, Looking, Ready, Outcome, Nothing, Proposed}
 use Rattle.gu_flow.specs.Proposals.{ProposedSweep}
-use Rattle.gu_view.specs.View.{GroupView, IsNested}
-use Rattle.gu_rules.specs.BookState.{BookState}
 use Rattle.gu_rules.specs.Sweeps.{IsSweepOf}
-use Rattle.gu_rules.specs.Views.{group_view}
-use Rattle.gu_book.specs.Commits.{sweep_of}
-use Rattle.gu_world.specs.Looks.{AreTrue, Grows, IsTrueLook, look_by, look_in, looks_in, state_in, view_in}
-use Rattle.gu_world.specs.Steps.{Look, ProposesOn, committed_for, committed_on, look_of, with_proposal}
-use Rattle.gu_world.specs.declared.held.Held.{Held}
-use Rattle.gu_world.specs.declared.held.Work.{Work}
-use Rattle.gu_world.specs.declared.held.Work.TheVariants.{Looking, Ready}
-use Rattle.gu_world.specs.declared.outcome.Outcome.{Outcome}
-use Rattle.gu_world.specs.declared.outcome.Outcome.TheVariants.{Nothing, Proposed}
 use Rattle.gu_world.proofs.SlotLemmas.{look_of-held, looks_in-put, looks_in-taken, set-own, set-twice, true-grown, true-put, true-taken}
 
 -- a look has the group of its view, and the number of entries seen

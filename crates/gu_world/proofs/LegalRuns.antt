@@ -1,29 +1,8 @@
 -- Every run leads to a legal history.
-use Rattle.std.proofs.Common.{◌≡◌, ◌⊎◌, ℕ, zero, suc, ◌≤◌, Bool, true, false, List, [], ◌∷◌, ◌++◌, drop, length, take, take-append-drop, Option, Some, None, refl, sym, ap, subst, arith, inl, inr, if◌then◌else◌, length-append}
-use Rattle.std.specs.Prelude.{slice_index_or, slice_set}
-use Rattle.std.specs.Option.{option_map_or}
-use Rattle.std.proofs.lemmas.Bool.{leb-false}
-use Rattle.std.proofs.lemmas.List.{take-append-le}
-use Rattle.gu_terms.specs.declared.entry.Entry.{Entry}
-use Rattle.gu_terms.specs.declared.entry.Entry.TheVariants.{Asked as AskedEntry, Swept as SweptEntry}
-use Rattle.gu_terms.specs.declared.entry.SweepEntry.{SweepEntry}
-use Rattle.gu_terms.specs.declared.group.Group.{Group}
-use Rattle.gu_ref.specs.Reference.{is_group}
-use Rattle.gu_ref.specs.Tables.{Tables}
-use Rattle.gu_view.specs.View.{GroupView}
+use Rattle.gu_world.proofs.Words.{◌≡◌, ◌⊎◌, ℕ, zero, suc, ◌≤◌, Bool, true, false, List, [], ◌∷◌, ◌++◌, drop, length, take, take-append-drop, Option, Some, None, refl, sym, ap, subst, arith, inl, inr, if◌then◌else◌, length-append, slice_index_or, slice_set, option_map_or, leb-false, take-append-le, Entry, Asked as AskedEntry, Swept as SweptEntry, SweepEntry, Group, is_group, Tables, GroupView, IsLegal, MayBeEntered, MayFollow, version_of, group_view, equal_views, Course, IsRun, IsRunOf, LeadsTo, Look, ProposesOn, State, committed_for, committed_on, is_full, is_overtaken, look_of, start, with_entry, with_look, with_proposal, Outcome, Nothing, Step, Enter, See, Propose, Commit}
 use Rattle.gu_rules.specs.Answer.{answer}
-use Rattle.gu_rules.specs.Legal.{IsLegal, MayBeEntered, MayFollow}
 use Rattle.gu_rules.specs.Sweeps.{IsSweepOf, MaySweep}
-use Rattle.gu_rules.specs.Versions.{version_of}
-use Rattle.gu_rules.specs.Views.{group_view}
-use Rattle.gu_rules.proofs.EqualViews.{equal_views}
 use Rattle.gu_rules.proofs.Growing.{legal_push}
-use Rattle.gu_world.specs.Runs.{Course, IsRun, IsRunOf}
-use Rattle.gu_world.specs.Steps.{LeadsTo, Look, ProposesOn, State, committed_for, committed_on, is_full, is_overtaken, look_of, start, with_entry, with_look, with_proposal}
-use Rattle.gu_world.specs.declared.outcome.Outcome.{Outcome}
-use Rattle.gu_world.specs.declared.outcome.Outcome.TheVariants.{Nothing}
-use Rattle.gu_world.specs.declared.step.Step.{Step}
-use Rattle.gu_world.specs.declared.step.Step.TheVariants.{Enter, See, Propose, Commit}
 use Rattle.gu_world.proofs.HeadlineLemmas.{run-reference}
 use Rattle.gu_world.proofs.SlotLemmas.{index-nothing}
 use Rattle.gu_world.proofs.Touches.{versions_and_touches}

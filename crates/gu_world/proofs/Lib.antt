@@ -12,3 +12,4 @@ pub mod SeriesLemmas
 pub mod ShortLemmas
 pub mod SlotLemmas
 pub mod Touches
+pub mod Words

@@ -1,23 +1,6 @@
 -- Looks as steps are taken.
-use Rattle.std.proofs.Common.{◌≡◌, ℕ, ◌<◌, ◌≤◌, Bool, true, false, nat_lt, List, [], ◌∷◌, ◌++◌, length, take, Option, Some, None, is_some, refl, sym, ap, ◌∙◌, subst, if◌then◌else◌, append-nil, inl, inr}
-use Rattle.std.specs.List.{find}
-use Rattle.std.specs.Option.{option_and_then, option_map_or}
-use Rattle.std.proofs.lemmas.Bool.{cases_Bool, ltb-true}
-use Rattle.std.proofs.lemmas.List.{take-append-le}
-use Rattle.gu_terms.specs.declared.entry.Entry.{Entry}
-use Rattle.gu_terms.specs.declared.entry.SweepEntry.{SweepEntry}
-use Rattle.gu_terms.specs.declared.receipt.Receipt.{Receipt}
-use Rattle.gu_ref.specs.Reference.{is_group}
-use Rattle.gu_rules.specs.BookState.{BookState}
-use Rattle.gu_rules.specs.Versions.{touching}
-use Rattle.gu_rules.specs.Views.{group_view}
-use Rattle.gu_world.specs.Looks.{Grows}
-use Rattle.gu_world.specs.Runs.{blamed}
-use Rattle.gu_world.specs.Steps.{LeadsTo, Look, ProposesOn, State, committed_for, committed_on, first_touch_above, is_full, is_overtaken, look_of, seen_history, view_seen, with_look}
-use Rattle.gu_world.specs.declared.outcome.Outcome.{Outcome}
-use Rattle.gu_world.specs.declared.outcome.Outcome.TheVariants.{Full, Nothing, Stale, Swept}
-use Rattle.gu_world.specs.declared.step.Step.{Step}
-use Rattle.gu_world.specs.declared.step.Step.TheVariants.{Enter, See, Propose, Commit}
+use Rattle.gu_world.proofs.Words.{◌≡◌, ℕ, ◌<◌, ◌≤◌, Bool, true, false, nat_lt, List, [], ◌∷◌, ◌++◌, length, take, Option, Some, None, is_some, refl, sym, ap, ◌∙◌, subst, if◌then◌else◌, append-nil, inl, inr, find, option_and_then, option_map_or, cases_Bool, ltb-true, take-append-le, Entry, SweepEntry, Receipt, is_group, BookState, touching, group_view, Grows, blamed, LeadsTo, Look, ProposesOn, State, committed_for, committed_on, first_touch_above, is_full, is_overtaken, look_of, seen_history, view_seen, with_look, Outcome, Full, Nothing, Stale, Step, Enter, See, Propose, Commit}
+use Rattle.gu_world.specs.declared.outcome.Outcome.TheVariants.{Swept}
 
 -- ---- the book grows
 

@@ -1,23 +1,9 @@
 -- Outcomes as a world stores them: the stored form gives them back, however many entries follow.
-use Rattle.std.proofs.Common.{◌≡◌, ℕ, zero, suc, ◌+◌, ◌≤◌, arith, Bool, true, false, List, [], ◌∷◌, ◌++◌, length, map, Option, Some, None, refl, sym, ap, subst, ◌∙◌, get_or, if◌then◌else◌}
-use Rattle.std.specs.Prelude.{slice_get}
-use Rattle.std.specs.Option.{option_map_or}
-use Rattle.std.proofs.lemmas.List.{length-append, map-append}
-use Rattle.std.proofs.lemmas.List.Elements.{All-push}
+use Rattle.gu_world.proofs.Words.{◌≡◌, ℕ, zero, suc, ◌+◌, ◌≤◌, arith, Bool, true, false, List, [], ◌∷◌, ◌++◌, length, map, Option, Some, None, refl, sym, ap, subst, ◌∙◌, get_or, if◌then◌else◌, slice_get, option_map_or, map-append, All-push, Entry, Swept as SweptEntry, SweepEntry, is_group, Grows, AreNumbered, IsNumbered, kept_of, outcome_in, LeadsTo, Look, ProposesOn, State, committed_for, committed_on, is_full, is_overtaken, look_of, next_receipt, with_entry, with_look, Outcome, Full, NoGroup, Nothing, Proposed, KeptOutcome, Step, Enter, See, Propose, Commit}
+use Rattle.std.proofs.lemmas.List.{length-append}
 use Rattle.gu_terms.specs.Histories.{entry_at}
-use Rattle.gu_terms.specs.declared.entry.Entry.{Entry}
-use Rattle.gu_terms.specs.declared.entry.Entry.TheVariants.{Swept as SweptEntry}
-use Rattle.gu_terms.specs.declared.entry.SweepEntry.{SweepEntry}
-use Rattle.gu_ref.specs.Reference.{is_group}
-use Rattle.gu_world.specs.Looks.{Grows}
-use Rattle.gu_world.specs.Outcomes.{AreNumbered, IsNumbered, kept_of, outcome_in}
-use Rattle.gu_world.specs.Steps.{LeadsTo, Look, ProposesOn, State, committed_for, committed_on, is_full, is_overtaken, look_of, next_receipt, with_entry, with_look}
-use Rattle.gu_world.specs.declared.outcome.Outcome.{Outcome}
-use Rattle.gu_world.specs.declared.outcome.Outcome.TheVariants.{Asked, Full, NoGroup, Nothing, Proposed, Swept}
-use Rattle.gu_world.specs.declared.outcomes.KeptOutcome.{KeptOutcome}
+use Rattle.gu_world.specs.declared.outcome.Outcome.TheVariants.{Asked, Swept}
 use Rattle.gu_world.specs.declared.outcomes.KeptOutcome.TheVariants as kept
-use Rattle.gu_world.specs.declared.step.Step.{Step}
-use Rattle.gu_world.specs.declared.step.Step.TheVariants.{Enter, See, Propose, Commit}
 use Rattle.gu_world.proofs.LookLemmas.{leads-grow}
 
 -- an entry stays at its index

@@ -1,19 +1,7 @@
 -- The receipts in stored outcomes, after one more outcome and after one more series.
-use Rattle.std.proofs.Common.{◌≡◌, ℕ, ◌+◌, ◌<◌, List, [], ◌∷◌, ◌++◌, length, map, take, get_or, Some, sym, ap, ◌∙◌, append-nil, append_assoc}
-use Rattle.std.specs.Prelude.{slice_get}
-use Rattle.std.specs.Option.{option_to_list}
-use Rattle.std.proofs.lemmas.List.{map-append, take_more}
+use Rattle.gu_world.proofs.Words.{◌≡◌, ℕ, ◌+◌, ◌<◌, List, [], ◌∷◌, ◌++◌, length, map, take, get_or, Some, sym, ap, ◌∙◌, append-nil, append_assoc, slice_get, option_to_list, map-append, take_more, filter_map-append, get_or_from_slice_get, slice_get_within, Entry, Receipt, outcome_in, receipt_of, receipts_in, all_outcomes, outcomes_of, Outcome, KeptOutcome}
 use Rattle.std.proofs.lemmas.List.Concat.{flat_map-append}
-use Rattle.std.proofs.lemmas.List.Elements.{filter_map-append}
-use Rattle.std.proofs.lemmas.Option.{get_or_from_slice_get, slice_get_within}
-use Rattle.gu_terms.specs.declared.entry.Entry.{Entry}
-use Rattle.gu_terms.specs.declared.receipt.Receipt.{Receipt}
 use Rattle.gu_terms.proofs.Gathered.{filter_map-last}
-use Rattle.gu_world.specs.Outcomes.{outcome_in}
-use Rattle.gu_world.specs.Runs.{receipt_of, receipts_in}
-use Rattle.gu_world.specs.Series.{all_outcomes, outcomes_of}
-use Rattle.gu_world.specs.declared.outcome.Outcome.{Outcome}
-use Rattle.gu_world.specs.declared.outcomes.KeptOutcome.{KeptOutcome}
 use Rattle.gu_world.specs.declared.series.Series.{Series}
 
 -- the receipts in these stored outcomes

@@ -1,27 +1,5 @@
 -- Runs, with one more step.
-use Rattle.std.proofs.Common.{◌≤◌, arith, ◌≡◌, ℕ, suc, Bool, true, false, List, [], ◌∷◌, ◌++◌, drop, length, map, take, take-append-drop, Option, Some, None, refl, sym, ap, ◌∙◌, subst, if◌then◌else◌}
-use Rattle.std.specs.Prelude.{IsSome, slice_index_or, take}
-use Rattle.std.specs.Option.{option_map, option_map_or}
-use Rattle.gu_terms.specs.declared.entry.SweepEntry.{SweepEntry}
-use Rattle.gu_ref.specs.Reference.{is_group}
-use Rattle.gu_ref.specs.Tables.{Tables}
-use Rattle.gu_view.specs.View.{GroupView}
-use Rattle.gu_rules.specs.BookState.{BookState}
-use Rattle.gu_rules.specs.Legal.{IsLegal}
-use Rattle.gu_rules.specs.Views.{group_view}
-use Rattle.gu_rules.proofs.EqualViews.{equal_views}
-use Rattle.gu_world.specs.Looks.{AreTrue, IsKeptCourse, look_by, look_in, state_in, view_in, view_proposed, view_ready}
-use Rattle.gu_world.specs.Outcomes.{AreNumbered, kept_of, outcome_in}
-use Rattle.gu_world.specs.Runs.{Course, GoesOn, IsRun, IsRunOf, beginning}
-use Rattle.gu_world.specs.Steps.{LeadsTo, Look, ProposesOn, ShowsProposed, State, committed_for, committed_on, is_full, is_overtaken, look_of, view_seen, with_look}
-use Rattle.gu_world.specs.declared.held.Held.{Held}
-use Rattle.gu_world.specs.declared.held.Work.{Work}
-use Rattle.gu_world.specs.declared.held.Work.TheVariants.{Looking, Ready}
-use Rattle.gu_world.specs.declared.outcome.Outcome.{Outcome}
-use Rattle.gu_world.specs.declared.outcome.Outcome.TheVariants.{Nothing}
-use Rattle.gu_world.specs.declared.step.Step.{Step}
-use Rattle.gu_world.specs.declared.step.Step.TheVariants.{Enter, See, Propose, Commit}
-use Rattle.gu_world.specs.declared.outcomes.KeptOutcome.{KeptOutcome}
+use Rattle.gu_world.proofs.Words.{◌≤◌, arith, ◌≡◌, ℕ, suc, Bool, true, false, List, [], ◌∷◌, ◌++◌, drop, length, map, take, take-append-drop, Option, Some, None, refl, sym, ap, ◌∙◌, subst, if◌then◌else◌, IsSome, slice_index_or, option_map, option_map_or, SweepEntry, is_group, Tables, GroupView, BookState, IsLegal, group_view, equal_views, AreTrue, IsKeptCourse, look_by, look_in, state_in, view_in, view_proposed, view_ready, AreNumbered, kept_of, outcome_in, Course, GoesOn, IsRun, IsRunOf, beginning, LeadsTo, Look, ProposesOn, ShowsProposed, State, committed_for, committed_on, is_full, is_overtaken, look_of, view_seen, with_look, Held, Work, Looking, Ready, Outcome, Nothing, Step, Enter, See, Propose, Commit, KeptOutcome}
 use Rattle.gu_world.proofs.OutcomeLemmas.{numbered-one_more, outcomes-one_more}
 use Rattle.gu_world.proofs.Holding.{look_by-group, look_by-seen}
 use Rattle.gu_world.proofs.SlotLemmas.{look_of-held}

@@ -1,13 +1,9 @@
 -- Series of outcomes: their length, the outcome at an index, and one more outcome.
-use Rattle.std.proofs.Common.{◌≡◌, ℕ, zero, suc, ◌+◌, ◌-◌, ◌<◌, ◌≤◌, arith, List, [], ◌∷◌, ◌++◌, length, Some, refl, sym, ap, subst, ◌∙◌, append_assoc, append-nil, get_or, take, drop}
-use Rattle.std.specs.Prelude.{slice_get, slice_set, All}
-use Rattle.std.proofs.lemmas.List.{length-append, drop_more, take_all, take_more}
+use Rattle.gu_world.proofs.Words.{◌≡◌, ℕ, zero, suc, ◌+◌, ◌-◌, ◌<◌, ◌≤◌, arith, List, [], ◌∷◌, ◌++◌, length, Some, refl, sym, ap, subst, ◌∙◌, append_assoc, append-nil, get_or, take, drop, slice_get, slice_set, All, drop_more, take_all, take_more, get_or_from_slice_get, slice_get-get_or, all_outcomes, outcomes_of, KeptOutcome}
+use Rattle.std.proofs.lemmas.List.{length-append}
 use Rattle.std.proofs.lemmas.List.Concat.{flat_map-append, get_or-flat_map}
 use Rattle.std.proofs.lemmas.List.Folds.{length-flat_map-take}
 use Rattle.std.proofs.lemmas.List.FromFn.{get_or-map-range_with_len, length-map-range_with_len, map-range_with_len_more}
-use Rattle.std.proofs.lemmas.Option.{get_or_from_slice_get, slice_get-get_or}
-use Rattle.gu_world.specs.Series.{all_outcomes, outcomes_of}
-use Rattle.gu_world.specs.declared.outcomes.KeptOutcome.{KeptOutcome}
 use Rattle.gu_world.specs.declared.outcomes.KeptOutcome.TheVariants as kept
 use Rattle.gu_world.specs.declared.series.Series.{Series}
 use Rattle.gu_world.specs.declared.series.Series.TheVariants.{Asked}

@@ -1,17 +1,6 @@
 -- The stored outcome of a step fits in 32 bits: a book has at most 1,000,000 entries, and no version is above their number.
-use Rattle.std.proofs.Common.{ℕ, ◌≤◌, arith, Bool, true, false, length, Option, Some, None, sym, subst, if◌then◌else◌}
-use Rattle.std.specs.Option.{option_map_or}
-use Rattle.std.proofs.lemmas.List.{length-append, length-take}
-use Rattle.gu_terms.specs.declared.entry.SweepEntry.{SweepEntry}
-use Rattle.gu_ref.specs.Reference.{is_group}
-use Rattle.gu_rules.proofs.VersionLemmas.{version-le}
-use Rattle.gu_world.specs.Outcomes.{kept_of}
-use Rattle.gu_world.specs.Series.{IsShort}
-use Rattle.gu_world.specs.Steps.{LeadsTo, Look, ProposesOn, State, committed_for, committed_on, is_full, is_overtaken, look_of, seen_history, with_look}
-use Rattle.gu_world.specs.declared.outcome.Outcome.{Outcome}
-use Rattle.gu_world.specs.declared.outcome.Outcome.TheVariants.{Nothing}
-use Rattle.gu_world.specs.declared.step.Step.{Step}
-use Rattle.gu_world.specs.declared.step.Step.TheVariants.{Enter, See, Propose, Commit}
+use Rattle.gu_world.proofs.Words.{ℕ, ◌≤◌, arith, Bool, true, false, length, Option, Some, None, sym, subst, if◌then◌else◌, option_map_or, length-take, SweepEntry, is_group, version-le, kept_of, IsShort, LeadsTo, Look, ProposesOn, State, committed_for, committed_on, is_full, is_overtaken, look_of, seen_history, with_look, Outcome, Nothing, Step, Enter, See, Propose, Commit}
+use Rattle.std.proofs.lemmas.List.{length-append}
 
 -- if the book has at most that many
 abbrev IsKeptShort : Outcome × State → Type 0

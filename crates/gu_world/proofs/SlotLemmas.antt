@@ -1,20 +1,5 @@
 -- Workers' slots.
-use Rattle.std.proofs.Common.{◌≡◌, ◌⊎◌, ℕ, zero, suc, true, List, [], ◌∷◌, length, map, replicate, take, Option, Some, None, refl, sym, ap, ◌∙◌, arith, subst, inl, inr, length-append}
-use Rattle.std.specs.Prelude.{slice_index_or, slice_set}
-use Rattle.std.specs.Option.{option_map}
-use Rattle.std.proofs.lemmas.List.{length-set, map-set, take-append-le, take_all}
-use Rattle.gu_terms.specs.declared.entry.Entry.{Entry}
-use Rattle.gu_terms.specs.declared.group.Group.{Group}
-use Rattle.gu_ref.specs.Reference.{is_group}
-use Rattle.gu_ref.specs.Tables.{Tables}
-use Rattle.gu_view.specs.View.{GroupView, IsNested}
-use Rattle.gu_rules.specs.BookState.{BookState}
-use Rattle.gu_rules.specs.Views.{group_view}
-use Rattle.gu_world.specs.Looks.{AreTrue, Grows, IsTrueLook, look_in, looks_in, state_in, view_in}
-use Rattle.gu_world.specs.Steps.{Look, look_of, looked}
-use Rattle.gu_world.specs.declared.held.Held.{Held}
-use Rattle.gu_world.specs.declared.held.Work.TheVariants.{Looking}
-use Rattle.gu_world.specs.declared.outcome.Outcome.TheVariants.{Seen}
+use Rattle.gu_world.proofs.Words.{◌≡◌, ◌⊎◌, ℕ, zero, suc, true, List, [], ◌∷◌, length, map, replicate, take, Option, Some, None, refl, sym, ap, ◌∙◌, arith, subst, inl, inr, length-append, slice_index_or, slice_set, option_map, length-set, map-set, take-append-le, take_all, Entry, Group, is_group, Tables, GroupView, IsNested, BookState, group_view, AreTrue, Grows, IsTrueLook, look_in, looks_in, state_in, view_in, Look, look_of, looked, Held, Looking, Seen}
 
 -- ---- slots of a list
 

@@ -1,14 +1,5 @@
 -- Equal versions, and entries between them that touch nothing.
-use Rattle.std.proofs.Common.{◌≡◌, ◌↔◌, ℕ, ◌+◌, ◌<◌, ◌≤◌, Bool, true, false, nat_lt, List, [], ◌∷◌, ◌++◌, length, take, drop, Option, Some, None, is_some, cond, if◌then◌else◌, refl, sym, ap, subst, ◌∙◌, arith, length-append, append_assoc, append-nil, take-append-drop}
-use Rattle.std.specs.List.{find}
-use Rattle.std.specs.Option.{option_to_list}
-use Rattle.std.proofs.lemmas.Bool.Decides.{nat_tests}
-use Rattle.std.proofs.lemmas.List.{length-take}
-use Rattle.gu_terms.specs.declared.entry.Entry.{Entry}
-use Rattle.gu_terms.specs.declared.group.Group.{Group}
-use Rattle.gu_rules.specs.Versions.{touches, touching, touching_after, version_of}
-use Rattle.gu_rules.proofs.VersionLemmas.{touching_after-append}
-use Rattle.gu_world.specs.Steps.{first_touch_above}
+use Rattle.gu_world.proofs.Words.{◌≡◌, ◌↔◌, ℕ, ◌+◌, ◌<◌, ◌≤◌, Bool, true, false, nat_lt, List, [], ◌∷◌, ◌++◌, length, take, drop, Option, Some, None, is_some, cond, if◌then◌else◌, refl, sym, ap, subst, ◌∙◌, arith, length-append, append_assoc, append-nil, take-append-drop, find, option_to_list, nat_tests, length-take, Entry, Group, touches, touching, touching_after, version_of, touching_after-append, first_touch_above}
 
 -- a number at the front, if a test passes
 abbrev in_front : Bool → ℕ → List ℕ → List ℕ

@@ -1,5 +1,4 @@
-use Rattle.std.proofs.Common.{◌∙◌, sym}
-use Rattle.gu_rules.proofs.AgreementPaths.{accounts-known}
+use Rattle.gu_book.proofs.Words.{◌∙◌, sym, accounts-known}
 use Rattle.gu_book.proofs.answering.has_unknown_account_without.Goals as goal
 
 pub returns-else-lacks : goal.returns-else-lacks

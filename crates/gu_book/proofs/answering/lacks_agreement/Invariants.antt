@@ -1,7 +1,4 @@
-use Rattle.std.proofs.Common.{◌≡◌, false, is_none, take}
-use Rattle.std.specs.List.{list_any}
-use Rattle.gu_terms.specs.declared.lines.Line.{Line}
-use Rattle.gu_ref.specs.Reference.{agreement_between}
+use Rattle.gu_book.proofs.Words.{◌≡◌, false, is_none, take, list_any, Line, agreement_between}
 use Rattle.gu_book.proofs.answering.lacks_agreement.Given as goal
 
 abbrev pub invariant-loop-line : goal.invariant-loop-line

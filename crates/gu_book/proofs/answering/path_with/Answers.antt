@@ -1,5 +1,4 @@
-use Rattle.std.proofs.Common.{[], unwrap_or, ◌∙◌, ap, sym}
-use Rattle.std.specs.Option.{option_and_then}
+use Rattle.gu_book.proofs.Words.{[], unwrap_or, ◌∙◌, ap, sym, option_and_then}
 use Rattle.gu_limits.proofs.RowsBetween.{partner-none}
 use Rattle.gu_limits.specs.Paths.{path_of}
 use Rattle.gu_book.proofs.answering.path_with.Goals as goal

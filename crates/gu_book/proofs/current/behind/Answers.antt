@@ -1,6 +1,5 @@
-use Rattle.std.proofs.Common.{◌≡◌, ◌∙◌, ◌∷◌, Bool, true, false, not, ap, refl, sym}
+use Rattle.gu_book.proofs.Words.{◌≡◌, ◌∙◌, ◌∷◌, Bool, true, false, not, ap, refl, sym, ViewOffer}
 use Rattle.gu_view.proofs.SameViews.{offer_eq, offer_eq-Decides}
-use Rattle.gu_view.specs.declared.view.ViewOffer.{ViewOffer}
 use Rattle.gu_book.proofs.current.behind.Goals as goal
 
 pub returns-then-ne-clause-exactly : goal.returns-then-ne-clause-exactly

@@ -1,9 +1,4 @@
-use Rattle.std.proofs.Common.{◌∙◌, ◌+◌, ◌++◌, List, ap, drop, get_or, sym}
-use Rattle.std.specs.List.{filter_map}
-use Rattle.std.specs.Option.{option_to_list}
-use Rattle.gu_ref.specs.Tables.{Tables}
-use Rattle.gu_offers.specs.Rows.{Row}
-use Rattle.gu_rules.specs.Views.{shown_at}
+use Rattle.gu_book.proofs.Words.{◌∙◌, ◌+◌, ◌++◌, List, ap, drop, get_or, sym, filter_map, option_to_list, Tables, Row, shown_at}
 use Rattle.gu_book.proofs.CurrentLemmas.{given-next, rest-begins}
 use Rattle.gu_book.proofs.current.shows_offers.Goals as goal
 

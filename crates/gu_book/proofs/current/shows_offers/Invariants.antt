@@ -1,6 +1,4 @@
-use Rattle.std.proofs.Common.{◌≡◌, ◌++◌, take}
-use Rattle.std.specs.List.{filter_map}
-use Rattle.gu_rules.specs.Views.{shown_at}
+use Rattle.gu_book.proofs.Words.{◌≡◌, ◌++◌, take, filter_map, shown_at}
 use Rattle.gu_book.proofs.current.shows_offers.Lts.Given as given
 
 pub record invariant-loop-number (l : given.Live-loop-number) : Type 0 where

@@ -1,9 +1,4 @@
-use Rattle.std.proofs.Common.{◌≡◌, ◌∙◌, arith, refl, subst}
-use Rattle.std.proofs.lemmas.List.{take_all}
-use Rattle.std.proofs.lemmas.List.Elements.{All-more}
-use Rattle.gu_limits.specs.Limits.{room_in}
-use Rattle.gu_view.specs.declared.view.Room.{Room}
-use Rattle.gu_book.specs.Current.{HasRooms}
+use Rattle.gu_book.proofs.Words.{◌≡◌, ◌∙◌, arith, refl, subst, take_all, All-more, room_in, Room, HasRooms}
 use Rattle.gu_book.proofs.current.shows_rooms.Goals as goal
 
 pub loop-room-init : goal.loop-room-init

@@ -1,5 +1,4 @@
-use Rattle.std.proofs.Common.{take}
-use Rattle.gu_book.specs.Current.{HasRooms}
+use Rattle.gu_book.proofs.Words.{take, HasRooms}
 use Rattle.gu_book.proofs.current.shows_rooms.Given as goal
 
 abbrev pub invariant-loop-room : goal.invariant-loop-room

@@ -1,9 +1,5 @@
-use Rattle.std.proofs.Common.{◌∙◌, ◌++◌, [], List, ap, append-nil, map, rules, sym}
-use Rattle.std.specs.List.{filter_map}
-use Rattle.std.proofs.lemmas.Result.{on_ok_weaker}
-use Rattle.gu_terms.specs.declared.firm.FirmId.{FirmId}
+use Rattle.gu_book.proofs.Words.{◌∙◌, ◌++◌, [], List, ap, append-nil, map, rules, sym, filter_map, on_ok_weaker, FirmId, row_in}
 use Rattle.gu_terms.specs.declared.limit_key.LimitKey.TheVariants.{Exec, Agr, Acct, Carry, Guar}
-use Rattle.gu_limits.specs.Limits.{row_in}
 use Rattle.gu_ref.specs.declared.accounts.Account.{Account}
 use Rattle.gu_ref.specs.declared.agreements.Agreement.{Agreement}
 use Rattle.gu_book.proofs.LimitLemmas.{keys_after}

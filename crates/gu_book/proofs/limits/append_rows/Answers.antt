@@ -1,10 +1,6 @@
-use Rattle.std.proofs.Common.{◌≡◌, List, refl, sym, ap, ◌++◌, ◌∙◌, append_assoc, subst, take}
-use Rattle.std.proofs.lemmas.List.{take_all}
+use Rattle.gu_book.proofs.Words.{◌≡◌, List, refl, sym, ap, ◌++◌, ◌∙◌, append_assoc, subst, take, take_all, filter_map, option_to_list, row_in}
 use Rattle.std.proofs.lemmas.Fn.{says_at}
-use Rattle.std.specs.List.{filter_map}
-use Rattle.std.specs.Option.{option_to_list}
 use Rattle.gu_terms.specs.declared.limit_row.LimitRow.{LimitRow}
-use Rattle.gu_limits.specs.Limits.{row_in}
 use Rattle.gu_book.proofs.LimitLemmas.{filter_map_next}
 use Rattle.gu_book.proofs.limits.append_rows.Goals as goal
 

@@ -1,8 +1,5 @@
-use Rattle.std.proofs.Common.{◌≡◌, ◌++◌, take}
+use Rattle.gu_book.proofs.Words.{◌≡◌, ◌++◌, take, filter_map, row_in, LimitKey}
 use Rattle.std.specs.Fn.{FnReturnsAt}
-use Rattle.std.specs.List.{filter_map}
-use Rattle.gu_limits.specs.Limits.{row_in}
-use Rattle.gu_terms.specs.declared.limit_key.LimitKey.{LimitKey}
 use Rattle.gu_book.proofs.limits.append_rows.Given as goal
 
 abbrev pub invariant-loop-item : goal.invariant-loop-item

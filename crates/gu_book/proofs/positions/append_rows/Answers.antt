@@ -1,11 +1,6 @@
-use Rattle.std.proofs.Common.{ℕ, List, Option, sym, ap, ◌++◌, ◌∙◌, append_assoc, take}
-use Rattle.std.specs.List.{filter_map}
-use Rattle.std.specs.Option.{option_to_list}
+use Rattle.gu_book.proofs.Words.{ℕ, List, Option, sym, ap, ◌++◌, ◌∙◌, append_assoc, take, filter_map, option_to_list, Buy, Sell, lots_in, row_of_lots}
 use Rattle.gu_terms.specs.declared.query.PositionRow.{PositionRow}
-use Rattle.gu_terms.specs.declared.side.Side.TheVariants.{Buy, Sell}
 use Rattle.gu_ref.specs.declared.instruments.Instrument.{Instrument}
-use Rattle.gu_positions.specs.Rows.{lots_in}
-use Rattle.gu_rules.specs.Positions.{row_of_lots}
 use Rattle.gu_book.proofs.LimitLemmas.{filter_map_next}
 use Rattle.gu_book.proofs.positions.append_rows.Goals as goal
 

@@ -1,9 +1,5 @@
-use Rattle.std.proofs.Common.{◌≡◌, ◌++◌, take}
-use Rattle.std.specs.List.{filter_map}
-use Rattle.gu_terms.specs.declared.side.Side.TheVariants.{Buy, Sell}
+use Rattle.gu_book.proofs.Words.{◌≡◌, ◌++◌, take, filter_map, Buy, Sell, lots_in, row_of_lots}
 use Rattle.gu_ref.specs.declared.instruments.Instrument.{Instrument}
-use Rattle.gu_positions.specs.Rows.{lots_in}
-use Rattle.gu_rules.specs.Positions.{row_of_lots}
 use Rattle.gu_book.proofs.positions.append_rows.Given as goal
 
 abbrev pub invariant-loop-instrument : goal.invariant-loop-instrument

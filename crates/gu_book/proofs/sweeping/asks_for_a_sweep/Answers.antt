@@ -1,10 +1,7 @@
-use Rattle.std.proofs.Common.{◌≡◌, ◌==◌, ℕ, Bool, subst, ap, ◌∙◌, refl}
-use Rattle.std.specs.List.{IsDistinct}
+use Rattle.gu_book.proofs.Words.{◌≡◌, ◌==◌, ℕ, Bool, subst, ap, ◌∙◌, refl, IsDistinct, IsAscending, LimitKey}
 use Rattle.gu_terms.proofs.KeyLemmas.{eq, eq_is}
 use Rattle.gu_terms.specs.Cuts.{CutLists}
-use Rattle.gu_terms.specs.Takes.{IsAscending}
 use Rattle.gu_terms.specs.contracts.offer_no.OfferNoPartialEq.TheImpl as number
-use Rattle.gu_terms.specs.declared.limit_key.LimitKey.{LimitKey}
 use Rattle.gu_book.proofs.sweeping.asks_for_a_sweep.Goals as goal
 
 -- the `==` of numbers

@@ -1,7 +1,4 @@
-use Rattle.std.proofs.Common.{List, map, subst}
-use Rattle.std.proofs.lemmas.List.{take_all}
-use Rattle.gu_book.specs.Moving.{MovesAll, taken_by}
-use Rattle.gu_book.specs.declared.totals.Transfer.{Transfer}
+use Rattle.gu_book.proofs.Words.{List, map, subst, take_all, MovesAll, taken_by, Transfer}
 use Rattle.gu_book.proofs.Moves.{carried-next, may-claim, moves-none, next-transfer}
 use Rattle.gu_book.proofs.sweeping.carry_out.Goals as goal
 

@@ -1,6 +1,4 @@
-use Rattle.std.proofs.Common.{drop, map, take}
-use Rattle.gu_ref.specs.Tables.{Tables}
-use Rattle.gu_book.specs.Moving.{MayMove, MovesAll, taken_by}
+use Rattle.gu_book.proofs.Words.{drop, map, take, Tables, MayMove, MovesAll, taken_by}
 use Rattle.gu_book.proofs.sweeping.carry_out.Lts.Given as given
 
 pub record invariant-loop-transfer (l : given.Live-loop-transfer) : Type 0 where

@@ -1,7 +1,4 @@
-use Rattle.std.proofs.Common.{◌∙◌, List, ap, refl, subst, sym}
-use Rattle.std.specs.Option.{option_copied}
-use Rattle.gu_terms.specs.declared.limit_key.LimitKey.{LimitKey}
-use Rattle.gu_limits.specs.Limits.{AreLimitsOf}
+use Rattle.gu_book.proofs.Words.{◌∙◌, List, ap, refl, subst, sym, option_copied, LimitKey, AreLimitsOf}
 use Rattle.gu_book.proofs.Moves.{is-reported, is-shown, is-there, shown-path}
 use Rattle.gu_book.proofs.sweeping.moved_by.Goals as goal
 

@@ -1,6 +1,4 @@
-use Rattle.std.proofs.Common.{◌+◌, arith}
-use Rattle.std.proofs.lemmas.List.Sums.{sum_by-take-le}
-use Rattle.gu_terms.specs.Histories.{swept_by}
+use Rattle.gu_book.proofs.Words.{◌+◌, arith, sum_by-take-le, swept_by}
 use Rattle.gu_rules.proofs.SweptLots.{next-swept}
 use Rattle.gu_book.proofs.sweeping.sum_swept.Goals as goal
 

@@ -1,5 +1,4 @@
-use Rattle.std.proofs.Common.{◌≡◌, take}
-use Rattle.gu_terms.specs.Histories.{lots_swept}
+use Rattle.gu_book.proofs.Words.{◌≡◌, take, lots_swept}
 use Rattle.gu_book.proofs.sweeping.sum_swept.Given as goal
 
 abbrev pub invariant-loop-place : goal.invariant-loop-place

@@ -1,7 +1,4 @@
-use Rattle.std.proofs.Common.{◌+◌, [], List, refl, subst, sym, take}
-use Rattle.std.proofs.lemmas.List.{take_all}
-use Rattle.gu_terms.specs.declared.takes.Take.{Take}
-use Rattle.gu_book.specs.Moving.{AreReady}
+use Rattle.gu_book.proofs.Words.{◌+◌, [], List, refl, subst, sym, take, take_all, Take, AreReady}
 use Rattle.gu_book.proofs.Moves.{ready-next, same-on, same-self, shown-at}
 use Rattle.gu_book.proofs.sweeping.transfers_of.Goals as goal
 

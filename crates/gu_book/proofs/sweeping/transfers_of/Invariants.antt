@@ -1,8 +1,4 @@
-use Rattle.std.proofs.Common.{take}
-use Rattle.std.specs.List.{AllByRecursion}
-use Rattle.gu_ref.specs.Tables.{Tables}
-use Rattle.gu_book.specs.Effects.{SameAnswers}
-use Rattle.gu_book.specs.Moving.{AreReady, IsShownOpen}
+use Rattle.gu_book.proofs.Words.{take, AllByRecursion, Tables, SameAnswers, AreReady, IsShownOpen}
 use Rattle.gu_book.proofs.sweeping.transfers_of.Lts.Given as given
 
 pub record invariant-loop-take (l : given.Live-loop-take) : Type 0 where

@@ -1,11 +1,4 @@
-use Rattle.std.proofs.Common.{◌≡◌, ◌++◌, ◌∙◌, List, ap, get_or, sym, take}
-use Rattle.std.specs.List.{filter_map}
-use Rattle.std.specs.Option.{option_to_list}
-use Rattle.std.proofs.lemmas.List.{get_or_default}
-use Rattle.gu_ref.specs.Tables.{Tables}
-use Rattle.gu_offers.specs.Rows.{Row}
-use Rattle.gu_view.specs.declared.view.ViewOffer.{ViewOffer}
-use Rattle.gu_rules.specs.Views.{shown_at}
+use Rattle.gu_book.proofs.Words.{◌≡◌, ◌++◌, ◌∙◌, List, ap, get_or, sym, take, filter_map, option_to_list, get_or_default, Tables, Row, ViewOffer, shown_at}
 use Rattle.gu_book.proofs.LimitLemmas.{filter_map_next}
 use Rattle.gu_book.proofs.views.offers_of.Goals as goal
 

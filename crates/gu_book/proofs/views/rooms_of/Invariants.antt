@@ -1,5 +1,4 @@
-use Rattle.std.proofs.Common.{◌≡◌, take}
-use Rattle.gu_book.specs.Shown.{rooms_in}
+use Rattle.gu_book.proofs.Words.{◌≡◌, take, rooms_in}
 use Rattle.gu_book.proofs.views.rooms_of.Given as goal
 
 abbrev pub invariant-loop-key : goal.invariant-loop-key

@@ -1,18 +1,7 @@
-use Rattle.std.proofs.Common.{◌≡◌, ◌≤◌, ◌∙◌, Result, Ok, Err, ap, arith, map, sym, subst}
-use Rattle.std.specs.Prelude.{All, IfOk}
-use Rattle.std.specs.List.{AllByRecursion, filter_map}
-use Rattle.gu_terms.specs.declared.limit_key.LimitKey.{LimitKey}
-use Rattle.std.proofs.lemmas.List.Elements.{recursion_from_All}
-use Rattle.std.proofs.lemmas.Result.{IfOk-weaker}
-use Rattle.gu_limits.specs.Limits.{room_in}
-use Rattle.gu_offers.specs.Rows.{IsSound, open_numbers}
+use Rattle.gu_book.proofs.Words.{◌≡◌, ◌≤◌, ◌∙◌, Result, Ok, Err, ap, arith, map, sym, subst, All, IfOk, AllByRecursion, filter_map, LimitKey, recursion_from_All, IfOk-weaker, room_in, IsSound, open_numbers, GroupView, keys_of, Room, offers_in, shown_at, rooms_in}
 use Rattle.gu_view.specs.Making.{bad_offer, path_differs}
-use Rattle.gu_view.specs.View.{GroupView, keys_of}
-use Rattle.gu_view.specs.declared.view.Room.{Room}
-use Rattle.gu_rules.specs.Views.{offers_in, shown_at}
 use Rattle.gu_rules.proofs.ViewLemmas.{HasPath, have_paths, none_bad_offer, none_differs, offers-are}
 use Rattle.gu_rules.proofs.NestedViews.{is_nested}
-use Rattle.gu_book.specs.Shown.{rooms_in}
 use Rattle.gu_book.proofs.KeptRooms.{rooms_in-keys, rooms_in-limits}
 use Rattle.gu_book.proofs.views.view_of.Goals as goal
 

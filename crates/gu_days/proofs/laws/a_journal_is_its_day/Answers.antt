@@ -1,5 +1,4 @@
-use Rattle.std.specs.Str.Lines.{lines}
-use Rattle.gu_script.specs.Journals.{journal_text}
+use Rattle.gu_days.proofs.Words.{lines, journal_text}
 use Rattle.gu_script.proofs.JournalLaws.{journal_says}
 use Rattle.gu_days.proofs.laws.a_journal_is_its_day.Goals as goal
 

@@ -1,7 +1,4 @@
-use Rattle.std.proofs.Common.{◌≡◌, ◌++◌, List, ℕ, take, subst}
-use Rattle.std.specs.Str.Lines.{lines}
-use Rattle.gu_world.specs.Runs.{beginning}
-use Rattle.gu_script.specs.Replaying.{IsTextOfLines}
+use Rattle.gu_days.proofs.Words.{◌≡◌, ◌++◌, List, ℕ, take, subst, lines, beginning, IsTextOfLines}
 use Rattle.gu_days.proofs.Again.{legal_taken}
 use Rattle.gu_days.proofs.laws.what_a_crash_leaves_plays_to_what_was_kept.Goals as goal
 

@@ -1,5 +1,4 @@
-use Rattle.std.proofs.Common.{◌≡◌, Err, ap}
-use Rattle.std.specs.Str.Lines.{lines}
+use Rattle.gu_days.proofs.Words.{◌≡◌, Err, ap, lines}
 use Rattle.gu_streams.specs.Reads.{left_in}
 use Rattle.gu_script.specs.declared.error.ScriptError.{ScriptError}
 use Rattle.gu_script.specs.declared.error.ScriptError.TheVariants.{BadLine}

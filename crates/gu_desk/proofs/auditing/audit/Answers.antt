@@ -1,9 +1,4 @@
-use Rattle.std.proofs.Common.{refl, sym, subst, List, take, drop, length, suc, add-one}
-use Rattle.std.proofs.lemmas.List.{take_all}
-use Rattle.std.proofs.lemmas.Option.{slice_get_read}
-use Rattle.std.proofs.lemmas.Result.{err_from_is_err_and}
-use Rattle.gu_terms.specs.declared.receipt.Receipt.{Receipt}
-use Rattle.gu_desk.specs.Audits.{IsFirstFault}
+use Rattle.gu_desk.proofs.Words.{refl, sym, subst, List, take, drop, length, suc, add-one, take_all, slice_get_read, err_from_is_err_and, Receipt, IsFirstFault}
 use Rattle.gu_desk.proofs.AuditLemmas.{around, take_at}
 use Rattle.gu_desk.proofs.auditing.audit.Goals as goal
 

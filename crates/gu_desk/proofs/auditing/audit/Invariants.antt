@@ -1,5 +1,4 @@
-use Rattle.std.proofs.Common.{take}
-use Rattle.gu_desk.specs.Marks.{AreMarks}
+use Rattle.gu_desk.proofs.Words.{take, AreMarks}
 use Rattle.gu_desk.proofs.auditing.audit.Given as goal
 
 abbrev pub invariant-loop-receipt : goal.invariant-loop-receipt

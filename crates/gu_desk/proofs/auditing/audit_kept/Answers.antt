@@ -1,11 +1,4 @@
-use Rattle.std.proofs.Common.{refl, sym, subst, List, take, drop, length, suc, add-one}
-use Rattle.std.specs.List.{flat_map}
-use Rattle.std.proofs.lemmas.List.{take_all}
-use Rattle.std.proofs.lemmas.Option.{slice_get_read}
-use Rattle.std.proofs.lemmas.Result.{err_from_is_err_and}
-use Rattle.gu_terms.specs.declared.receipt.Receipt.{Receipt}
-use Rattle.gu_desk.specs.Audits.{IsFirstFault}
-use Rattle.gu_desk.specs.KeptReceipts.{receipts_in}
+use Rattle.gu_desk.proofs.Words.{refl, sym, subst, List, take, drop, length, suc, add-one, flat_map, take_all, slice_get_read, err_from_is_err_and, Receipt, IsFirstFault, receipts_in}
 use Rattle.gu_desk.proofs.AuditLemmas.{parts_around, parts_more}
 use Rattle.gu_desk.proofs.auditing.audit_kept.Goals as goal
 

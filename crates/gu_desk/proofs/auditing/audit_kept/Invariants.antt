@@ -1,7 +1,4 @@
-use Rattle.std.proofs.Common.{take}
-use Rattle.std.specs.List.{flat_map}
-use Rattle.gu_desk.specs.KeptReceipts.{receipts_in}
-use Rattle.gu_desk.specs.Marks.{AreMarks}
+use Rattle.gu_desk.proofs.Words.{take, flat_map, receipts_in, AreMarks}
 use Rattle.gu_desk.proofs.auditing.audit_kept.Given as goal
 
 abbrev pub invariant-loop-part : goal.invariant-loop-part

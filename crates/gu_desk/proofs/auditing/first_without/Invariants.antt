@@ -1,5 +1,4 @@
-use Rattle.std.proofs.Common.{◌≡◌, ◌-◌, ◌≤◌, ℕ, true, Some}
-use Rattle.std.specs.Prelude.{slice_get}
+use Rattle.gu_desk.proofs.Words.{◌≡◌, ◌-◌, ◌≤◌, ℕ, true, Some, slice_get}
 use Rattle.gu_desk.proofs.auditing.first_without.Given as goal
 
 abbrev pub invariant-loop-place : goal.invariant-loop-place

@@ -1,10 +1,5 @@
-use Rattle.std.proofs.Common.{◌∙◌, ap, sym, subst, ◌≤◌, List, [], ◌∷◌, ◌++◌, Option, OnOk, IfErr, take, drop, length, suc, add-one, append_assoc, append-nil, arith}
+use Rattle.gu_desk.proofs.Words.{◌∙◌, ap, sym, subst, ◌≤◌, List, [], ◌∷◌, ◌++◌, Option, OnOk, IfErr, take, drop, length, suc, add-one, append_assoc, append-nil, arith, take_all, err_from_is_err_and, Receipt, IsFirstFault, AreMarks}
 use Rattle.std.specs.Option.{option_to_list}
-use Rattle.std.proofs.lemmas.List.{take_all}
-use Rattle.std.proofs.lemmas.Result.{err_from_is_err_and}
-use Rattle.gu_terms.specs.declared.receipt.Receipt.{Receipt}
-use Rattle.gu_desk.specs.Audits.{IsFirstFault}
-use Rattle.gu_desk.specs.Marks.{AreMarks}
 use Rattle.gu_desk.proofs.AuditLemmas.{around_kept, take_at}
 use Rattle.gu_desk.proofs.auditing.mark_kept.Goals as goal
 

@@ -1,6 +1,4 @@
-use Rattle.std.proofs.Common.{◌≡◌, ◌++◌, List, length, take}
-use Rattle.gu_terms.specs.declared.receipt.Receipt.{Receipt}
-use Rattle.gu_desk.specs.Marks.{AreMarks}
+use Rattle.gu_desk.proofs.Words.{◌≡◌, ◌++◌, List, length, take, Receipt, AreMarks}
 use Rattle.gu_desk.proofs.auditing.mark_kept.Given as goal
 
 abbrev pub invariant-loop-place : goal.invariant-loop-place

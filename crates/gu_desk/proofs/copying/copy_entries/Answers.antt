@@ -1,5 +1,4 @@
-use Rattle.std.proofs.Common.{◌∙◌, ◌-◌, ◌++◌, ◌∷◌, [], List, ap, append_assoc, arith, drop, sym, take}
-use Rattle.gu_terms.specs.declared.entry.Entry.{Entry}
+use Rattle.gu_desk.proofs.Words.{◌∙◌, ◌-◌, ◌++◌, ◌∷◌, [], List, ap, append_assoc, arith, drop, sym, take, Entry}
 use Rattle.gu_desk.proofs.Fronts.{one_more}
 use Rattle.gu_desk.proofs.copying.copy_entries.Goals as goal
 

@@ -1,12 +1,10 @@
-use Rattle.std.proofs.Common.{rules, ◌≡◌, ◌∙◌, ◌∷◌, [], List, All, ap, arith, length, length-append, subst, sym}
+use Rattle.gu_desk.proofs.Words.{rules, ◌≡◌, ◌∙◌, ◌∷◌, [], List, All, ap, arith, length, length-append, subst, sym, map-id, SeatState}
 use Rattle.std.specs.Vec.Iter.{into_iter_items, into_iter_len}
 use Rattle.std.proofs.lemmas.Iterator.Adapters.{YieldsList-from_vec}
 use Rattle.std.proofs.lemmas.Iterator.Consumers.{YieldsList-end}
-use Rattle.std.proofs.lemmas.List.{map-id}
 use Rattle.std.proofs.lemmas.List.Elements.{All-push}
 use Rattle.std.proofs.lemmas.List.Sums.{sum_by-append}
 use mathlib.Core.List.{IsPrefix}
-use Rattle.gu_desk.specs.Seats.{SeatState}
 use Rattle.gu_desk.proofs.seat.gather.Goals as goal
 
 pub loop-seat-preserved : goal.loop-seat-preserved

@@ -1,5 +1,4 @@
-use Rattle.std.proofs.Common.{◌≡◌, ◌+◌, ◌≤◌, length, All}
-use Rattle.std.specs.Prelude.{sum_by}
+use Rattle.gu_desk.proofs.Words.{◌≡◌, ◌+◌, ◌≤◌, length, All, sum_by}
 use mathlib.Core.List.{IsPrefix}
 use Rattle.gu_desk.proofs.seat.gather.Given as goal
 

@@ -1,7 +1,5 @@
-use Rattle.std.proofs.Common.{◌++◌, ◌∷◌, [], ◌∙◌, List, ℕ, Some, refl, sym, ap, subst, append-nil}
+use Rattle.gu_keeping.proofs.Words.{◌++◌, ◌∷◌, [], ◌∙◌, List, ℕ, Some, refl, sym, ap, subst, append-nil, line_of, AreOriginRows}
 use Rattle.std.specs.Option.{option_copied}
-use Rattle.gu_text.specs.Texts.{line_of}
-use Rattle.gu_keeping.specs.Batches.{AreOriginRows}
 use Rattle.gu_keeping.proofs.Results.{on_ok}
 use Rattle.gu_keeping.proofs.batch.append_comment.Goals as goal
 

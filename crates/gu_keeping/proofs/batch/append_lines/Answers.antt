@@ -1,8 +1,4 @@
-use Rattle.std.proofs.Common.{◌++◌, ◌∙◌, List, ℕ, refl, sym, ap, append_assoc}
-use Rattle.std.specs.List.{flat_map}
-use Rattle.std.proofs.lemmas.Grind.{flat_map-append}
-use Rattle.gu_text.specs.Texts.{line_of}
-use Rattle.gu_script.specs.Journals.{entry_rows}
+use Rattle.gu_keeping.proofs.Words.{◌++◌, ◌∙◌, List, ℕ, refl, sym, ap, append_assoc, flat_map, flat_map-append, line_of, entry_rows}
 use Rattle.gu_keeping.proofs.Results.{on_ok}
 use Rattle.gu_keeping.proofs.batch.append_lines.Goals as goal
 

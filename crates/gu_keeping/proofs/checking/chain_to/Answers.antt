@@ -1,6 +1,4 @@
-use Rattle.std.proofs.Common.{◌≡◌, ◌≤◌, ℕ, length, subst, sym, arith}
-use Rattle.gu_keeping.specs.Digests.{entries_between}
-use Rattle.gu_keeping.specs.Making.{IsLinkOf}
+use Rattle.gu_keeping.proofs.Words.{◌≡◌, ◌≤◌, ℕ, length, subst, sym, arith, entries_between, IsLinkOf}
 use Rattle.gu_keeping.proofs.DigestLemmas.{link_count, link_next, link_none}
 use Rattle.gu_keeping.proofs.checking.chain_to.Goals as goal
 

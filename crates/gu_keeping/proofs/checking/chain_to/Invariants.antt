@@ -1,5 +1,4 @@
-use Rattle.gu_keeping.specs.Digests.{entries_between}
-use Rattle.gu_keeping.specs.Making.{IsLinkOf}
+use Rattle.gu_keeping.proofs.Words.{entries_between, IsLinkOf}
 use Rattle.gu_keeping.proofs.checking.chain_to.Given as goal
 
 abbrev pub invariant-loop-place : goal.invariant-loop-place

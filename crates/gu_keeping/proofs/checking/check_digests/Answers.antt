@@ -1,8 +1,4 @@
-use Rattle.std.proofs.Common.{◌≡◌, ◌≤◌, ◌<◌, ◌^◌, ◌∙◌, ℕ, List, length, take, ap, subst, sym, arith}
-use Rattle.gu_text.specs.LineFeeds.{HasNoLineFeed, ended_lines}
-use Rattle.gu_keeping.specs.Chains.{IsChainOf}
-use Rattle.gu_keeping.specs.Digests.{AgreeTo, chain_to}
-use Rattle.gu_keeping.specs.declared.chain.Chain.{Chain}
+use Rattle.gu_keeping.proofs.Words.{◌≡◌, ◌≤◌, ◌<◌, ◌^◌, ◌∙◌, ℕ, List, length, take, ap, subst, sym, arith, HasNoLineFeed, ended_lines, IsChainOf, AgreeTo, chain_to, Chain}
 use Rattle.gu_keeping.proofs.ChainLemmas.{long_of, none_chained}
 use Rattle.gu_keeping.proofs.DigestLemmas.{agree_digest, agree_silent, digest_agrees, ended_first, no_digest, none_ended, rest_chain, silent_agree, to_chain}
 use Rattle.gu_keeping.proofs.Results.{if_none}

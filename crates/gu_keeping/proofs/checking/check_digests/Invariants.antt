@@ -1,8 +1,4 @@
-use Rattle.std.proofs.Common.{◌≤◌, length, take}
-use Rattle.gu_text.specs.LineFeeds.{ended_lines}
-use Rattle.gu_keeping.specs.Chains.{IsChainOf, empty_chain}
-use Rattle.gu_keeping.specs.Digests.{AgreeTo}
-use Rattle.gu_keeping.specs.declared.chain.Chain.{Chain}
+use Rattle.gu_keeping.proofs.Words.{◌≤◌, length, take, ended_lines, IsChainOf, empty_chain, AgreeTo, Chain}
 use Rattle.gu_keeping.proofs.checking.check_digests.Given as goal
 
 abbrev pub invariant-loop-line : goal.invariant-loop-line

@@ -1,8 +1,6 @@
-use Rattle.std.proofs.Common.{◌++◌, ◌∙◌, List, ℕ, sym, ap}
+use Rattle.gu_keeping.proofs.Words.{◌++◌, ◌∙◌, List, ℕ, sym, ap, line_of, digest_row}
 use Rattle.std.proofs.lemmas.Bool.Decides.{Decides-eqb}
 use Rattle.std.proofs.lemmas.Slice.Eq.{slice_eq-Decides}
-use Rattle.gu_text.specs.Texts.{line_of}
-use Rattle.gu_keeping.specs.Batches.{digest_row}
 use Rattle.gu_keeping.proofs.Made.{without_feed}
 use Rattle.gu_keeping.proofs.checking.is_digest_of.Goals as goal
 

@@ -1,6 +1,4 @@
-use Rattle.std.proofs.Common.{◌≡◌, ◌<◌, ◌^◌, ℕ, take}
-use Rattle.std.specs.Fmt.{decimal}
-use Rattle.std.specs.Str.Parse.{digits_value}
+use Rattle.gu_keeping.proofs.Words.{◌≡◌, ◌<◌, ◌^◌, ℕ, take, decimal, digits_value}
 use Rattle.gu_keeping.proofs.checking.number_of.Given as goal
 
 abbrev pub invariant-loop-digit : goal.invariant-loop-digit

@@ -1,6 +1,4 @@
-use Rattle.std.proofs.Common.{◌≡◌, ◌<◌, ◌^◌, ◌∙◌, ℕ, true, false, length, take, sym, ap, arith}
-use Rattle.gu_keeping.specs.Digests.{chain_to, digest_line}
-use Rattle.gu_keeping.specs.declared.chain.Chain.{Chain}
+use Rattle.gu_keeping.proofs.Words.{◌≡◌, ◌<◌, ◌^◌, ◌∙◌, ℕ, true, false, length, take, sym, ap, arith, chain_to, digest_line, Chain}
 use Rattle.gu_keeping.proofs.ChainLemmas.{long_of}
 use Rattle.gu_keeping.proofs.DigestLemmas.{no_number}
 use Rattle.gu_keeping.proofs.checking.reach.Goals as goal

@@ -1,11 +1,6 @@
-use Rattle.std.proofs.Common.{◌≡◌, ◌++◌, ◌∷◌, [], ◌∙◌, ℕ, List, None, Some, sym, ap, subst, append_assoc}
-use Rattle.std.specs.Prelude.{codes}
-use Rattle.std.specs.Fmt.{decimal}
+use Rattle.gu_keeping.proofs.Words.{◌≡◌, ◌++◌, ◌∷◌, [], ◌∙◌, ℕ, List, None, Some, sym, ap, subst, append_assoc, codes, decimal, last_word, line_of, word, Origin, IsOriginRow, message_words}
 use Rattle.gu_msgs.specs.MomentTexts.{WritesMoment}
-use Rattle.gu_text.specs.Texts.{last_word, line_of, word}
 use Rattle.gu_desk.specs.declared.origin.FirmMessage.{FirmMessage}
-use Rattle.gu_desk.specs.declared.origin.Origin.{Origin}
-use Rattle.gu_keeping.specs.Batches.{IsOriginRow, message_words}
 use Rattle.gu_keeping.proofs.Results.{on_ok}
 use Rattle.gu_keeping.proofs.comments.append_origin.Goals as goal
 

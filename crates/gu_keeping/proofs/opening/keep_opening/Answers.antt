@@ -1,10 +1,4 @@
-use Rattle.std.proofs.Common.{◌≡◌, ◌++◌, [], ◌∙◌, ℕ, List, take, drop, refl, sym, ap, subst, append_assoc, append-nil, take-append-drop, arith}
-use Rattle.std.proofs.lemmas.List.{take_all}
-use Rattle.gu_terms.specs.declared.entry.Entry.{Entry}
-use Rattle.gu_journal.specs.Text.{IsWholeLines}
-use Rattle.gu_keeping.specs.Chains.{IsChainOf, chain_after, empty_chain}
-use Rattle.gu_keeping.specs.Keeping.{IsOpening, Writes}
-use Rattle.gu_keeping.specs.declared.chain.Chain.{Chain}
+use Rattle.gu_keeping.proofs.Words.{◌≡◌, ◌++◌, [], ◌∙◌, ℕ, List, take, drop, refl, sym, ap, subst, append_assoc, append-nil, take-append-drop, arith, take_all, Entry, IsWholeLines, IsChainOf, chain_after, empty_chain, IsOpening, Writes, Chain}
 use Rattle.gu_keeping.proofs.Made.{none_opened, opening_chain, opening_more}
 use Rattle.gu_keeping.proofs.Opened.{whole_append, write_after}
 use Rattle.gu_keeping.proofs.Results.{both_stopped, if_stopped}

@@ -1,6 +1,4 @@
-use Rattle.std.proofs.Common.{◌≡◌, ◌≤◌, ◌-◌, ◌++◌, List, ℕ, length, take}
-use Rattle.gu_journal.specs.Text.{IsWholeLines}
-use Rattle.gu_keeping.specs.Keeping.{IsOpening, Writes}
+use Rattle.gu_keeping.proofs.Words.{◌≡◌, ◌≤◌, ◌-◌, ◌++◌, List, ℕ, length, take, IsWholeLines, IsOpening, Writes}
 use Rattle.gu_keeping.proofs.opening.keep_opening.Given as goal
 
 abbrev pub invariant-loop-alloc : goal.invariant-loop-alloc

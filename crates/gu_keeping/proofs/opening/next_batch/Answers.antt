@@ -1,8 +1,5 @@
-use Rattle.std.proofs.Common.{◌≡◌, ◌≤◌, ◌+◌, ◌++◌, ◌∷◌, [], ◌∙◌, ℕ, List, length, take, sym, ap, subst, append_assoc, append-nil, arith}
+use Rattle.gu_keeping.proofs.Words.{◌≡◌, ◌≤◌, ◌+◌, ◌++◌, ◌∷◌, [], ◌∙◌, ℕ, List, length, take, sym, ap, subst, append_assoc, append-nil, arith, Entry, unknown_origins, IsBatchOf}
 use Rattle.std.proofs.lemmas.Result.{IfOk-weaker}
-use Rattle.gu_terms.specs.declared.entry.Entry.{Entry}
-use Rattle.gu_keeping.specs.Keeping.{unknown_origins}
-use Rattle.gu_keeping.specs.Making.{IsBatchOf}
 use Rattle.gu_keeping.specs.declared.batch.Batch.{Batch}
 use Rattle.gu_keeping.proofs.Made.{next_taken, part_count, part_made, same_batch, unknown_added}
 use Rattle.gu_keeping.proofs.opening.next_batch.Goals as goal

@@ -1,7 +1,4 @@
-use Rattle.std.proofs.Common.{◌≡◌, ◌++◌, List, take}
-use Rattle.gu_terms.specs.declared.entry.Entry.{Entry}
-use Rattle.gu_keeping.specs.Keeping.{unknown_origins}
-use Rattle.gu_keeping.specs.Making.{IsBatchOf}
+use Rattle.gu_keeping.proofs.Words.{◌≡◌, ◌++◌, List, take, Entry, unknown_origins, IsBatchOf}
 use Rattle.gu_keeping.proofs.opening.next_batch.Given as goal
 
 abbrev pub invariant-loop-place : goal.invariant-loop-place

@@ -1,6 +1,4 @@
-use Rattle.std.proofs.Common.{◌∙◌, ◌∷◌, [], ap, arith, length, length-append}
-use Rattle.std.specs.Prelude.{slice_get}
-use Rattle.gu_notices.specs.Registers.{register_in}
+use Rattle.gu_notices.proofs.Words.{◌∙◌, ◌∷◌, [], ap, arith, length, length-append, slice_get, register_in}
 use Rattle.gu_notices.proofs.RecipientLemmas.{recipients-push}
 use Rattle.gu_notices.proofs.recipients.note_recipients.Goals as goal
 

@@ -1,6 +1,4 @@
-use Rattle.std.proofs.Common.{◌≡◌, length}
-use Rattle.gu_notices.specs.Recipients.{AreRecipients}
-use Rattle.gu_notices.specs.Registers.{register_in}
+use Rattle.gu_notices.proofs.Words.{◌≡◌, length, AreRecipients, register_in}
 use Rattle.gu_notices.proofs.recipients.note_recipients.Lts.Given as given
 
 pub record invariant-loop-place (l : given.Live-loop-place) : Type 0 where

@@ -1,5 +1,4 @@
-use Rattle.std.proofs.Common.{◌≡◌, ◌∙◌, sym, ap, ◌+◌, ◌++◌, ◌∷◌, [], append_assoc, add-one, arith}
-use Rattle.std.specs.List.{range_with_len}
+use Rattle.gu_offers.proofs.Words.{◌≡◌, ◌∙◌, sym, ap, ◌+◌, ◌++◌, ◌∷◌, [], append_assoc, add-one, arith, range_with_len}
 use Rattle.gu_offers.proofs.NumberLists.{range_with_len-suc}
 use Rattle.gu_offers.proofs.groups.append_to.Goals as goal
 

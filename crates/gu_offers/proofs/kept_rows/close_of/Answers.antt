@@ -1,7 +1,4 @@
-use Rattle.std.proofs.Common.{◌∙◌, ap, refl}
-use Rattle.gu_offers.specs.Changes.{closed}
-use Rattle.gu_offers.specs.Given.{given_in, row_of}
-use Rattle.gu_offers.specs.Rows.{left_of}
+use Rattle.gu_offers.proofs.Words.{◌∙◌, ap, refl, closed, given_in, row_of, left_of}
 use Rattle.gu_offers.proofs.KeptIds.{is_written, there_in}
 use Rattle.gu_offers.proofs.Written.{one}
 use Rattle.gu_offers.proofs.kept_rows.close_of.Goals as goal

@@ -1,6 +1,4 @@
-use Rattle.std.proofs.Common.{◌≡◌, ◌∙◌, sym, ap, drop, length, map, arith}
-use Rattle.std.proofs.lemmas.List.{length-map, same_lists}
-use Rattle.gu_offers.specs.Given.{without_today}
+use Rattle.gu_offers.proofs.Words.{◌≡◌, ◌∙◌, sym, ap, drop, length, map, arith, length-map, same_lists, without_today}
 use Rattle.gu_offers.proofs.Written.{get_or-map_inside, take-front}
 use Rattle.gu_offers.proofs.kept_rows.forget.Goals as goal
 

@@ -1,5 +1,4 @@
-use Rattle.std.proofs.Common.{◌≡◌, ℕ, ◌<◌, ◌≤◌, get_or}
-use Rattle.gu_offers.specs.Given.{without_today}
+use Rattle.gu_offers.proofs.Words.{◌≡◌, ℕ, ◌<◌, ◌≤◌, get_or, without_today}
 use Rattle.gu_offers.specs.declared.given.Given.{Given}
 use Rattle.gu_offers.proofs.kept_rows.forget.Given as goal
 

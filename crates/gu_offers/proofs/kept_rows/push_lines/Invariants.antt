@@ -1,5 +1,4 @@
-use Rattle.std.proofs.Common.{◌≡◌, ◌+◌, ◌-◌, ◌≤◌, ◌++◌, length, map, take, vec_len, vec_capacity}
-use Rattle.gu_offers.specs.Given.{kept_for}
+use Rattle.gu_offers.proofs.Words.{◌≡◌, ◌+◌, ◌-◌, ◌≤◌, ◌++◌, length, map, take, vec_len, vec_capacity, kept_for}
 use Rattle.gu_offers.proofs.kept_rows.push_lines.Given as goal
 
 abbrev pub invariant-loop-line : goal.invariant-loop-line

@@ -1,6 +1,4 @@
-use Rattle.std.proofs.Common.{◌∙◌, ap, arith}
-use Rattle.gu_offers.specs.Changes.{reversed}
-use Rattle.gu_offers.specs.Given.{given_in, row_of}
+use Rattle.gu_offers.proofs.Words.{◌∙◌, ap, arith, reversed, given_in, row_of}
 use Rattle.gu_offers.proofs.KeptIds.{is_written, there_in, within_changed}
 use Rattle.gu_offers.proofs.Written.{one}
 use Rattle.gu_offers.proofs.kept_rows.reverse_of.Goals as goal

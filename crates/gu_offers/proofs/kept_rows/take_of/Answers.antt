@@ -1,8 +1,4 @@
-use Rattle.std.proofs.Common.{◌∙◌, ap, arith, refl}
-use Rattle.std.specs.Option.{option_map}
-use Rattle.gu_offers.specs.Changes.{taken}
-use Rattle.gu_offers.specs.Given.{given_in, row_of, GivenUp}
-use Rattle.gu_offers.specs.Rows.{left_of}
+use Rattle.gu_offers.proofs.Words.{◌∙◌, ap, arith, refl, option_map, taken, given_in, row_of, GivenUp, left_of}
 use Rattle.gu_offers.proofs.KeptIds.{is_written, there_in, within_changed}
 use Rattle.gu_offers.proofs.Written.{left-fits, one}
 use Rattle.gu_offers.proofs.kept_rows.take_of.Goals as goal

@@ -1,6 +1,5 @@
-use Rattle.std.proofs.Common.{ℕ, ◌<◌, get_or}
+use Rattle.gu_offers.proofs.Words.{ℕ, ◌<◌, get_or, Line}
 use Rattle.gu_terms.specs.Numbers.{IsLots}
-use Rattle.gu_terms.specs.declared.lines.Line.{Line}
 use Rattle.gu_offers.proofs.offers.are_lots.Given as goal
 
 abbrev pub invariant-loop-line : goal.invariant-loop-line

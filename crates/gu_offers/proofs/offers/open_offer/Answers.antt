@@ -1,8 +1,4 @@
-use Rattle.std.proofs.Common.{◌≡◌, ◌∙◌, ap, ◌+◌, ◌-◌, map, slice_get, Some, sym, arith}
-use Rattle.std.specs.Option.{option_map}
-use Rattle.std.proofs.lemmas.Option.{slice_get-map}
-use Rattle.gu_offers.specs.Given.{row_of}
-use Rattle.gu_offers.specs.Rows.{Row, left_of}
+use Rattle.gu_offers.proofs.Words.{◌≡◌, ◌∙◌, ap, ◌+◌, ◌-◌, map, slice_get, Some, sym, arith, option_map, slice_get-map, row_of, Row, left_of}
 use Rattle.gu_offers.specs.declared.open_offer.OpenOffer.{OpenOffer}
 use Rattle.gu_offers.proofs.Found.{row_at-place}
 use Rattle.gu_offers.proofs.KeptIds.{shown_by}

@@ -1,10 +1,4 @@
-use Rattle.std.proofs.Common.{◌+◌, ◌∙◌, ℕ, List, Option, None, take, sym, ap, subst}
-use Rattle.std.specs.Option.{option_or}
-use Rattle.gu_streams.specs.Written.{WrotePart}
-use Rattle.gu_streams.proofs.Writing.{on_err_from}
-use Rattle.gu_terms.specs.declared.day.Day.{Day}
-use Rattle.gu_terms.specs.declared.entry.Entry.{Entry}
-use Rattle.gu_script.specs.Journals.{open_after}
+use Rattle.gu_script.proofs.Words.{◌+◌, ◌∙◌, ℕ, List, Option, None, take, sym, ap, subst, option_or, WrotePart, on_err_from, Day, Entry, open_after}
 use Rattle.gu_script.proofs.JournalLemmas.{next_taken, open_from, open_from-append, wrote_no_more, wrote_part, written_to_next, written_to_sent}
 use Rattle.gu_script.proofs.journal.write_journal.Goals as goal
 

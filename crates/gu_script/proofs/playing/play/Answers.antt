@@ -1,5 +1,4 @@
-use Rattle.std.proofs.Common.{ap}
-use Rattle.gu_script.specs.ScriptPieces.{Place}
+use Rattle.gu_script.proofs.Words.{ap, Place}
 use Rattle.gu_script.proofs.playing.play.Goals as goal
 
 pub returns-clause-done : goal.returns-clause-done

@@ -1,16 +1,12 @@
-use Rattle.std.proofs.Common.{◌≡◌, ◌<◌, ap, refl, sym, subst, rules, arith, Result}
+use Rattle.gu_script.proofs.Words.{◌≡◌, ◌<◌, ap, refl, sym, subst, rules, arith, Result, Course, Gives, Place, BadLine, Read, error_passed}
 use Rattle.std.specs.Result.{is_err}
 use Rattle.std.proofs.lemmas.Grind.{common_steps}
 use Rattle.gu_streams.specs.Reads.{bytes_left, reads_left, waits_left}
 use Rattle.gu_streams.specs.Streams.{streams_of}
-use Rattle.gu_world.specs.Runs.{Course}
-use Rattle.gu_script.specs.ScriptPieces.{Gives, Place}
 use Rattle.gu_script.specs.ScriptRuns.{Replayed}
 use Rattle.gu_script.specs.declared.error.ScriptError.{ScriptError}
-use Rattle.gu_script.specs.declared.error.ScriptError.TheVariants.{BadLine, Read}
 use Rattle.gu_script.proofs.ReplayRuns.{AfterEnd, AfterPiece, in_part_now, given_counted, room_more, some_left, end_in_part, played_so_far, playing_none, playing_still, piece_given, end_given}
 use Rattle.gu_streams.proofs.StoppedReads.{an_error_stops}
-use Rattle.gu_streams.proofs.Writing.{error_passed}
 use Rattle.gu_script.proofs.playing.play_from.Goals as goal
 
 pub reading-init : goal.reading-init

@@ -1,6 +1,4 @@
-use Rattle.std.proofs.Common.{◌≡◌, Err, ap}
-use Rattle.gu_script.specs.ScriptPieces.{Place}
-use Rattle.gu_script.specs.declared.error.ScriptError.TheVariants.{BadLine, Read}
+use Rattle.gu_script.proofs.Words.{◌≡◌, Err, ap, Place, BadLine, Read}
 use Rattle.gu_script.proofs.playing.play_opening.Goals as goal
 
 pub returns-in-Ok-clause-done : goal.returns-in-Ok-clause-done

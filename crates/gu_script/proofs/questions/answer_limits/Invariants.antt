@@ -1,5 +1,4 @@
-use Rattle.std.proofs.Common.{◌≡◌, ◌++◌, take}
-use Rattle.std.specs.List.{flat_map}
+use Rattle.gu_script.proofs.Words.{◌≡◌, ◌++◌, take, flat_map}
 use Rattle.gu_text.specs.Rows.{limit_text}
 use Rattle.gu_script.proofs.questions.answer_limits.Given as goal
 

@@ -1,8 +1,5 @@
-use Rattle.std.proofs.Common.{sym, subst}
-use Rattle.gu_text.specs.declared.script_line.Line.{Line}
-use Rattle.gu_script.specs.ScriptSteps.{AnswersLine}
+use Rattle.gu_script.proofs.Words.{sym, subst, Line, AnswersLine, on_ok_then}
 use Rattle.gu_script.proofs.ReplaySteps.{line_of_step}
-use Rattle.gu_streams.proofs.Writing.{on_ok_then}
 use Rattle.gu_script.proofs.script.answer_line.Goals as goal
 
 pub returns-in-Step : goal.returns-in-Step

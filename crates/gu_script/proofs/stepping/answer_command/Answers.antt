@@ -1,10 +1,6 @@
-use Rattle.std.proofs.Common.{◌≡◌, Option, Some, None, refl, subst}
-use Rattle.gu_world.specs.Runs.{GoesOn}
-use Rattle.gu_world.specs.Steps.{outcome_of}
+use Rattle.gu_script.proofs.Words.{◌≡◌, Option, Some, None, refl, subst, GoesOn, outcome_of, Enter, on_ok_then}
 use Rattle.gu_world.specs.declared.answered.Answered.{Answered}
-use Rattle.gu_world.specs.declared.step.Step.TheVariants.{Enter}
 use Rattle.gu_script.proofs.ReplaySteps.{step_answered}
-use Rattle.gu_streams.proofs.Writing.{on_ok_then}
 use Rattle.gu_script.proofs.stepping.answer_command.Goals as goal
 
 pub returns-in-Some : goal.returns-in-Some

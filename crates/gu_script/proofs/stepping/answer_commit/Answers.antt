@@ -1,10 +1,5 @@
-use Rattle.std.proofs.Common.{◌≡◌, ◌++◌, ◌∙◌, Option, None, ap, rules}
-use Rattle.std.specs.Option.{option_copied}
-use Rattle.gu_view.specs.View.{GroupView}
-use Rattle.gu_world.specs.declared.step.Step.TheVariants.{Commit}
-use Rattle.gu_text.specs.Outcomes.{outcome_text}
+use Rattle.gu_script.proofs.Words.{◌≡◌, ◌++◌, ◌∙◌, Option, None, ap, rules, option_copied, GroupView, Commit, outcome_text, on_ok_then}
 use Rattle.gu_script.proofs.ReplaySteps.{step_answered}
-use Rattle.gu_streams.proofs.Writing.{on_ok_then}
 use Rattle.gu_script.proofs.stepping.answer_commit.Goals as goal
 
 pub returns : goal.returns

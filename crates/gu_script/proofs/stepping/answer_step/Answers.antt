@@ -1,8 +1,5 @@
-use Rattle.std.proofs.Common.{◌++◌, ◌∙◌, Option, None, ap}
-use Rattle.gu_terms.specs.declared.group.Group.{Group}
-use Rattle.gu_text.specs.Outcomes.{outcome_text}
+use Rattle.gu_script.proofs.Words.{◌++◌, ◌∙◌, Option, None, ap, Group, outcome_text, on_ok_then}
 use Rattle.gu_script.proofs.ReplaySteps.{step_answered}
-use Rattle.gu_streams.proofs.Writing.{on_ok_then}
 use Rattle.gu_script.proofs.stepping.answer_step.Goals as goal
 
 pub returns : goal.returns

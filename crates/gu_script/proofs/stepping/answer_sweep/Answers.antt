@@ -1,10 +1,5 @@
-use Rattle.std.proofs.Common.{◌≡◌, ℕ, true, false, subst, rules}
-use Rattle.gu_ref.specs.Reference.{is_group}
-use Rattle.gu_world.specs.Runs.{GoesOn}
-use Rattle.gu_world.specs.declared.step.Step.TheVariants.{Commit}
-use Rattle.gu_script.specs.ScriptSteps.{AnswersStep}
+use Rattle.gu_script.proofs.Words.{◌≡◌, ℕ, true, false, subst, rules, is_group, GoesOn, Commit, AnswersStep, on_ok_then}
 use Rattle.gu_script.proofs.ReplaySteps.{line_of_sweep, line_of_unknown}
-use Rattle.gu_streams.proofs.Writing.{on_ok_then}
 use Rattle.gu_script.proofs.stepping.answer_sweep.Goals as goal
 
 pub returns-then-is_known : goal.returns-then-is_known

@@ -1,5 +1,4 @@
-use Rattle.std.proofs.Common.{sym, ap, ◌∙◌}
-use Rattle.gu_world.specs.Blame.{ends_stale}
+use Rattle.gu_world.proofs.Words.{sym, ap, ◌∙◌, ends_stale}
 use Rattle.gu_world.proofs.Blaming.{blames, blames-none}
 use Rattle.gu_world.proofs.blame.blame.Goals as goal
 

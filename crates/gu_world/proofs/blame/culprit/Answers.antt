@@ -1,7 +1,4 @@
-use Rattle.std.proofs.Common.{subst}
-use Rattle.std.specs.Prelude.{IfOk}
-use Rattle.gu_world.specs.Blame.{IsBlamedFor}
-use Rattle.gu_world.specs.declared.step.Step.{Step}
+use Rattle.gu_world.proofs.Words.{subst, IfOk, IsBlamedFor, Step}
 use Rattle.gu_world.proofs.Blaming.{culprit-at}
 use Rattle.gu_world.proofs.blame.culprit.Goals as goal
 

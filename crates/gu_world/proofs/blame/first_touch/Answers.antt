@@ -1,10 +1,4 @@
-use Rattle.std.proofs.Common.{◌≡◌, ◌⊎◌, ◌+◌, ◌≤◌, ◌++◌, ◌∷◌, [], ◌<◌, ℕ, false, List, Some, length, get_or, take, refl, sym, ap, ◌∙◌, inl, inr}
-use Rattle.std.specs.Prelude.{slice_get}
-use Rattle.std.proofs.lemmas.List.{take_more}
-use Rattle.std.proofs.lemmas.Option.{get_or_from_slice_get, slice_get_within}
-use Rattle.gu_terms.specs.declared.entry.Entry.{Entry}
-use Rattle.gu_rules.specs.Versions.{touches}
-use Rattle.gu_world.specs.Blame.{own_of}
+use Rattle.gu_world.proofs.Words.{◌≡◌, ◌⊎◌, ◌+◌, ◌≤◌, ◌++◌, ◌∷◌, [], ◌<◌, ℕ, false, List, Some, length, get_or, take, refl, sym, ap, ◌∙◌, inl, inr, slice_get, take_more, get_or_from_slice_get, slice_get_within, Entry, touches, own_of}
 use Rattle.gu_world.proofs.BlameLemmas.{touched-here, untouched-here}
 use Rattle.gu_world.proofs.blame.first_touch.Goals as goal
 use Rattle.gu_world.proofs.blame.first_touch.Goals.{else-number-seen-via-then-number-seen+else-is_touching, else-number-seen-via-else-number-seen}

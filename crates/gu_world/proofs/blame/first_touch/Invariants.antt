@@ -1,7 +1,4 @@
-use Rattle.std.proofs.Common.{◌≡◌, None, nat_lt, take}
-use Rattle.std.specs.List.{find}
-use Rattle.gu_rules.specs.Versions.{touching}
-use Rattle.gu_world.specs.Blame.{own_of}
+use Rattle.gu_world.proofs.Words.{◌≡◌, None, nat_lt, take, find, touching, own_of}
 use Rattle.gu_world.proofs.blame.first_touch.Given as goal
 
 abbrev pub invariant-loop-place : goal.invariant-loop-place

@@ -1,9 +1,6 @@
-use Rattle.std.proofs.Common.{◌++◌, ◌∷◌, [], Result, Ok, Err, length, replicate, sym, ap, ◌∙◌}
+use Rattle.gu_world.proofs.Words.{◌++◌, ◌∷◌, [], Result, Ok, Err, length, replicate, sym, ap, ◌∙◌, Entry, Asked, own_of}
 use Rattle.std.specs.Result.{OnOk}
-use Rattle.gu_terms.specs.declared.entry.Entry.{Entry}
-use Rattle.gu_terms.specs.declared.entry.Entry.TheVariants.{Asked}
 use Rattle.gu_terms.specs.declared.reply.Reply.TheVariants.{Accepted}
-use Rattle.gu_world.specs.Blame.{own_of}
 use Rattle.gu_world.proofs.BlameLemmas.{own-lines}
 use Rattle.gu_world.proofs.blame.know.Goals as goal
 

@@ -1,5 +1,4 @@
-use Rattle.std.proofs.Common.{[], subst}
-use Rattle.gu_book.specs.Commits.{Refuses}
+use Rattle.gu_world.proofs.Words.{[], subst, Refuses}
 use Rattle.gu_world.proofs.CommitLemmas.{committed-stale, committed-swept, never_foreign, still_true}
 use Rattle.gu_world.proofs.committing.commit.Goals as goal
 

@@ -1,9 +1,4 @@
-use Rattle.std.proofs.Common.{sym, subst, ap, ◌∙◌}
-use Rattle.std.specs.Prelude.{None, slice_set}
-use Rattle.gu_rules.specs.BookState.{BookState}
-use Rattle.gu_world.specs.Looks.{AreTrue, IsTrueLook, looks_in}
-use Rattle.gu_world.specs.declared.held.Work.{Work}
-use Rattle.gu_world.specs.declared.held.Work.TheVariants.{Looking, Ready}
+use Rattle.gu_world.proofs.Words.{sym, subst, ap, ◌∙◌, None, slice_set, BookState, AreTrue, IsTrueLook, looks_in, Work, Looking, Ready}
 use Rattle.gu_world.proofs.Holding.{commits-no_look, commits-nothing, commits-proposal, left-true, nothing-held, put-back}
 use Rattle.gu_world.proofs.committing.commit_for.Goals as goal
 

@@ -1,5 +1,4 @@
-use Rattle.std.proofs.Common.{◌≡◌, drop, slice_get}
-use Rattle.gu_world.specs.Series.{all_outcomes}
+use Rattle.gu_world.proofs.Words.{◌≡◌, drop, slice_get, all_outcomes}
 use Rattle.gu_world.proofs.kept_outcomes.outcome_at.Given as goal
 
 abbrev pub invariant-loop-series : goal.invariant-loop-series

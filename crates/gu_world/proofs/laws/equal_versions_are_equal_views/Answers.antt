@@ -1,5 +1,4 @@
-use Rattle.std.proofs.Common.{drop, take, take-append-drop}
-use Rattle.gu_rules.proofs.EqualViews.{equal_views}
+use Rattle.gu_world.proofs.Words.{drop, take, take-append-drop, equal_views}
 use Rattle.gu_world.proofs.laws.equal_versions_are_equal_views.Goals as goal
 
 pub returns : goal.returns

@@ -1,8 +1,4 @@
-use Rattle.std.proofs.Common.{◌++◌, ◌∙◌, List, ap}
-use Rattle.std.specs.Option.{option_to_list}
-use Rattle.gu_terms.specs.declared.receipt.Receipt.{Receipt}
-use Rattle.gu_world.specs.Runs.{receipt_of}
-use Rattle.gu_world.specs.Series.{outcomes_of}
+use Rattle.gu_world.proofs.Words.{◌++◌, ◌∙◌, List, ap, option_to_list, Receipt, receipt_of, outcomes_of}
 use Rattle.gu_world.proofs.ReceiptLemmas.{receipts_after-more}
 use Rattle.gu_world.proofs.outcomes.append_receipts.Goals as goal
 

@@ -1,5 +1,4 @@
-use Rattle.std.proofs.Common.{◌≡◌, ◌++◌, take}
-use Rattle.gu_world.specs.Series.{outcomes_of}
+use Rattle.gu_world.proofs.Words.{◌≡◌, ◌++◌, take, outcomes_of}
 use Rattle.gu_world.proofs.ReceiptLemmas.{receipts_by}
 use Rattle.gu_world.proofs.outcomes.append_receipts.Given as goal
 

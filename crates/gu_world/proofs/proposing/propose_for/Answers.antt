@@ -1,5 +1,4 @@
-use Rattle.std.proofs.Common.{sym, subst, ◌∙◌}
-use Rattle.gu_world.specs.Looks.{AreTrue}
+use Rattle.gu_world.proofs.Words.{sym, subst, ◌∙◌, AreTrue}
 use Rattle.gu_world.proofs.Holding.{nothing-held, proposal-true, proposes, proposes-nothing, put-back}
 use Rattle.gu_world.proofs.proposing.propose_for.Goals as goal
 

@@ -1,10 +1,6 @@
-use Rattle.std.proofs.Common.{subst, ◌≡◌}
-use Rattle.gu_ref.specs.Tables.{Tables}
-use Rattle.gu_rules.specs.BookState.{BookState}
-use Rattle.gu_rules.specs.Legal.{IsLegal}
+use Rattle.gu_world.proofs.Words.{subst, ◌≡◌, Tables, BookState, IsLegal, start}
 use Rattle.gu_rules.specs.Orderly.{IsOrderly}
 use Rattle.gu_rules.specs.Positions.{LongIsShort}
-use Rattle.gu_world.specs.Steps.{start}
 use Rattle.gu_world.proofs.HeadlineLemmas.{never_foreign, positions_are_sums, run-reference, sweeps_are_greatest}
 use Rattle.gu_world.proofs.running.run.Goals as goal
 

@@ -1,8 +1,4 @@
-use Rattle.std.proofs.Common.{List, take, sym, ap, subst, ◌∙◌, []}
-use Rattle.std.specs.Prelude.{◌∷◌, ◌++◌}
-use Rattle.std.proofs.lemmas.List.{take_all, take_more}
-use Rattle.gu_world.specs.Runs.{GoesOn, IsRunOf}
-use Rattle.gu_world.specs.declared.step.Step.{Step}
+use Rattle.gu_world.proofs.Words.{List, take, sym, ap, subst, ◌∙◌, [], ◌∷◌, ◌++◌, take_all, take_more, GoesOn, IsRunOf, Step}
 use Rattle.gu_world.proofs.RunLemmas.{run-goes_on}
 use Rattle.gu_world.proofs.running.take_all.Goals as goal
 

@@ -1,5 +1,4 @@
-use Rattle.std.specs.Prelude.{take}
-use Rattle.gu_world.specs.Runs.{IsRunOf}
+use Rattle.gu_world.proofs.Words.{take, IsRunOf}
 use Rattle.gu_world.proofs.running.take_all.Given as goal
 
 abbrev pub invariant-loop-step : goal.invariant-loop-step

@@ -1,8 +1,4 @@
-use Rattle.std.proofs.Common.{sym, subst}
-use Rattle.std.specs.Prelude.{IfOk}
-use Rattle.gu_world.specs.Looks.{state_in}
-use Rattle.gu_world.specs.Steps.{LeadsTo}
-use Rattle.gu_world.specs.declared.step.Step.{Step}
+use Rattle.gu_world.proofs.Words.{sym, subst, IfOk, state_in, LeadsTo, Step}
 use Rattle.gu_world.proofs.SlotLemmas.{true-grown}
 use Rattle.gu_world.proofs.world.take.Goals as goal
 

@@ -1,15 +1,4 @@
-use Rattle.std.proofs.Common.{ℕ, List, Option, nat_lt, refl, subst, sym, ap, ◌∙◌}
-use Rattle.std.specs.List.{find}
-use Rattle.std.specs.Option.{option_map}
-use Rattle.gu_terms.specs.declared.limit_key.LimitKey.{LimitKey}
-use Rattle.gu_terms.specs.declared.refusal.Refusal.TheVariants.{LimitReached}
-use Rattle.gu_terms.specs.declared.reply.Done.TheVariants.{Claimed}
-use Rattle.gu_terms.specs.declared.reply.Reply.TheVariants.{Accepted}
-use Rattle.gu_limits.specs.Limits.{AreLimitsOf, room_in}
-use Rattle.gu_offers.specs.Rows.{left_in}
-use Rattle.gu_rules.specs.Answer.{claim_tests, offer_tests}
-use Rattle.gu_rules.proofs.Passing.{standing_after, standing_in, standing_none}
-use Rattle.gu_book.specs.Beside.{short_key, state_in}
+use Rattle.gu_book.proofs.Words.{ℕ, List, Option, nat_lt, refl, subst, sym, ap, ◌∙◌, find, option_map, LimitKey, LimitReached, Claimed, Accepted, AreLimitsOf, room_in, left_in, claim_tests, offer_tests, standing_after, standing_in, standing_none, short_key, state_in}
 use Rattle.gu_book.proofs.ClaimLemmas.{claim_refused, lots_are, short_key-of}
 use Rattle.gu_book.proofs.DeedLemmas.{has-report}
 use Rattle.gu_book.proofs.answering.ClaimDecide.decide.Goals as goal

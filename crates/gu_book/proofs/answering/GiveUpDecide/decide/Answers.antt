@@ -1,12 +1,4 @@
-use Rattle.std.proofs.Common.{sym, ◌∙◌, ◌≡◌, length, ◌+◌, false, is_none, not, ap, arith, refl, None, Option}
-use Rattle.std.specs.Option.{option_map}
-use Rattle.gu_terms.specs.declared.group.Group.{Group}
-use Rattle.gu_terms.specs.declared.report.Report.{Report}
-use Rattle.gu_terms.specs.declared.reply.Done.TheVariants.{Offered}
-use Rattle.gu_terms.specs.declared.reply.Reply.TheVariants.{Accepted}
-use Rattle.gu_rules.specs.Answer.{given_up, has_unknown_account, lacks_agreement, lines_tests, refusal_in, tests_of_lines}
-use Rattle.gu_rules.proofs.Passing.{standing_in, standing_none}
-use Rattle.gu_book.specs.Beside.{is_kept_give_up, state_in}
+use Rattle.gu_book.proofs.Words.{sym, ◌∙◌, ◌≡◌, length, ◌+◌, false, is_none, not, ap, arith, refl, None, Option, option_map, Group, Report, Offered, Accepted, given_up, has_unknown_account, lacks_agreement, lines_tests, refusal_in, tests_of_lines, standing_in, standing_none, is_kept_give_up, state_in}
 use Rattle.gu_book.proofs.TakenIn.{standing-given, standing-none}
 use Rattle.gu_book.proofs.answering.GiveUpDecide.decide.Goals as goal
 

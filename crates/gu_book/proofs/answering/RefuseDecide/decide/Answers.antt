@@ -1,5 +1,4 @@
-use Rattle.std.proofs.Common.{refl}
-use Rattle.gu_offers.specs.Rows.{row_at}
+use Rattle.gu_book.proofs.Words.{refl, row_at}
 use Rattle.gu_book.proofs.CountedLemmas.{group-found}
 use Rattle.gu_book.proofs.answering.RefuseDecide.decide.Goals as goal
 

@@ -1,11 +1,4 @@
-use Rattle.std.proofs.Common.{◌≡◌, ◌∙◌, sym, ap, not, refl, Some, false}
-use Rattle.gu_ref.specs.Reference.{account_row, is_instrument}
-use Rattle.gu_terms.specs.Same.{same_firm}
-use Rattle.gu_trades.specs.Counterparts.{counterpart_of}
-use Rattle.gu_trades.specs.Reports.{has_report, made_on, with_match}
-use Rattle.gu_trades.specs.declared.terms.Terms.{Terms}
-use Rattle.gu_rules.specs.Answer.{is_other_day}
-use Rattle.gu_book.specs.Beside.{answer_to_match, waiting_of}
+use Rattle.gu_book.proofs.Words.{◌≡◌, ◌∙◌, sym, ap, not, refl, Some, false, account_row, is_instrument, same_firm, counterpart_of, has_report, made_on, with_match, Terms, is_other_day, answer_to_match, waiting_of}
 use Rattle.gu_book.proofs.Counterparts.{answer-met}
 use Rattle.gu_book.proofs.answering.ReportSideDecide.decide.Goals as goal
 

@@ -1,12 +1,4 @@
-use Rattle.std.proofs.Common.{◌≡◌, ◌∙◌, ℕ, List, None, ap, arith, false, nat_lt, refl, subst, sym}
-use Rattle.gu_terms.specs.declared.limit_key.LimitKey.{LimitKey}
-use Rattle.gu_terms.specs.declared.reply.Done.TheVariants.{Reversed}
-use Rattle.gu_terms.specs.declared.reply.Reply.TheVariants.{Accepted}
-use Rattle.gu_limits.specs.Limits.{AreLimitsOf}
-use Rattle.gu_offers.specs.Rows.{left_in, today_in}
-use Rattle.gu_rules.specs.Answer.{offer_tests, refusal_in, reverse_tests}
-use Rattle.gu_rules.proofs.Passing.{standing_after, standing_none}
-use Rattle.gu_book.specs.Beside.{state_in}
+use Rattle.gu_book.proofs.Words.{◌≡◌, ◌∙◌, ℕ, List, None, ap, arith, false, nat_lt, refl, subst, sym, LimitKey, Reversed, Accepted, AreLimitsOf, left_in, today_in, offer_tests, refusal_in, reverse_tests, standing_after, standing_none, state_in}
 use Rattle.gu_book.proofs.ClaimLemmas.{lots_are}
 use Rattle.gu_book.proofs.answering.ReverseDecide.decide.Goals as goal
 

@@ -1,19 +1,9 @@
-use Rattle.std.proofs.Common.{◌∙◌, ◌+◌, ◌<◌, List, length, ap, arith, refl, sym, subst}
-use Rattle.gu_terms.specs.declared.entry.Entry.{Entry}
-use Rattle.gu_terms.specs.declared.entry.Entry.TheVariants.{Asked}
-use Rattle.gu_terms.specs.declared.reply.Reply.TheVariants.{Accepted}
-use Rattle.gu_rules.specs.Answer.{answer, answer_in}
-use Rattle.gu_rules.specs.BookState.{BookState}
-use Rattle.gu_rules.specs.Legal.{StandsLast}
-use Rattle.gu_rules.proofs.Growing.{stands_last}
-use Rattle.gu_book.specs.Beside.{IsKeptWhole, state_in}
-use Rattle.gu_book.specs.Deeds.{done_by, reply_by}
+use Rattle.gu_book.proofs.Words.{◌∙◌, ◌+◌, ◌<◌, List, length, ap, arith, refl, sym, subst, Entry, Asked, Accepted, answer, answer_in, BookState, StandsLast, stands_last, IsKeptWhole, state_in, done_by, reply_by, few_sides}
 use Rattle.gu_book.proofs.Accepting.{answer_is, few_offers}
 use Rattle.gu_book.proofs.Beginning.{legal-accepted, legal-refused}
 use Rattle.gu_book.proofs.CountedLemmas.{accepted-touches, versions-fit, versions-push, versions-same}
 use Rattle.gu_book.proofs.ClaimLemmas.{truncated}
 use Rattle.gu_book.proofs.DeedLemmas.{have_reports, may-do}
-use Rattle.gu_notices.proofs.RecipientLemmas.{few_sides}
 use Rattle.gu_book.proofs.TellingLemmas.{legal-counted, whole-more}
 use Rattle.gu_book.proofs.book.Book.append_asked.Goals as goal
 

@@ -1,15 +1,7 @@
-use Rattle.std.proofs.Common.{◌≡◌, ◌++◌, ◌∷◌, ◌+◌, [], arith, length, refl, subst, sym}
-use Rattle.gu_terms.specs.declared.entry.Entry.TheVariants.{Asked}
-use Rattle.gu_terms.specs.declared.reply.Reply.TheVariants.{Denied}
-use Rattle.gu_rules.specs.Answer.{answer}
-use Rattle.gu_rules.specs.BookState.{BookState}
-use Rattle.gu_rules.specs.Legal.{StandsLast}
-use Rattle.gu_rules.proofs.Growing.{stands_last}
-use Rattle.gu_book.specs.Counted.{AreVersions}
+use Rattle.gu_book.proofs.Words.{◌≡◌, ◌++◌, ◌∷◌, ◌+◌, [], arith, length, refl, subst, sym, Asked, Denied, answer, BookState, StandsLast, stands_last, AreVersions, few_sides}
 use Rattle.gu_book.specs.declared.versions.Touched.TheVariants.{Nothing}
 use Rattle.gu_book.proofs.Beginning.{legal-denied}
 use Rattle.gu_book.proofs.CountedLemmas.{denied-touches, versions-push}
-use Rattle.gu_notices.proofs.RecipientLemmas.{few_sides}
 use Rattle.gu_book.proofs.TellingLemmas.{whole-more}
 use Rattle.gu_book.proofs.book.Book.append_denied.Goals as goal
 

@@ -1,17 +1,4 @@
-use Rattle.std.proofs.Common.{◌∙◌, ◌+◌, ◌++◌, ◌∷◌, [], List, ap, length, map, if◌then◌else◌, subst, sym}
-use Rattle.gu_terms.specs.Same.{same_group}
-use Rattle.gu_terms.specs.declared.entry.Entry.{Entry}
-use Rattle.gu_terms.specs.declared.entry.Entry.TheVariants.{Swept}
-use Rattle.gu_terms.specs.declared.entry.SweepEntry.{SweepEntry}
-use Rattle.gu_terms.specs.declared.group.Group.{Group}
-use Rattle.gu_view.specs.View.{GroupView}
-use Rattle.gu_rules.specs.BookState.{BookState}
-use Rattle.gu_rules.specs.Legal.{StandsLast}
-use Rattle.gu_notices.proofs.RecipientLemmas.{few_sides}
-use Rattle.gu_book.specs.Beside.{IsKeptWhole}
-use Rattle.gu_book.specs.Commits.{IsCurrent, sweep_of}
-use Rattle.gu_book.specs.Counted.{version_in}
-use Rattle.gu_book.specs.Moving.{MayMove, MovesAll, taken_by}
+use Rattle.gu_book.proofs.Words.{◌∙◌, ◌+◌, ◌++◌, ◌∷◌, [], List, ap, length, map, if◌then◌else◌, subst, sym, same_group, Entry, Swept, SweepEntry, Group, GroupView, BookState, StandsLast, few_sides, IsKeptWhole, IsCurrent, sweep_of, version_in, MayMove, MovesAll, taken_by}
 use Rattle.gu_book.proofs.Committing.{legal-still, legal-swept, may-move, shows-takes, swept-last}
 use Rattle.gu_book.proofs.CountedLemmas.{versions-fit, versions-same}
 use Rattle.gu_book.proofs.TellingLemmas.{whole-more}

@@ -1,9 +1,4 @@
-use Rattle.std.proofs.Common.{◌≡◌, ◌∙◌, ◌++◌, ◌∷◌, [], List, ap, arith, length, length-append, subst, sym}
-use Rattle.gu_terms.specs.declared.entry.Entry.{Entry}
-use Rattle.gu_terms.specs.declared.entry.Entry.TheVariants.{Swept}
-use Rattle.gu_rules.specs.BookState.{BookState}
-use Rattle.gu_rules.specs.Legal.{StandsLast}
-use Rattle.gu_book.specs.Commits.{sweep_of}
+use Rattle.gu_book.proofs.Words.{◌≡◌, ◌∙◌, ◌++◌, ◌∷◌, [], List, ap, arith, length, length-append, subst, sym, Entry, Swept, BookState, StandsLast, sweep_of}
 use Rattle.gu_book.proofs.book.Book.enter_current.Goals as goal
 
 pub returns-clause-number : goal.returns-clause-number

@@ -1,5 +1,4 @@
-use Rattle.std.proofs.Common.{subst}
-use Rattle.gu_rules.specs.Positions.{LongIsShort}
+use Rattle.gu_book.proofs.Words.{subst, LongIsShort}
 use Rattle.gu_rules.proofs.LegalLaws.{long_as_short}
 use Rattle.gu_book.proofs.book.Book.history.Goals as goal
 

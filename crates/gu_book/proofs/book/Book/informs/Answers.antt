@@ -1,12 +1,4 @@
-use Rattle.std.proofs.Common.{◌≡◌, ◌≤◌, ℕ, ◌+◌, ◌-◌, ◌∙◌, List, Some, length, slice_get, ap, arith, subst, sym}
-use Rattle.std.proofs.lemmas.Option.{slice_get-get_or}
-use Rattle.gu_terms.specs.declared.id.Id.{Id}
-use Rattle.gu_terms.specs.declared.report.Report.{Report}
-use Rattle.gu_trades.specs.Reports.{with_match}
-use Rattle.gu_rules.specs.BookState.{BookState}
-use Rattle.gu_notices.specs.declared.firm_filter.FirmFilter.{FirmFilter}
-use Rattle.gu_notices.proofs.RecipientLemmas.{few_sides}
-use Rattle.gu_book.specs.Informing.{HoldsInformed}
+use Rattle.gu_book.proofs.Words.{◌≡◌, ◌≤◌, ℕ, ◌+◌, ◌-◌, ◌∙◌, List, Some, length, slice_get, ap, arith, subst, sym, slice_get-get_or, Id, Report, with_match, BookState, FirmFilter, few_sides, HoldsInformed}
 use Rattle.gu_book.proofs.InformingLemmas.{informed-noted}
 use Rattle.gu_book.proofs.book.Book.informs.Goals as goal
 

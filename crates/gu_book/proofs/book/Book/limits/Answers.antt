@@ -1,8 +1,4 @@
-use Rattle.std.proofs.Common.{◌≡◌, false, sym, subst, ap, ◌∙◌}
-use Rattle.std.proofs.lemmas.Result.{IfOk-weaker}
-use Rattle.gu_ref.specs.Reference.{is_group}
-use Rattle.gu_rules.specs.BookState.{BookState}
-use Rattle.gu_rules.specs.Limits.{limit_rows}
+use Rattle.gu_book.proofs.Words.{◌≡◌, false, sym, subst, ap, ◌∙◌, IfOk-weaker, is_group, BookState, limit_rows}
 use Rattle.gu_rules.proofs.UnknownGroups.{unknown_group}
 use Rattle.gu_book.proofs.LimitLemmas.{rows-are}
 use Rattle.gu_book.proofs.book.Book.limits.Goals as goal

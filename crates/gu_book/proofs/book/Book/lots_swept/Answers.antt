@@ -1,9 +1,4 @@
-use Rattle.std.proofs.Common.{ap, ◌∙◌, arith, subst}
-use Rattle.std.specs.List.{AllByRecursion}
-use Rattle.std.proofs.lemmas.List.Elements.{recursion_from_All}
-use Rattle.gu_terms.specs.Histories.{lots_swept}
-use Rattle.gu_offers.specs.Rows.{IsSound}
-use Rattle.gu_rules.specs.BookState.{BookState}
+use Rattle.gu_book.proofs.Words.{ap, ◌∙◌, arith, subst, AllByRecursion, recursion_from_All, lots_swept, IsSound, BookState}
 use Rattle.gu_rules.proofs.SweptLots.{few-swept, sound-small}
 use Rattle.gu_book.proofs.book.Book.lots_swept.Goals as goal
 

@@ -1,6 +1,4 @@
-use Rattle.std.proofs.Common.{◌∙◌, subst, sym}
-use Rattle.gu_rules.specs.Notices.{Register}
-use Rattle.gu_notices.specs.Recipients.{AreRecipients}
+use Rattle.gu_book.proofs.Words.{◌∙◌, subst, sym, Register, AreRecipients}
 use Rattle.gu_book.proofs.TellingLemmas.{register-is}
 use Rattle.gu_book.proofs.book.Book.note_recipients.Goals as goal
 

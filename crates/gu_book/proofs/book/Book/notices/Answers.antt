@@ -1,7 +1,4 @@
-use Rattle.std.proofs.Common.{◌∙◌, ◌-◌, ap, drop, max, subst, sym}
-use Rattle.gu_rules.specs.BookState.{BookState}
-use Rattle.gu_rules.specs.Notices.{Register, notices_of, told_from, told_to}
-use Rattle.gu_notices.specs.Recipients.{AreRecipients}
+use Rattle.gu_book.proofs.Words.{◌∙◌, ◌-◌, ap, drop, max, subst, sym, BookState, Register, notices_of, told_from, told_to, AreRecipients}
 use Rattle.gu_notices.specs.Registers.{register_in}
 use Rattle.gu_book.proofs.TellingLemmas.{register-is}
 use Rattle.gu_book.proofs.book.Book.notices.Goals as goal

@@ -1,6 +1,4 @@
-use Rattle.std.proofs.Common.{ap, ◌∙◌}
-use Rattle.gu_rules.specs.BookState.{BookState}
-use Rattle.gu_rules.specs.Positions.{open_interest_of}
+use Rattle.gu_book.proofs.Words.{ap, ◌∙◌, BookState, open_interest_of}
 use Rattle.gu_book.proofs.Interest.{interest-is}
 use Rattle.gu_book.proofs.book.Book.open_interest.Goals as goal
 

@@ -1,7 +1,4 @@
-use Rattle.std.proofs.Common.{◌≡◌, ◌∙◌, ◌+◌, ◌<◌, ◌^◌, ap, arith, length, subst, sym}
-use Rattle.gu_rules.specs.BookState.{BookState}
-use Rattle.gu_rules.specs.Versions.{version_of}
-use Rattle.gu_book.specs.Counted.{version_in}
+use Rattle.gu_book.proofs.Words.{◌≡◌, ◌∙◌, ◌+◌, ◌<◌, ◌^◌, ap, arith, length, subst, sym, BookState, version_of, version_in}
 use Rattle.gu_book.proofs.CountedLemmas.{versions-fit}
 use Rattle.gu_book.proofs.book.Book.outdated.Goals as goal
 

@@ -1,12 +1,4 @@
-use Rattle.std.proofs.Common.{◌≤◌, ◌+◌, ◌∙◌, List, length, subst}
-use Rattle.gu_terms.specs.declared.id.Id.{Id}
-use Rattle.gu_terms.specs.declared.report.Report.{Report}
-use Rattle.gu_trades.specs.Reports.{with_match}
-use Rattle.gu_rules.specs.BookState.{BookState}
-use Rattle.gu_rules.specs.Notices.{Register}
-use Rattle.gu_notices.specs.Recipients.{Covers}
-use Rattle.gu_notices.proofs.RecipientLemmas.{few_sides}
-use Rattle.gu_book.specs.Informing.{HoldsInformed}
+use Rattle.gu_book.proofs.Words.{◌≤◌, ◌+◌, ◌∙◌, List, length, subst, Id, Report, with_match, BookState, Register, Covers, few_sides, HoldsInformed}
 use Rattle.gu_book.proofs.InformingLemmas.{informed-at}
 use Rattle.gu_book.proofs.TellingLemmas.{register-is}
 use Rattle.gu_book.proofs.book.Book.recipients_at.Goals as goal

@@ -1,8 +1,4 @@
-use Rattle.std.proofs.Common.{◌≡◌, ◌∙◌, ◌<◌, ap, length, subst, sym}
-use Rattle.gu_ref.specs.Reference.{is_group}
-use Rattle.gu_rules.specs.BookState.{BookState}
-use Rattle.gu_rules.specs.Versions.{version_of}
-use Rattle.gu_book.specs.Commits.{IsCurrent, IsForeign}
+use Rattle.gu_book.proofs.Words.{◌≡◌, ◌∙◌, ◌<◌, ap, length, subst, sym, is_group, BookState, version_of, IsCurrent, IsForeign}
 use Rattle.gu_book.proofs.CurrentViews.{shows-view, view-shows}
 use Rattle.gu_book.proofs.book.Book.refusal.Goals as goal
 

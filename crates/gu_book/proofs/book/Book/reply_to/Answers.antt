@@ -1,5 +1,4 @@
-use Rattle.std.proofs.Common.{◌≤◌, length, refl, arith, subst}
-use Rattle.gu_rules.specs.BookState.{BookState}
+use Rattle.gu_book.proofs.Words.{◌≤◌, length, refl, arith, subst, BookState}
 use Rattle.gu_book.proofs.book.Book.reply_to.Goals as goal
 
 pub returns-then-len-ge-MOST_ENTRIES-clause-full : goal.returns-then-len-ge-MOST_ENTRIES-clause-full

@@ -1,7 +1,4 @@
-use Rattle.std.proofs.Common.{◌∙◌, IfOk, subst, sym}
-use Rattle.gu_rules.specs.BookState.{BookState}
-use Rattle.gu_rules.specs.Notices.{IsStretch, IsStretchOf, Register}
-use Rattle.gu_notices.specs.Recipients.{AreRecipients}
+use Rattle.gu_book.proofs.Words.{◌∙◌, IfOk, subst, sym, BookState, IsStretch, IsStretchOf, Register, AreRecipients}
 use Rattle.gu_notices.specs.Registers.{register_in}
 use Rattle.gu_book.proofs.TellingLemmas.{register-is}
 use Rattle.gu_book.proofs.book.Book.stretch.Goals as goal

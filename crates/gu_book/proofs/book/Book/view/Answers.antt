@@ -1,9 +1,5 @@
-use Rattle.std.proofs.Common.{◌+◌, ◌<◌, ◌^◌, ◌∙◌, ap, arith, subst, sym}
-use Rattle.gu_rules.specs.BookState.{BookState}
-use Rattle.gu_rules.specs.Orderly.{IsShown}
-use Rattle.gu_rules.specs.Views.{group_view}
+use Rattle.gu_book.proofs.Words.{◌+◌, ◌<◌, ◌^◌, ◌∙◌, ap, arith, subst, sym, BookState, IsShown, group_view, version_in}
 use Rattle.gu_rules.proofs.LegalOrder.{legal_ordered}
-use Rattle.gu_book.specs.Counted.{version_in}
 use Rattle.gu_book.proofs.BookViews.{view-is}
 use Rattle.gu_book.proofs.CountedLemmas.{versions-fit}
 use Rattle.gu_book.proofs.book.Book.view.Goals as goal

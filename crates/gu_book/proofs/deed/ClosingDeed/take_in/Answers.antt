@@ -1,5 +1,4 @@
-use Rattle.std.proofs.Common.{refl, subst, sym}
-use Rattle.gu_book.specs.Accepted.{TakesIn}
+use Rattle.gu_book.proofs.Words.{refl, subst, sym, TakesIn}
 use Rattle.gu_book.proofs.Accepting.{refusal-taken}
 use Rattle.gu_book.proofs.deed.ClosingDeed.take_in.Goals as goal
 

@@ -1,5 +1,4 @@
-use Rattle.std.proofs.Common.{subst, sym}
-use Rattle.gu_book.specs.Accepted.{MayTakeIn, TakesIn}
+use Rattle.gu_book.proofs.Words.{subst, sym, MayTakeIn, TakesIn}
 use Rattle.gu_book.proofs.Accepting.{on_ok_two}
 use Rattle.gu_book.proofs.TakenIn.{give_up-numbers, give_up-taken, group-given}
 use Rattle.gu_book.proofs.deed.NewOffersDeed.take_in.Goals as goal

@@ -1,5 +1,4 @@
-use Rattle.std.proofs.Common.{subst, sym}
-use Rattle.gu_book.specs.Accepted.{TakesIn}
+use Rattle.gu_book.proofs.Words.{subst, sym, TakesIn}
 use Rattle.gu_book.proofs.TakenIn.{opening-taken}
 use Rattle.gu_book.proofs.deed.OpenDayDeed.take_in.Goals as goal
 

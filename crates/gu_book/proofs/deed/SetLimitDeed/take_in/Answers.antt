@@ -1,6 +1,4 @@
-use Rattle.std.proofs.Common.{subst, sym}
-use Rattle.std.proofs.lemmas.Result.{on_ok_weaker}
-use Rattle.gu_book.specs.Accepted.{TakesIn}
+use Rattle.gu_book.proofs.Words.{subst, sym, on_ok_weaker, TakesIn}
 use Rattle.gu_book.proofs.TakenIn.{limit-taken}
 use Rattle.gu_book.proofs.deed.SetLimitDeed.take_in.Goals as goal
 

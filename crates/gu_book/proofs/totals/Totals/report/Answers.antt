@@ -1,5 +1,4 @@
-use Rattle.std.proofs.Common.{arith}
-use Rattle.gu_trades.specs.Reports.{made_on, with_match}
+use Rattle.gu_book.proofs.Words.{arith, made_on, with_match}
 use Rattle.gu_book.proofs.Counterparts.{holds-both, holds-none}
 use Rattle.gu_book.proofs.totals.Totals.report.Goals as goal
 

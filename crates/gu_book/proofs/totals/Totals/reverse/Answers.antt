@@ -1,7 +1,4 @@
-use Rattle.std.proofs.Common.{List, subst}
-use Rattle.gu_terms.specs.declared.limit_key.LimitKey.{LimitKey}
-use Rattle.gu_limits.specs.Changes.{Returns, MayReturn}
-use Rattle.gu_limits.specs.Limits.{GroupLimit}
+use Rattle.gu_book.proofs.Words.{List, subst, LimitKey, Returns, MayReturn, GroupLimit}
 use Rattle.gu_book.proofs.totals.Totals.reverse.Goals as goal
 
 pub returns-clause-limits : goal.returns-clause-limits

@@ -1,5 +1,4 @@
-use Rattle.std.specs.Prelude.{[], ◌∷◌}
-use Rattle.gu_terms.specs.declared.entry.Entry.TheVariants.{Asked}
+use Rattle.gu_desk.proofs.Words.{[], ◌∷◌, Asked}
 use Rattle.gu_desk.proofs.annals.Annals.asked.Given as goal
 
 abbrev pub ghosts-add_asked : goal.ghosts-add_asked

@@ -1,6 +1,5 @@
-use Rattle.std.proofs.Common.{List, sym, ◌∙◌, arith, subst, ap, take}
+use Rattle.gu_desk.proofs.Words.{List, sym, ◌∙◌, arith, subst, ap, take, Entry}
 use mathlib.Core.List.{IsPrefix}
-use Rattle.gu_terms.specs.declared.entry.Entry.{Entry}
 use Rattle.gu_desk.proofs.AnnalsMoves.{cuts}
 use Rattle.gu_desk.proofs.Fronts.{take_begins}
 use Rattle.gu_desk.proofs.annals.Annals.cut_as.Goals as goal

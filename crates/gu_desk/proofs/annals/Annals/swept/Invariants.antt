@@ -1,6 +1,4 @@
-use Rattle.std.specs.Prelude.{[], ◌∷◌}
-use Rattle.gu_terms.specs.declared.entry.Entry.TheVariants.{Swept}
-use Rattle.gu_book.specs.Commits.{sweep_of}
+use Rattle.gu_desk.proofs.Words.{[], ◌∷◌, Swept, sweep_of}
 use Rattle.gu_desk.proofs.annals.Annals.swept.Given as goal
 
 abbrev pub ghosts-add_sweep : goal.ghosts-add_sweep

@@ -1,6 +1,5 @@
-use Rattle.std.proofs.Common.{rules}
+use Rattle.gu_desk.proofs.Words.{rules, IsNew}
 use Rattle.std.proofs.lemmas.List.Elements.{All-push}
-use Rattle.gu_desk.specs.Seats.{IsNew}
 use Rattle.gu_desk.proofs.desk.Desk.new.Goals as goal
 
 pub loop-seat-preserved : goal.loop-seat-preserved

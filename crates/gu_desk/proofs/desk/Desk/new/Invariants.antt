@@ -1,6 +1,4 @@
-use Rattle.std.proofs.Common.{◌≡◌, ◌+◌, ◌≤◌, length, vec_len}
-use Rattle.std.specs.Prelude.{All, vec_capacity}
-use Rattle.gu_desk.specs.Seats.{IsNew}
+use Rattle.gu_desk.proofs.Words.{◌≡◌, ◌+◌, ◌≤◌, length, vec_len, All, vec_capacity, IsNew}
 use Rattle.gu_desk.proofs.desk.Desk.new.Given as goal
 
 abbrev pub invariant-loop-seat : goal.invariant-loop-seat

@@ -1,6 +1,4 @@
-use Rattle.std.proofs.Common.{Result, Ok, Err, IfErr}
-use Rattle.gu_desk.specs.Sweeps.{IsSweepRefused}
-use Rattle.gu_desk.specs.declared.error.SweepError.{SweepError}
+use Rattle.gu_desk.proofs.Words.{Result, Ok, Err, IfErr, IsSweepRefused, SweepError}
 use Rattle.gu_desk.proofs.RefusalLemmas.{refused_after}
 use Rattle.gu_desk.proofs.desk.Desk.sweep.Goals as goal
 

@@ -1,9 +1,6 @@
-use Rattle.std.proofs.Common.{ap, inr, subst, sym}
+use Rattle.gu_desk.proofs.Words.{ap, inr, subst, sym, GroupView, IsSweepRefused, SweepError}
 use Rattle.gu_terms.specs.declared.group.Group.{Group}
-use Rattle.gu_view.specs.View.{GroupView}
 use Rattle.gu_desk.specs.Refusals.{refusal_of_second_hold}
-use Rattle.gu_desk.specs.Sweeps.{IsSweepRefused}
-use Rattle.gu_desk.specs.declared.error.SweepError.{SweepError}
 use Rattle.gu_desk.proofs.RefusalLemmas.{refused_after}
 use Rattle.gu_desk.proofs.desk.Desk.try_sweep.Goals as goal
 

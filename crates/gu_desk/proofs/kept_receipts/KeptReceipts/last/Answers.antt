@@ -1,7 +1,5 @@
-use Rattle.std.proofs.Common.{◌≡◌, ap, sym, List, [], ◌∷◌, ◌++◌, IfSome, Option, Some, None, Bor}
+use Rattle.gu_desk.proofs.Words.{◌≡◌, ap, sym, List, [], ◌∷◌, ◌++◌, IfSome, Option, Some, None, Bor, Receipt, receipts_in}
 use Rattle.std.specs.Option.{option_copied, option_to_list}
-use Rattle.gu_terms.specs.declared.receipt.Receipt.{Receipt}
-use Rattle.gu_desk.specs.KeptReceipts.{receipts_in}
 use Rattle.gu_desk.specs.declared.kept_receipts.KeptReceipts.{KeptReceipts}
 use Rattle.gu_desk.proofs.kept_receipts.KeptReceipts.last.Goals as goal
 

@@ -1,5 +1,4 @@
-use Rattle.std.specs.Prelude.{◌≡◌}
-use Rattle.gu_desk.specs.KeptReceipts.{receipts_in}
+use Rattle.gu_desk.proofs.Words.{◌≡◌, receipts_in}
 use Rattle.gu_desk.proofs.kept_receipts.KeptReceipts.of.Given as goal
 
 abbrev pub invariant-loop-receipt : goal.invariant-loop-receipt

@@ -1,5 +1,4 @@
-use Rattle.std.proofs.Common.{◌∙◌, subst, sym}
-use Rattle.gu_rules.specs.BookState.{BookState}
+use Rattle.gu_desk.proofs.Words.{◌∙◌, subst, sym, BookState}
 use Rattle.gu_book.specs.Questions.{IsAnswer}
 use Rattle.gu_desk.proofs.Fronts.{book_is}
 use Rattle.gu_desk.proofs.locked_book.LockedBook.ask.Goals as goal

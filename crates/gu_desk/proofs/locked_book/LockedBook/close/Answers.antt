@@ -1,7 +1,5 @@
-use Rattle.std.proofs.Common.{List, All, subst}
+use Rattle.gu_desk.proofs.Words.{List, All, subst, Entry, SeatState}
 use mathlib.Core.List.{IsPrefix}
-use Rattle.gu_terms.specs.declared.entry.Entry.{Entry}
-use Rattle.gu_desk.specs.Seats.{SeatState}
 use Rattle.gu_desk.proofs.locked_book.LockedBook.close.Goals as goal
 
 pub returns-clause-seen : goal.returns-clause-seen

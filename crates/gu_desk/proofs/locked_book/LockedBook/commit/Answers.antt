@@ -1,16 +1,7 @@
-use Rattle.std.proofs.Common.{◌≡◌, ◌∙◌, ℕ, refl, ◌+◌, ◌++◌, ◌∷◌, [], List, ap, arith, length, length-append, subst, sym}
-use Rattle.std.specs.Prelude.{sum_by}
+use Rattle.gu_desk.proofs.Words.{◌≡◌, ◌∙◌, ℕ, refl, ◌+◌, ◌++◌, ◌∷◌, [], List, ap, arith, length, length-append, subst, sym, sum_by, lots_swept, swept_by, Entry, Swept, BookState, group_view, Refuses, sweep_of, Sees, SeatState}
 use Rattle.std.proofs.lemmas.List.Sums.{sum_by-append}
 use mathlib.Core.List.{IsPrefix}
-use Rattle.gu_terms.specs.Histories.{lots_swept, swept_by}
-use Rattle.gu_terms.specs.declared.entry.Entry.{Entry}
-use Rattle.gu_terms.specs.declared.entry.Entry.TheVariants.{Swept}
-use Rattle.gu_rules.specs.BookState.{BookState}
-use Rattle.gu_rules.specs.Views.{group_view}
-use Rattle.gu_book.specs.Commits.{Refuses, sweep_of}
 use Rattle.gu_book.specs.Refusals.{commit_error_of}
-use Rattle.gu_desk.specs.Holds.{Sees}
-use Rattle.gu_desk.specs.Seats.{SeatState}
 use Rattle.gu_desk.proofs.Fronts.{book_is, honest}
 use Rattle.gu_desk.proofs.RefusalLemmas.{commit_refused}
 use Rattle.gu_desk.proofs.locked_book.LockedBook.commit.Goals as goal

@@ -1,7 +1,5 @@
-use Rattle.std.proofs.Common.{◌≡◌, ◌∙◌, ◌+◌, ◌-◌, ◌++◌, List, ap, arith, drop, subst, sym, take}
-use Rattle.std.proofs.Math.Seq.{take-add}
+use Rattle.gu_desk.proofs.Words.{◌≡◌, ◌∙◌, ◌+◌, ◌-◌, ◌++◌, List, ap, arith, drop, subst, sym, take, take-add, Entry}
 use mathlib.Core.List.{IsPrefix}
-use Rattle.gu_terms.specs.declared.entry.Entry.{Entry}
 use Rattle.gu_desk.proofs.Fronts.{first_entries}
 use Rattle.gu_desk.proofs.locked_book.LockedBook.entries_from.Goals as goal
 

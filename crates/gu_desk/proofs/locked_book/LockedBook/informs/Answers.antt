@@ -1,5 +1,4 @@
-use Rattle.std.proofs.Common.{subst}
-use Rattle.gu_rules.specs.BookState.{BookState}
+use Rattle.gu_desk.proofs.Words.{subst, BookState}
 use Rattle.gu_book.specs.Informing.{HoldsInformed}
 use Rattle.gu_desk.proofs.Fronts.{book_is}
 use Rattle.gu_desk.proofs.locked_book.LockedBook.informs.Goals as goal

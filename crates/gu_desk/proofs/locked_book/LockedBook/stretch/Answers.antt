@@ -1,5 +1,4 @@
-use Rattle.std.proofs.Common.{◌∙◌, List, subst, sym}
-use Rattle.gu_terms.specs.declared.entry.Entry.{Entry}
+use Rattle.gu_desk.proofs.Words.{◌∙◌, List, subst, sym, Entry}
 use Rattle.gu_rules.specs.Notices.{IsStretch}
 use Rattle.gu_desk.proofs.locked_book.LockedBook.stretch.Goals as goal
 

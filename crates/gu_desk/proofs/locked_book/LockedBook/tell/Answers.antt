@@ -1,5 +1,4 @@
-use Rattle.std.proofs.Common.{◌∙◌, IfOk, subst}
-use Rattle.gu_rules.specs.BookState.{BookState}
+use Rattle.gu_desk.proofs.Words.{◌∙◌, IfOk, subst, BookState}
 use Rattle.gu_rules.specs.Notices.{IsStretch}
 use Rattle.gu_desk.proofs.Fronts.{book_is}
 use Rattle.gu_desk.proofs.locked_book.LockedBook.tell.Goals as goal

@@ -1,5 +1,4 @@
-use Rattle.std.proofs.Common.{map, take, Some}
-use Rattle.gu_keeping.specs.Making.{IsBatchOf}
+use Rattle.gu_keeping.proofs.Words.{map, take, Some, IsBatchOf}
 use Rattle.gu_keeping.proofs.batch.Batch.of.Given as goal
 
 abbrev pub invariant-loop-place : goal.invariant-loop-place

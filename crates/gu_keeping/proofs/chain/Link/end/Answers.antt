@@ -1,5 +1,4 @@
-use Rattle.std.proofs.Common.{◌++◌, ◌∙◌, List, ℕ, refl, ap}
-use Rattle.sha2.specs.Sha256.{sha256}
+use Rattle.gu_keeping.proofs.Words.{◌++◌, ◌∙◌, List, ℕ, refl, ap, sha256}
 use Rattle.gu_keeping.proofs.Made.{ended_none, ended_some}
 use Rattle.gu_keeping.proofs.chain.Link.end.Goals as goal
 

@@ -1,7 +1,4 @@
-use Rattle.std.proofs.Common.{◌++◌, ◌∙◌, List, sym, ap, subst, append-nil}
-use Rattle.gu_terms.specs.declared.entry.Entry.{Entry}
-use Rattle.gu_keeping.specs.Chains.{IsChainOf}
-use Rattle.gu_keeping.specs.Keeping.{kept_entries}
+use Rattle.gu_keeping.proofs.Words.{◌++◌, ◌∙◌, List, sym, ap, subst, append-nil, Entry, IsChainOf, kept_entries}
 use Rattle.gu_keeping.proofs.Keepers.{kept_all}
 use Rattle.gu_keeping.proofs.keeper.Keeper.new.Goals as goal
 

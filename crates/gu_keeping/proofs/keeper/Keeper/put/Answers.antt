@@ -1,8 +1,4 @@
-use Rattle.std.proofs.Common.{◌++◌, ◌∙◌, List, ap, sym, subst, take}
-use Rattle.gu_terms.specs.declared.entry.Entry.{Entry}
-use Rattle.gu_keeping.specs.Chains.{IsChainOf, chain_after}
-use Rattle.gu_keeping.specs.Keeping.{kept_entries}
-use Rattle.gu_keeping.specs.declared.chain.Chain.{Chain}
+use Rattle.gu_keeping.proofs.Words.{◌++◌, ◌∙◌, List, ap, sym, subst, take, Entry, IsChainOf, chain_after, kept_entries, Chain}
 use Rattle.gu_keeping.proofs.Keepers.{chained_on, kept_on, parts_on}
 use Rattle.gu_keeping.proofs.keeper.Keeper.put.Goals as goal
 

@@ -1,7 +1,4 @@
-use Rattle.std.proofs.Common.{◌++◌, ◌∙◌, List, ap, sym, subst, arith}
-use Rattle.gu_terms.specs.declared.entry.Entry.{Entry}
-use Rattle.gu_keeping.specs.Chains.{IsChainOf}
-use Rattle.gu_keeping.specs.Keeping.{kept_entries}
+use Rattle.gu_keeping.proofs.Words.{◌++◌, ◌∙◌, List, ap, sym, subst, arith, Entry, IsChainOf, kept_entries}
 use Rattle.gu_keeping.proofs.Keepers.{front_length, kept_stays, parts_more}
 use Rattle.gu_keeping.proofs.keeper.Keeper.take_in.Goals as goal
 

@@ -1,5 +1,4 @@
-use Rattle.std.proofs.Common.{sym, ◌∙◌}
-use Rattle.gu_notices.specs.Registers.{register_in}
+use Rattle.gu_notices.proofs.Words.{sym, ◌∙◌, register_in}
 use Rattle.gu_notices.proofs.RecipientLemmas.{event-held}
 use Rattle.gu_notices.proofs.firm_filter.FirmFilter.add_event.Goals as goal
 

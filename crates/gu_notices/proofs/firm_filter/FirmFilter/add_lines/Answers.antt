@@ -1,7 +1,4 @@
-use Rattle.std.proofs.Common.{◌≡◌, ◌∙◌, ◌+◌, ◌-◌, ◌++◌, ℕ, suc, ap, arith, subst}
-use Rattle.std.specs.List.{flat_map, range_with_len}
-use Rattle.gu_rules.specs.Notices.{told_of_line}
-use Rattle.gu_notices.specs.Recipients.{Holds}
+use Rattle.gu_notices.proofs.Words.{◌≡◌, ◌∙◌, ◌+◌, ◌-◌, ◌++◌, ℕ, suc, ap, arith, subst, flat_map, range_with_len, told_of_line, Holds}
 use Rattle.gu_notices.proofs.NoticeLemmas.{flat_map-range}
 use Rattle.gu_notices.proofs.RecipientLemmas.{holds-append, holds-more}
 use Rattle.gu_notices.proofs.firm_filter.FirmFilter.add_lines.Goals as goal

@@ -1,9 +1,4 @@
-use Rattle.std.proofs.Common.{◌-◌}
-use Rattle.std.specs.List.{flat_map, range_with_len}
-use Rattle.gu_rules.specs.Notices.{told_of_line}
-use Rattle.gu_notices.specs.Filters.{Keeps}
-use Rattle.gu_notices.specs.Recipients.{CoversEach}
-use Rattle.gu_notices.specs.Registers.{register_in}
+use Rattle.gu_notices.proofs.Words.{◌-◌, flat_map, range_with_len, told_of_line, Keeps, CoversEach, register_in}
 use Rattle.gu_notices.proofs.firm_filter.FirmFilter.add_lines.Lts.Given as given
 
 pub record invariant-loop-number (l : given.Live-loop-number) : Type 0 where

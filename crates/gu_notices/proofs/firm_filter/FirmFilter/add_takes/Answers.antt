@@ -1,8 +1,5 @@
-use Rattle.std.proofs.Common.{subst, take}
-use Rattle.std.specs.List.{flat_map}
+use Rattle.gu_notices.proofs.Words.{subst, take, flat_map, told_of_take, Holds}
 use Rattle.gu_terms.specs.declared.notice.OfferEvent.TheVariants.{Claimed as IsClaimed}
-use Rattle.gu_rules.specs.Notices.{told_of_take}
-use Rattle.gu_notices.specs.Recipients.{Holds}
 use Rattle.gu_notices.proofs.NoticeLemmas.{flat_map-next}
 use Rattle.gu_notices.proofs.RecipientLemmas.{holds-append, holds-more, take-held}
 use Rattle.gu_notices.proofs.firm_filter.FirmFilter.add_takes.Goals as goal

@@ -1,9 +1,4 @@
-use Rattle.std.proofs.Common.{take}
-use Rattle.std.specs.List.{flat_map}
-use Rattle.gu_rules.specs.Notices.{told_of_take}
-use Rattle.gu_notices.specs.Filters.{Keeps}
-use Rattle.gu_notices.specs.Recipients.{CoversEach}
-use Rattle.gu_notices.specs.Registers.{register_in}
+use Rattle.gu_notices.proofs.Words.{take, flat_map, told_of_take, Keeps, CoversEach, register_in}
 use Rattle.gu_notices.proofs.firm_filter.FirmFilter.add_takes.Lts.Given as given
 
 pub record invariant-loop-take (l : given.Live-loop-take) : Type 0 where

@@ -1,6 +1,4 @@
-use Rattle.std.proofs.Common.{◌≡◌, ◌<◌, take}
-use Rattle.std.specs.List.{fold}
-use Rattle.gu_notices.specs.Filters.{next_place}
+use Rattle.gu_notices.proofs.Words.{◌≡◌, ◌<◌, take, fold, next_place}
 use Rattle.gu_notices.proofs.firm_filter.FirmPlace.of.Lts.Given as given
 
 pub record invariant-loop-byte (l : given.Live-loop-byte) : Type 0 where

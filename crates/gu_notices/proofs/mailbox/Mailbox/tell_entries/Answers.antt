@@ -1,10 +1,4 @@
-use Rattle.std.proofs.Common.{◌≡◌, ◌∙◌, ◌-◌, ◌+◌, ◌<◌, ◌≤◌, Some, ap, arith, drop, length, subst, sym, take}
-use Rattle.std.specs.Prelude.{slice_get}
-use Rattle.gu_terms.specs.declared.entry.Entry.{Entry}
-use Rattle.gu_rules.specs.Notices.{told_by, told_from}
-use Rattle.gu_notices.specs.Filters.{has_place, place_of}
-use Rattle.gu_notices.specs.Registers.{register_in}
-use Rattle.gu_notices.specs.Telling.{told_at_places}
+use Rattle.gu_notices.proofs.Words.{◌≡◌, ◌∙◌, ◌-◌, ◌+◌, ◌<◌, ◌≤◌, Some, ap, arith, drop, length, subst, sym, take, slice_get, Entry, told_by, told_from, has_place, place_of, register_in, told_at_places}
 use Rattle.gu_notices.specs.declared.mailbox.Mailbox.{Mailbox}
 use Rattle.gu_notices.proofs.NoticeLemmas.{IsToldSoFar, told-so-far, told-skipped, told-then, told_at, told-nothing}
 use Rattle.gu_notices.proofs.RecipientLemmas.{few_sides, held-out, nobody-told}

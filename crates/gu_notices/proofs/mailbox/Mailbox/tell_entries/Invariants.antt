@@ -1,7 +1,4 @@
-use Rattle.std.proofs.Common.{◌+◌, ◌-◌, ◌<◌, ◌≤◌, drop, length, take}
-use Rattle.gu_rules.specs.Notices.{told_from}
-use Rattle.gu_notices.specs.Registers.{register_in}
-use Rattle.gu_notices.specs.Telling.{told_at_places}
+use Rattle.gu_notices.proofs.Words.{◌+◌, ◌-◌, ◌<◌, ◌≤◌, drop, length, take, told_from, register_in, told_at_places}
 use Rattle.gu_notices.proofs.NoticeLemmas.{IsToldSoFar}
 use Rattle.gu_notices.proofs.mailbox.Mailbox.tell_entries.Lts.Given as given
 

@@ -1,7 +1,4 @@
-use Rattle.std.proofs.Common.{◌≡◌, ◌∙◌, ◌+◌, ◌-◌, ◌++◌, ℕ, suc, ap, arith, subst}
-use Rattle.std.specs.List.{flat_map, range_with_len}
-use Rattle.gu_rules.specs.Notices.{told_of_line}
-use Rattle.gu_notices.specs.Registers.{register_in}
+use Rattle.gu_notices.proofs.Words.{◌≡◌, ◌∙◌, ◌+◌, ◌-◌, ◌++◌, ℕ, suc, ap, arith, subst, flat_map, range_with_len, told_of_line, register_in}
 use Rattle.gu_notices.proofs.NoticeLemmas.{IsToldSoFar, flat_map-range, told-then}
 use Rattle.gu_notices.proofs.mailbox.Mailbox.tell_lines.Goals as goal
 

@@ -1,5 +1,4 @@
-use Rattle.std.proofs.Common.{◌++◌, ◌∷◌, []}
-use Rattle.gu_rules.specs.Notices.{told_on}
+use Rattle.gu_notices.proofs.Words.{◌++◌, ◌∷◌, [], told_on}
 use Rattle.gu_notices.proofs.NoticeLemmas.{told-same, told-then, told_on-two}
 use Rattle.gu_notices.proofs.mailbox.Mailbox.tell_side.Goals as goal
 

@@ -1,7 +1,4 @@
-use Rattle.std.proofs.Common.{take}
-use Rattle.std.specs.List.{flat_map}
-use Rattle.gu_rules.specs.Notices.{told_of_take}
-use Rattle.gu_notices.specs.Registers.{register_in}
+use Rattle.gu_notices.proofs.Words.{take, flat_map, told_of_take, register_in}
 use Rattle.gu_notices.proofs.NoticeLemmas.{IsToldSoFar}
 use Rattle.gu_notices.proofs.mailbox.Mailbox.tell_takes.Lts.Given as given
 

@@ -1,9 +1,7 @@
-use Rattle.std.proofs.Common.{◌++◌, ap}
+use Rattle.gu_notices.proofs.Words.{◌++◌, ap, told_of_trade, told_on, register_in}
 use Rattle.gu_terms.specs.declared.side.Side.TheVariants.{Buy, Sell}
 use Rattle.gu_trades.specs.Reports.{with_match}
 use Rattle.gu_trades.specs.Sides.{reports_in}
-use Rattle.gu_rules.specs.Notices.{told_of_trade, told_on}
-use Rattle.gu_notices.specs.Registers.{register_in}
 use Rattle.gu_notices.proofs.NoticeLemmas.{told-same, told-then}
 use Rattle.gu_notices.proofs.mailbox.Mailbox.tell_trade.Goals as goal
 

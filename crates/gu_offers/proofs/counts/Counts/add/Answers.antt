@@ -1,6 +1,4 @@
-use Rattle.std.proofs.Common.{◌≡◌, ◌+◌, ◌∙◌, Some, None, ap, arith, cond, rules, unwrap_or}
-use Rattle.indexmap.specs.IndexMap.{get}
-use Rattle.gu_offers.specs.Counts.{lots_under, report_key, same_key}
+use Rattle.gu_offers.proofs.Words.{◌≡◌, ◌+◌, ◌∙◌, Some, None, ap, arith, cond, rules, unwrap_or, get, lots_under, report_key, same_key}
 use Rattle.gu_offers.proofs.KeptTables.{last_write, lots_under-written, of_ok}
 use Rattle.gu_offers.proofs.counts.Counts.add.Goals as goal
 

@@ -1,7 +1,4 @@
-use Rattle.std.proofs.Common.{◌∙◌, ◌++◌, Some, ap, refl, subst}
-use Rattle.std.specs.List.{range_with_len}
-use Rattle.indexmap.specs.IndexMap.{Updates}
-use Rattle.gu_terms.specs.Same.{same_group}
+use Rattle.gu_offers.proofs.Words.{◌∙◌, ◌++◌, Some, ap, refl, subst, range_with_len, Updates, same_group}
 use Rattle.gu_offers.proofs.KeptTables.{listed-new, listed-same, on_err}
 use Rattle.gu_offers.proofs.groups.Groups.append.Goals as goal
 

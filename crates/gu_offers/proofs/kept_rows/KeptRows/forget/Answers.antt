@@ -1,5 +1,4 @@
-use Rattle.std.proofs.Common.{◌∙◌, ap, map}
-use Rattle.gu_offers.specs.Given.{forgotten, given_in}
+use Rattle.gu_offers.proofs.Words.{◌∙◌, ap, map, forgotten, given_in}
 use Rattle.gu_offers.proofs.KeptIds.{given_forgotten, within_forgotten}
 use Rattle.gu_offers.proofs.kept_rows.KeptRows.forget.Goals as goal
 

@@ -1,5 +1,4 @@
-use Rattle.std.proofs.Common.{◌∙◌, ◌++◌, ap, length, map, rules}
-use Rattle.gu_offers.specs.Given.{given_for}
+use Rattle.gu_offers.proofs.Words.{◌∙◌, ◌++◌, ap, length, map, rules, given_for}
 use Rattle.gu_offers.proofs.KeptIds.{given_more, within_more}
 use Rattle.gu_offers.proofs.kept_rows.KeptRows.push.Goals as goal
 

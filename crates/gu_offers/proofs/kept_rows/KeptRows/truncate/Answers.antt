@@ -1,6 +1,4 @@
-use Rattle.std.proofs.Common.{◌∙◌, ap, map, sym, take}
-use Rattle.std.proofs.lemmas.List.{take-map}
-use Rattle.gu_offers.specs.Given.{given_in}
+use Rattle.gu_offers.proofs.Words.{◌∙◌, ap, map, sym, take, take-map, given_in}
 use Rattle.gu_offers.proofs.kept_rows.KeptRows.truncate.Goals as goal
 
 pub returns : goal.returns

@@ -1,9 +1,4 @@
-use Rattle.std.proofs.Common.{◌∙◌, sym, refl, ap, ◌+◌, add-one, if◌then◌else◌}
-use Rattle.gu_terms.specs.Same.{same_group}
-use Rattle.gu_offers.specs.Changes.{changed, closed}
-use Rattle.gu_offers.specs.Given.{row_of}
-use Rattle.gu_offers.specs.Groups.{numbers_in}
-use Rattle.gu_offers.specs.Rows.{counted_of}
+use Rattle.gu_offers.proofs.Words.{◌∙◌, sym, refl, ap, ◌+◌, add-one, if◌then◌else◌, same_group, changed, closed, row_of, numbers_in, counted_of}
 use Rattle.gu_offers.proofs.KeptOffers.{after-changed, ascending, counted-closed, counts-less, held-within, is_sound, kept-changed, numbers-taken_out, sound-closed}
 use Rattle.gu_offers.proofs.NumberLists.{without}
 use Rattle.gu_offers.proofs.offers.Offers.close.Goals as goal

@@ -1,10 +1,5 @@
-use Rattle.std.proofs.Common.{◌≡◌, ◌∙◌, sym, refl, ap, map, ◌+◌, ◌&&◌, length, arith, if◌then◌else◌}
-use Rattle.std.proofs.lemmas.List.{length-map}
+use Rattle.gu_offers.proofs.Words.{◌≡◌, ◌∙◌, sym, refl, ap, map, ◌+◌, ◌&&◌, length, arith, if◌then◌else◌, length-map, same_firm, same_id, with_lines, given_for, row_of, rows_of}
 use Rattle.gu_terms.specs.Lines.{lots_in_all}
-use Rattle.gu_terms.specs.Same.{same_firm, same_id}
-use Rattle.gu_offers.specs.Changes.{with_lines}
-use Rattle.gu_offers.specs.Given.{given_for, row_of}
-use Rattle.gu_offers.specs.Kept.{rows_of}
 use Rattle.gu_offers.proofs.Growing.{counted-few, kept-same, kept-offered, rows-offered}
 use Rattle.gu_offers.proofs.KeptIds.{taken_off}
 use Rattle.gu_offers.proofs.offers.Offers.give_up.Goals as goal

@@ -1,6 +1,4 @@
-use Rattle.std.proofs.Common.{◌∙◌, ap, refl, slice_get, sym}
-use Rattle.std.specs.Option.{option_map_or}
-use Rattle.gu_offers.specs.Rows.{Row}
+use Rattle.gu_offers.proofs.Words.{◌∙◌, ap, refl, slice_get, sym, option_map_or, Row}
 use Rattle.gu_offers.proofs.Found.{row_at-kept}
 use Rattle.gu_offers.proofs.KeptIds.{read_by}
 use Rattle.gu_offers.proofs.offers.Offers.moved_today.Goals as goal

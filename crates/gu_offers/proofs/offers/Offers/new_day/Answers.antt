@@ -1,9 +1,4 @@
-use Rattle.std.proofs.Common.{◌∙◌, sym, refl, ap, subst, map, ◌≤◌, length}
-use Rattle.std.specs.List.{AllByRecursion}
-use Rattle.std.proofs.lemmas.List.{length-map}
-use Rattle.gu_offers.specs.Changes.{next_day}
-use Rattle.gu_offers.specs.Given.{forgotten, row_of}
-use Rattle.gu_offers.specs.Given.{GivenUp}
+use Rattle.gu_offers.proofs.Words.{◌∙◌, sym, refl, ap, subst, map, ◌≤◌, length, AllByRecursion, length-map, next_day, forgotten, row_of, GivenUp}
 use Rattle.gu_offers.proofs.Growing.{days-forgotten, days-next, kept-next, rows-forgotten, rows-next}
 use Rattle.gu_offers.proofs.offers.Offers.new_day.Goals as goal
 

@@ -1,9 +1,4 @@
-use Rattle.std.proofs.Common.{◌≡◌, ◌∙◌, sym, ap, subst, ◌+◌, ◌<◌, ◌≤◌, ◌++◌, ◌∷◌, [], length, take, get_or, arith}
-use Rattle.std.specs.List.{AllByRecursion, filter_map}
-use Rattle.std.proofs.lemmas.List.{length-map, take_more}
-use Rattle.gu_offers.specs.Given.{row_of}
-use Rattle.gu_offers.specs.Kept.{rows_of}
-use Rattle.gu_offers.specs.Rows.{open_offer_at}
+use Rattle.gu_offers.proofs.Words.{◌≡◌, ◌∙◌, sym, ap, subst, ◌+◌, ◌<◌, ◌≤◌, ◌++◌, ◌∷◌, [], length, take, get_or, arith, AllByRecursion, filter_map, length-map, take_more, row_of, rows_of, open_offer_at}
 use Rattle.gu_offers.proofs.Listed.{numbers-within}
 use Rattle.gu_offers.proofs.NumberLists.{at_place}
 use Rattle.gu_offers.proofs.Written.{filter_map-one_more}

@@ -1,7 +1,4 @@
-use Rattle.std.proofs.Common.{◌≡◌, take}
-use Rattle.std.specs.List.{filter_map}
-use Rattle.gu_offers.specs.Kept.{rows_of}
-use Rattle.gu_offers.specs.Rows.{open_offer_at}
+use Rattle.gu_offers.proofs.Words.{◌≡◌, take, filter_map, rows_of, open_offer_at}
 use Rattle.gu_offers.proofs.offers.Offers.of_group.Given as goal
 
 abbrev pub invariant-loop-number : goal.invariant-loop-number

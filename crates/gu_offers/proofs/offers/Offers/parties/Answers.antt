@@ -1,7 +1,4 @@
-use Rattle.std.proofs.Common.{◌∙◌, ap, refl, slice_get, sym}
-use Rattle.std.specs.Option.{option_map}
-use Rattle.gu_terms.specs.declared.offer.Offer.{Offer}
-use Rattle.gu_offers.specs.Rows.{Row}
+use Rattle.gu_offers.proofs.Words.{◌∙◌, ap, refl, slice_get, sym, option_map, Offer, Row}
 use Rattle.gu_offers.proofs.Found.{row_at-kept}
 use Rattle.gu_offers.proofs.KeptIds.{offer_by}
 use Rattle.gu_offers.proofs.offers.Offers.parties.Goals as goal

@@ -1,7 +1,4 @@
-use Rattle.std.proofs.Common.{◌∙◌, sym, refl, ap, ◌+◌, nat_lt, add-one}
-use Rattle.gu_offers.specs.Changes.{changed, reversed}
-use Rattle.gu_offers.specs.Given.{row_of}
-use Rattle.gu_offers.specs.Rows.{counted_of}
+use Rattle.gu_offers.proofs.Words.{◌∙◌, sym, refl, ap, ◌+◌, nat_lt, add-one, changed, reversed, row_of, counted_of}
 use Rattle.gu_offers.proofs.Found.{left_in-kept}
 use Rattle.gu_offers.proofs.KeptOffers.{after-changed, counted-reversed, counts-less, held-within, is_sound, kept-changed, numbers-as_they_were, sound-reversed, sound_at}
 use Rattle.gu_offers.proofs.offers.Offers.reverse.Goals as goal

@@ -1,8 +1,4 @@
-use Rattle.std.proofs.Common.{◌∙◌, sym, refl, ap, subst, ◌≤◌, nat_lt, add-one, if◌then◌else◌}
-use Rattle.gu_terms.specs.Same.{same_group}
-use Rattle.gu_offers.specs.Changes.{changed, taken}
-use Rattle.gu_offers.specs.Given.{row_of}
-use Rattle.gu_offers.specs.Groups.{numbers_in}
+use Rattle.gu_offers.proofs.Words.{◌∙◌, sym, refl, ap, subst, ◌≤◌, nat_lt, add-one, if◌then◌else◌, same_group, changed, taken, row_of, numbers_in}
 use Rattle.gu_offers.proofs.Found.{left_in-kept}
 use Rattle.gu_offers.proofs.KeptOffers.{after-changed, ascending, counted-taken, counts-as_they_were, is_sound, kept-changed, numbers-as_they_were, numbers-taken_out, open-taken, sound-taken, sound_at}
 use Rattle.gu_offers.proofs.NumberLists.{without}

@@ -1,7 +1,4 @@
-use Rattle.std.proofs.Common.{◌≡◌, ◌≢◌, ◌∙◌, ◌+◌, ◌==◌, arith, true, false, ℕ, List, [], length, Err, sym, ap, subst}
-use Rattle.gu_text.specs.LineFeeds.{HasNoLineFeed}
-use Rattle.gu_text.specs.Scripts.{IsBad}
-use Rattle.gu_script.specs.ScriptPieces.{Place}
+use Rattle.gu_script.proofs.Words.{◌≡◌, ◌≢◌, ◌∙◌, ◌+◌, ◌==◌, arith, true, false, ℕ, List, [], length, Err, sym, ap, subst, HasNoLineFeed, IsBad, Place}
 use Rattle.gu_script.proofs.ReplayPieces.{end_refused, end_answered, some_bytes}
 use Rattle.gu_script.proofs.ReplaySteps.{said_answered}
 use Rattle.gu_script.proofs.script.Script.end.Goals as goal

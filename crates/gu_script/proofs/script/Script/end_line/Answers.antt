@@ -1,8 +1,4 @@
-use Rattle.std.proofs.Common.{◌≡◌, ◌∙◌, ◌++◌, ◌∷◌, [], ℕ, List, ap, subst}
-use Rattle.std.specs.Str.Lines.{strip_carriage_return}
-use Rattle.gu_world.specs.Runs.{Course}
-use Rattle.gu_script.specs.ScriptPieces.{Place, whole_line}
-use Rattle.gu_script.specs.ScriptSteps.{AnswersLines, AnswersSaid}
+use Rattle.gu_script.proofs.Words.{◌≡◌, ◌∙◌, ◌++◌, ◌∷◌, [], ℕ, List, ap, subst, strip_carriage_return, Course, Place, whole_line, AnswersLines, AnswersSaid}
 use Rattle.gu_script.proofs.ReplaySteps.{said_answered}
 use Rattle.gu_script.proofs.script.Script.end_line.Goals as goal
 

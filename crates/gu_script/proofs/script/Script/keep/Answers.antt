@@ -1,7 +1,5 @@
-use Rattle.std.proofs.Common.{◌≡◌, ◌∙◌, ◌+◌, ◌++◌, ℕ, List, sym, ap, subst, rules}
-use Rattle.gu_text.specs.LineFeeds.{IsTooLong}
+use Rattle.gu_script.proofs.Words.{◌≡◌, ◌∙◌, ◌+◌, ◌++◌, ℕ, List, sym, ap, subst, rules, IsTooLong, Place}
 use Rattle.gu_text.specs.declared.error.TextError.TheVariants as text_error
-use Rattle.gu_script.specs.ScriptPieces.{Place}
 use Rattle.gu_script.proofs.script.Script.keep.Goals as goal
 
 number_of : {m n : ℕ} → text_error.BadLine m ≡ text_error.BadLine n → m ≡ n

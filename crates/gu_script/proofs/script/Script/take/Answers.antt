@@ -1,6 +1,4 @@
-use Rattle.std.proofs.Common.{Err, ap, subst}
-use Rattle.gu_text.specs.LineFeeds.{HasNoLineFeed}
-use Rattle.gu_script.specs.ScriptPieces.{Place}
+use Rattle.gu_script.proofs.Words.{Err, ap, subst, HasNoLineFeed, Place}
 use Rattle.gu_script.proofs.ReplayPieces.{piece_kept, piece_refused, taking_line, taking_none}
 use Rattle.gu_script.proofs.script.Script.take.Goals as goal
 

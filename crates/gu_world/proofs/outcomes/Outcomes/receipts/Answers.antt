@@ -1,8 +1,4 @@
-use Rattle.std.proofs.Common.{◌++◌, ◌∙◌, List, ap, get_or, length, subst, sym}
-use Rattle.gu_terms.specs.declared.receipt.Receipt.{Receipt}
-use Rattle.gu_world.specs.Outcomes.{AreNumbered, IsNumbered}
-use Rattle.gu_world.specs.Series.{outcomes_of}
-use Rattle.gu_world.specs.declared.outcomes.KeptOutcome.{KeptOutcome}
+use Rattle.gu_world.proofs.Words.{◌++◌, ◌∙◌, List, ap, get_or, length, subst, sym, Receipt, AreNumbered, IsNumbered, outcomes_of, KeptOutcome}
 use Rattle.gu_world.specs.declared.series.Series.TheVariants.{Asked}
 use Rattle.gu_world.proofs.ReceiptLemmas.{receipts_by, receipts_by-series}
 use Rattle.gu_world.proofs.SeriesLemmas.{All-part}

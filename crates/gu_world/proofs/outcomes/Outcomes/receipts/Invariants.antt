@@ -1,5 +1,4 @@
-use Rattle.std.proofs.Common.{◌≡◌, take}
-use Rattle.gu_world.specs.Series.{all_outcomes}
+use Rattle.gu_world.proofs.Words.{◌≡◌, take, all_outcomes}
 use Rattle.gu_world.proofs.ReceiptLemmas.{receipts_by}
 use Rattle.gu_world.proofs.outcomes.Outcomes.receipts.Given as goal
 

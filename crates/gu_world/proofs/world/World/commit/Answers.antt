@@ -1,12 +1,4 @@
-use Rattle.std.proofs.Common.{◌≡◌, ◌++◌, ◌∷◌, [], Option, map, subst, sym}
-use Rattle.std.specs.Prelude.{None, slice_index_or}
-use Rattle.gu_view.specs.View.{GroupView}
-use Rattle.gu_world.specs.Looks.{state_in, view_proposed}
-use Rattle.gu_world.specs.Outcomes.{kept_of, outcome_in}
-use Rattle.gu_world.specs.Runs.{Course, GoesOn}
-use Rattle.gu_world.specs.Steps.{ShowsProposed}
-use Rattle.gu_world.specs.Series.{IsShort}
-use Rattle.gu_world.specs.declared.step.Step.TheVariants.{Commit}
+use Rattle.gu_world.proofs.Words.{◌≡◌, ◌++◌, ◌∷◌, [], Option, map, subst, sym, None, slice_index_or, GroupView, state_in, view_proposed, kept_of, outcome_in, Course, GoesOn, ShowsProposed, IsShort, Commit}
 use Rattle.gu_world.proofs.RunLemmas.{proposed-current, taken-kept, taken-told}
 use Rattle.gu_world.proofs.ShortLemmas.{leads-short}
 use Rattle.gu_world.proofs.world.World.commit.Goals as goal

@@ -1,10 +1,4 @@
-use Rattle.std.proofs.Common.{◌≡◌, ◌++◌, ◌∷◌, [], map, subst, sym}
-use Rattle.gu_world.specs.Looks.{looks_in, state_in}
-use Rattle.gu_world.specs.Outcomes.{kept_of, outcome_in}
-use Rattle.gu_world.specs.Runs.{Course, GoesOn}
-use Rattle.gu_world.specs.Steps.{outcome_of}
-use Rattle.gu_world.specs.Series.{IsShort}
-use Rattle.gu_world.specs.declared.step.Step.TheVariants.{Enter}
+use Rattle.gu_world.proofs.Words.{◌≡◌, ◌++◌, ◌∷◌, [], map, subst, sym, looks_in, state_in, kept_of, outcome_in, Course, GoesOn, outcome_of, IsShort, Enter}
 use Rattle.gu_world.proofs.RunLemmas.{taken-kept, taken-told}
 use Rattle.gu_world.proofs.ShortLemmas.{leads-short}
 use Rattle.gu_world.proofs.SlotLemmas.{true-grown}

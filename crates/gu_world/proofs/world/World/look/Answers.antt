@@ -1,9 +1,4 @@
-use Rattle.std.proofs.Common.{◌≡◌, Some, None, sym, subst}
-use Rattle.std.specs.Prelude.{false}
-use Rattle.std.specs.Option.{option_map}
-use Rattle.gu_rules.specs.Views.{group_view}
-use Rattle.gu_world.specs.Runs.{Course}
-use Rattle.gu_world.specs.Steps.{Look, is_overtaken, look_of, view_seen}
+use Rattle.gu_world.proofs.Words.{◌≡◌, Some, None, sym, subst, false, option_map, group_view, Course, Look, is_overtaken, look_of, view_seen}
 use Rattle.gu_world.proofs.RunLemmas.{kept-current, kept-look, no-current, no-look}
 use Rattle.gu_world.proofs.world.World.look.Goals as goal
 

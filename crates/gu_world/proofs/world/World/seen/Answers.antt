@@ -1,7 +1,4 @@
-use Rattle.std.proofs.Common.{◌≡◌, None, sym, ap, subst}
-use Rattle.std.specs.Option.{option_map}
-use Rattle.gu_world.specs.Runs.{Course}
-use Rattle.gu_world.specs.Steps.{Look, look_of}
+use Rattle.gu_world.proofs.Words.{◌≡◌, None, sym, ap, subst, option_map, Course, Look, look_of}
 use Rattle.gu_world.proofs.RunLemmas.{no-seen}
 use Rattle.gu_world.proofs.world.World.seen.Goals as goal
 

@@ -1,8 +1,4 @@
-use Rattle.std.proofs.Common.{◌≡◌, ◌++◌, ◌∷◌, [], map, subst, sym}
-use Rattle.gu_world.specs.Looks.{state_in}
-use Rattle.gu_world.specs.Outcomes.{kept_of, outcome_in}
-use Rattle.gu_world.specs.Runs.{Course, GoesOn}
-use Rattle.gu_world.specs.Series.{IsShort}
+use Rattle.gu_world.proofs.Words.{◌≡◌, ◌++◌, ◌∷◌, [], map, subst, sym, state_in, kept_of, outcome_in, Course, GoesOn, IsShort}
 use Rattle.gu_world.proofs.RunLemmas.{taken-kept, taken-told}
 use Rattle.gu_world.proofs.ShortLemmas.{leads-short}
 use Rattle.gu_world.proofs.world.World.take.Goals as goal
