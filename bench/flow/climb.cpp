@@ -187,7 +187,7 @@ struct Choice {
             while (push(0, 1L << 60) > 0) {}
     }
 
-    // A search from one node, an end at a time: forward, or back to where lots can be brought from.
+    // A search from one node, a few ends at a time: forward, or back to where lots can be brought from.
     struct Search {
         std::vector<int> queue;
         size_t done = 0, next = 0;
@@ -195,19 +195,22 @@ struct Choice {
     std::vector<int> via[2];
     std::vector<char> has[2];
 
-    // One look: the node that was reached and that the other search has, -1 for none, -2 if there is nothing more to look at.
+    // One turn, for up to 16 ends of a node, until one reaches a new node: that node if the other search has it, -1 for none, -2 if there is
+    // nothing more to look at.
     int look(Search &search, int side) {
         if (search.done == search.queue.size()) return -2;
         int node = search.queue[search.done];
-        if (search.next == net.ends[node].size()) {
-            search.next = 0, search.done++;
-            return search.done == search.queue.size() ? -2 : -1;
+        auto &ends = net.ends[node];
+        for (int turn = 0; turn < 16 && search.next < ends.size(); turn++) {
+            int end = ends[search.next++], other = net.other(end);
+            net.looked++;
+            if (has[side][other] || region[other] != region[node] || net.out(side ? end ^ 1 : end) == 0) continue;
+            has[side][other] = 1, via[side][other] = end, search.queue.push_back(other);
+            return has[1 - side][other] ? other : -1;
         }
-        int end = net.ends[node][search.next++], other = net.other(end);
-        net.looked++;
-        if (has[side][other] || region[other] != region[node] || net.out(side ? end ^ 1 : end) == 0) return -1;
-        has[side][other] = 1, via[side][other] = end, search.queue.push_back(other);
-        return has[1 - side][other] ? other : -1;
+        if (search.next < ends.size()) return -1;
+        search.next = 0, search.done++;
+        return search.done == search.queue.size() ? -2 : -1;
     }
 
     // Raises what an arc carries by one way round it, or makes a region. Whether it did the first.

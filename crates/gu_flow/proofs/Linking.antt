@@ -4,7 +4,8 @@ use Rattle.std.proofs.Math.ListN.{set, length-set}
 use Rattle.std.proofs.lemmas.Bool.{cases_eq, cases_lt, cond_both, eqb-true, eqb-false, eq-eqb, ne_eqb}
 use Rattle.std.proofs.lemmas.List.{get_or_past}
 use Rattle.gu_flow.specs.declared.network.Arc.{Arc}
-use Rattle.gu_flow.specs.Ends.{near, last_before, IsCurrent, IsIndex}
+use Rattle.gu_flow.specs.declared.network.EndLink.{EndLink}
+use Rattle.gu_flow.specs.Ends.{near, far, last_before, no_link, link_at, IsCurrent, IsIndex}
 
 module _ (arcs : List Arc) where
   pub last_is_before : (e n : ℕ) → last_before arcs e n ≤ e
@@ -29,25 +30,31 @@ module _ (arcs : List Arc) where
       ])
 
 -- one more end is linked
-pub link_one : (arcs : List Arc) (first next : List ℕ) (count : ℕ) → IsIndex arcs first next count → count < length next → near arcs count < length first
-    → IsIndex arcs (set first (near arcs count) (count + 1)) (set next count (get_or first (near arcs count) 0)) (count + 1)
+pub link_one : (arcs : List Arc) (first : List ℕ) (links : List EndLink) (count : ℕ) (one : EndLink) → IsIndex arcs first links count → count < length links → near arcs count < length first
+    → one.far ≡ far arcs count → one.next ≡ get_or first (near arcs count) 0 → IsIndex arcs (set first (near arcs count) (count + 1)) (set links count one) (count + 1)
 unfolding last_before
-link_one arcs first next count index more node_in =
+link_one arcs first links count one index more node_in leads next =
     let node = near arcs count in
+    let here : link_at (set links count one) count ≡ one = get_or-set_same links count one no_link more in
+    let there : (e : ℕ) → e ≢ count → link_at (set links count one) e ≡ link_at links e = λ e other. get_or-set_other links count e one no_link other in
     rw add-one (record {
       last = λ n n_in. elim (cases_eq n node) [
         | inl same ↦ rw (same, eq-eqb node node refl) (get_or-set_same first node (suc count) 0 node_in)
         | inr other ↦ rw (ne_eqb node n (λ e. other (sym e))) (get_or-set_other first node n (suc count) 0 other ∙ index.last n (omega (arith, length-set first node (suc count))))
       ];
       before = λ e e_in. elim (cases_eq e count) [
-        | inl last ↦ rw last (get_or-set_same next count (get_or first node 0) 0 more ∙ index.last node node_in)
-        | inr earlier ↦ get_or-set_other next count e (get_or first node 0) 0 earlier ∙ index.before e (omega arith)
+        | inl last ↦ rw last (ap (λ (l : EndLink). l.next) here ∙ next ∙ index.last node node_in)
+        | inr earlier ↦ ap (λ (l : EndLink). l.next) (there e earlier) ∙ index.before e (omega arith)
+      ];
+      leads = λ e e_in. elim (cases_eq e count) [
+        | inl last ↦ rw last (ap (λ (l : EndLink). l.far) here ∙ leads)
+        | inr earlier ↦ ap (λ (l : EndLink). l.far) (there e earlier) ∙ index.leads e (omega arith)
       ];
     })
 
 -- at each node a search begins at the last end
-pub begins_last : (arcs : List Arc) (first next : List ℕ) → IsIndex arcs first next (2 * length arcs) → IsCurrent arcs first
-begins_last arcs first next index = record {
+pub begins_last : (arcs : List Arc) (first : List ℕ) (links : List EndLink) → IsIndex arcs first links (2 * length arcs) → IsCurrent arcs first
+begins_last arcs first links index = record {
   ends = λ n. elim (cases_lt n (length first)) [ inl n_in ↦ omega (arith, index.last n n_in, last_is_before arcs (2 * length arcs) n) | inr past ↦ omega (arith, get_or_past first n 0 past) ];
   here = λ n some. elim (cases_lt n (length first)) [
     | inl n_in ↦ rw (index.last n n_in) (last_is_at arcs (2 * length arcs) n (omega (arith, index.last n n_in)))

@@ -1,12 +1,13 @@
--- A search looks at one end after another.
-use Rattle.std.proofs.Common.{◌≡◌, ◌≢◌, ℕ, ◌+◌, ◌-◌, ◌*◌, ◌<◌, ◌≤◌, List, length, sym, ◌∙◌, ap, subst, arith, inl, inr, get_or, suc}
+-- A search looks at a few ends in each turn.
+use Rattle.std.proofs.Common.{◌≡◌, ◌≢◌, ℕ, ◌+◌, ◌-◌, ◌*◌, ◌<◌, ◌≤◌, List, length, sym, ◌∙◌, ap, subst, arith, inl, inr, get_or, nat_lt, suc}
 use Rattle.std.proofs.lemmas.Bool.{cases_eq, cases_lt, ltb-true, ltb-false}
+use Rattle.std.proofs.lemmas.List.Sums.{count_by-le-length}
 use native.Mathlib.Nat.{suc-mul}
 use Rattle.gu_flow.specs.declared.network.Arc.{Arc}
 use Rattle.gu_flow.specs.declared.searching.Mark.{Mark}
 use Rattle.gu_flow.specs.declared.searching.Search.{Search}
 use Rattle.gu_flow.specs.Ends.{near, far, last_before}
-use Rattle.gu_flow.specs.Searches.{mark_at, level_at, is_reached, IsQueue, IsTree, IsSearch, KeepsReached}
+use Rattle.gu_flow.specs.Searches.{mark_at, level_at, is_reached, GoesOn, IsQueue, IsTree, IsSearch, KeepsReached}
 use Rattle.gu_flow.specs.Flows.{IsShut}
 use Rattle.gu_flow.proofs.Linking.{last_is_before, last_is_at, none_after}
 use Rattle.gu_flow.proofs.Marks.{count_one}
@@ -39,6 +40,13 @@ search_begins arcs room s inside others here some at one none ends =
       half = λ _ e from e_in at_node. absurd (none_after arcs (2 * length arcs) s.from e (omega (arith, ends, from)) e_in (at_node ∙ first));
     }
 
+-- the reached nodes have their places among the marks and in the queue
+pub reached_in : (marks : List Mark) (queue : List ℕ) (count node : ℕ) → IsQueue marks queue count → 0 < level_at marks node → node < length marks
+reached_in marks queue count node waits reached = let w = waits.waits node reached in subst (λ n. n < length marks) w.1.1 (waits.reached w.0 w.1.0).0
+
+pub place_in : (marks : List Mark) (queue : List ℕ) (count place : ℕ) → IsQueue marks queue count → length queue ≡ length marks → place < count → place < length queue
+place_in marks queue count place waits same on = omega (arith, waits.counted, count_by-le-length (λ (m : Mark). nat_lt 0 m.level) marks)
+
 module _ (arcs : List Arc) (room : ℕ → ℕ) (s : Search) (is : IsSearch arcs room s) (on : s.done < s.count) where
   -- all ends of a node have been looked at
   pub search_turns : (ends : ℕ) → s.ends ≡ 0 → ends ≤ 2 * length arcs → (s.done + 1 < s.count → ends ≡ last_before arcs (2 * length arcs) (get_or s.queue.items (s.done + 1) 0))
@@ -55,6 +63,38 @@ module _ (arcs : List Arc) (room : ℕ → ℕ) (s : Search) (is : IsSearch arcs
     ends_at = λ more left. let it = next more in subst (λ e. near arcs (e - 1) ≡ get_or s.queue.items (s.done + 1) 0) (sym it) (last_is_at arcs (2 * length arcs) (get_or s.queue.items (s.done + 1) 0) (omega (arith, it, left)));
     half = λ more e from e_in at. absurd (none_after arcs (2 * length arcs) (get_or s.queue.items (s.done + 1) 0) e (omega (arith, next more, from)) e_in at);
   }
+
+  -- it goes on from an end further on
+  pub search_skips : (ends : ℕ) → GoesOn arcs room s ends → IsSearch arcs room (record s { ends = ends })
+  search_skips ends on_from = record {
+    tree = is.tree;
+    waits = is.waits;
+    within = is.within;
+    spent = is.spent;
+    ends_in = omega (arith, on_from.ends_in, is.ends_in);
+    ends_at = λ _. on_from.ends_at;
+    half = λ _. on_from.half;
+  }
+
+  pub skip_begins : GoesOn arcs room s s.ends
+  skip_begins = record { ends_in = omega arith; ends_at = is.ends_at on; half = is.half on }
+
+  -- one more end reaches nothing new
+  pub skips_one : (ends next : ℕ) → GoesOn arcs room s ends → 0 < ends → next ≡ last_before arcs (ends - 1) (near arcs (ends - 1)) → (0 < room (ends - 1) → 0 < level_at s.marks.items (far arcs (ends - 1)))
+      → GoesOn arcs room s next
+  skips_one ends next on_from left is_next there =
+      let here = on_from.ends_at left in
+      record {
+        ends_in = omega (arith, is_next, last_is_before arcs (ends - 1) (near arcs (ends - 1)), on_from.ends_in);
+        ends_at = λ more. subst (λ e. near arcs (e - 1) ≡ get_or s.queue.items s.done 0) (sym is_next) (last_is_at arcs (ends - 1) (near arcs (ends - 1)) (omega (arith, more, is_next)) ∙ here);
+        half = λ e from e_in at some. elim (cases_lt e (ends - 1)) [
+          | inl below ↦ absurd (none_after arcs (ends - 1) (near arcs (ends - 1)) e (omega (arith, from, is_next)) below (at ∙ sym here))
+          | inr above ↦ elim (cases_eq e (ends - 1)) [
+            | inl same ↦ subst (λ k. 0 < level_at s.marks.items (far arcs k)) (sym same) (there (subst (λ k. 0 < room k) same some))
+            | inr past ↦ on_from.half e (omega arith) e_in at some
+          ]
+        ];
+      }
 
   -- one more end is looked at
   module _ (left : 0 < s.ends) where

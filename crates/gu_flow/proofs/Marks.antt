@@ -35,9 +35,8 @@ count_one marks source inside others here =
     let one : f (mark_at marks source) ≡ 1 = rw here refl in
     omega (arith, none, one, sum_by-set f marks source no_mark no_mark inside)
 
-module _ (arcs : List Arc) (room : ℕ → ℕ) (source : ℕ) (marks : List Mark) (queue : List ℕ) (count end level lots : ℕ) (tree : IsTree arcs room source marks) (waits : IsQueue marks queue count)
-    (end_in : end < 2 * length arcs) (far_in : far arcs end < length marks) (new : level_at marks (far arcs end) ≡ 0) (some : 0 < lots) (fits : lots ≤ room end) (least : lots ≤ (mark_at marks (near arcs end)).lots)
-    (reached : 0 < level_at marks (near arcs end)) (level_is : level_at marks (near arcs end) + 1 ≡ level) (places : length marks ≤ length queue) where
+module _ (arcs : List Arc) (marks : List Mark) (queue : List ℕ) (count end level lots : ℕ) (waits : IsQueue marks queue count) (far_in : far arcs end < length marks)
+    (new : level_at marks (far arcs end) ≡ 0) (level_is : level_at marks (near arcs end) + 1 ≡ level) (places : length marks ≤ length queue) where
   abbrev node : ℕ
   node = far arcs end
 
@@ -62,35 +61,6 @@ module _ (arcs : List Arc) (room : ℕ → ℕ) (source : ℕ) (marks : List Mar
   count_in : count < length marks
   count_in = omega (arith, waits.counted, reached_fewer marks node far_in new)
 
-  pub tree_reaches : IsTree arcs room source (set marks (far arcs end) (record { via = end; level = level; lots = lots }))
-  tree_reaches =
-      let at_source : (mark_at after source).lots ≡ (mark_at marks source).lots = kept_lots source (omega (arith, tree.begun)) in
-      record {
-        begun = kept source (omega (arith, tree.begun)) ∙ tree.begun;
-        some = omega (arith, at_source, tree.some);
-        entered = at_set (λ m (x : Mark). m ≢ source → 0 < x.level → IsEntry arcs room after m x) marks node e no_mark far_in (λ _ _. record {
-          end_in = end_in;
-          here = refl;
-          some = some;
-          fits = fits;
-          least = omega (arith, kept_lots (near arcs end) reached, least);
-          falls = ap (λ l. l + 1) (kept (near arcs end) reached) ∙ level_is;
-        }) (λ m other not_source was. let s = tree.entered m not_source was in
-            let before : 0 < level_at marks (near arcs (mark_at marks m).via) = omega (arith, s.falls, tree.above m not_source was) in
-            record {
-              end_in = s.end_in;
-              here = s.here;
-              some = s.some;
-              fits = s.fits;
-              least = omega (arith, s.least, kept_lots (near arcs (mark_at marks m).via) before);
-              falls = ap (λ l. l + 1) (kept (near arcs (mark_at marks m).via) before) ∙ s.falls;
-            });
-        above = at_set (λ m (x : Mark). m ≢ source → 0 < x.level → 1 < x.level) marks node e no_mark far_in (λ _ _. omega arith) (λ m other. tree.above m);
-        levels = rw length-set (at_set (λ m (x : Mark). x.level ≤ length marks) marks node e no_mark far_in (omega (arith, waits.low (near arcs end), count_in)) (λ m other. tree.levels m));
-        most_lots = at_set (λ m (x : Mark). 0 < x.level → x.lots ≤ (mark_at after source).lots) marks node e no_mark far_in (λ _. omega (arith, at_source, least, tree.most_lots (near arcs end) reached))
-            (λ m other was. omega (arith, at_source, tree.most_lots m was));
-      }
-
   pub queue_before : (k : ℕ) → k < count → get_or (set queue count (far arcs end)) k 0 ≡ get_or queue k 0
   queue_before k before = get_or-set_other queue count k node 0 (λ e. absurd (omega arith))
 
@@ -105,3 +75,34 @@ module _ (arcs : List Arc) (room : ℕ → ℕ) (source : ℕ) (marks : List Mar
             (λ k other k_in. let w = waits.reached k (omega arith) in (omega (arith, w.0, length-set marks node e), omega (arith, kept (get_or queue k 0) w.1, w.1)));
         low = at_set (λ m (x : Mark). x.level ≤ count + 1) marks node e no_mark far_in (omega (arith, waits.low (near arcs end))) (λ m other. omega (arith, waits.low m));
       }
+
+  module _ (room : ℕ → ℕ) (source : ℕ) (tree : IsTree arcs room source marks) (end_in : end < 2 * length arcs) (some : 0 < lots) (fits : lots ≤ room end)
+      (least : lots ≤ (mark_at marks (near arcs end)).lots) (reached : 0 < level_at marks (near arcs end)) where
+    pub tree_reaches : IsTree arcs room source (set marks (far arcs end) (record { via = end; level = level; lots = lots }))
+    tree_reaches =
+        let at_source : (mark_at after source).lots ≡ (mark_at marks source).lots = kept_lots source (omega (arith, tree.begun)) in
+        record {
+          begun = kept source (omega (arith, tree.begun)) ∙ tree.begun;
+          some = omega (arith, at_source, tree.some);
+          entered = at_set (λ m (x : Mark). m ≢ source → 0 < x.level → IsEntry arcs room after m x) marks node e no_mark far_in (λ _ _. record {
+            end_in = end_in;
+            here = refl;
+            some = some;
+            fits = fits;
+            least = omega (arith, kept_lots (near arcs end) reached, least);
+            falls = ap (λ l. l + 1) (kept (near arcs end) reached) ∙ level_is;
+          }) (λ m other not_source was. let s = tree.entered m not_source was in
+              let before : 0 < level_at marks (near arcs (mark_at marks m).via) = omega (arith, s.falls, tree.above m not_source was) in
+              record {
+                end_in = s.end_in;
+                here = s.here;
+                some = s.some;
+                fits = s.fits;
+                least = omega (arith, s.least, kept_lots (near arcs (mark_at marks m).via) before);
+                falls = ap (λ l. l + 1) (kept (near arcs (mark_at marks m).via) before) ∙ s.falls;
+              });
+          above = at_set (λ m (x : Mark). m ≢ source → 0 < x.level → 1 < x.level) marks node e no_mark far_in (λ _ _. omega arith) (λ m other. tree.above m);
+          levels = rw length-set (at_set (λ m (x : Mark). x.level ≤ length marks) marks node e no_mark far_in (omega (arith, waits.low (near arcs end), count_in)) (λ m other. tree.levels m));
+          most_lots = at_set (λ m (x : Mark). 0 < x.level → x.lots ≤ (mark_at after source).lots) marks node e no_mark far_in (λ _. omega (arith, at_source, least, tree.most_lots (near arcs end) reached))
+              (λ m other was. omega (arith, at_source, tree.most_lots m was));
+        }

@@ -1,6 +1,7 @@
 -- Machinery: networks, and the two ends of each arc: 2k is the tail of arc k, and 2k + 1 its head.
 use Rattle.std.specs.Prelude.{◌≡◌, ℕ, zero, suc, ◌+◌, ◌-◌, ◌*◌, ◌/◌, ◌%◌, ◌^◌, ◌<◌, ◌≤◌, ◌==◌, Bool, if◌then◌else◌, List, All, length, slice_index, slice_index_or, sum_by}
 use Rattle.gu_flow.specs.declared.network.Arc.{Arc}
+use Rattle.gu_flow.specs.declared.network.EndLink.{EndLink}
 
 -- the arc at an index
 abbrev pub no_arc : Arc
@@ -41,10 +42,18 @@ unfoldable pub last_before : List Arc → ℕ → ℕ → ℕ
 last_before arcs zero n = 0
 last_before arcs (suc e) n = if near arcs e == n then suc e else last_before arcs e n
 
--- the ends before `count` are linked at each node: `first` gives the last of them, and `next` the one before each
-pub record IsIndex (arcs : List Arc) (first next : List ℕ) (count : ℕ) : Type 0 where
+-- the link of an end
+abbrev pub no_link : EndLink
+no_link = record { far = 0; next = 0 }
+
+abbrev pub link_at : List EndLink → ℕ → EndLink
+link_at links e = slice_index_or links e no_link
+
+-- the ends before `count` are linked at each node: `first` gives the last of them, and each link the one before it and the node to which it leads
+pub record IsIndex (arcs : List Arc) (first : List ℕ) (links : List EndLink) (count : ℕ) : Type 0 where
   pub last : (n : ℕ) → n < length first → slice_index first n ≡ last_before arcs count n
-  pub before : (e : ℕ) → e < count → slice_index next e ≡ last_before arcs e (near arcs e)
+  pub before : (e : ℕ) → e < count → (link_at links e).next ≡ last_before arcs e (near arcs e)
+  pub leads : (e : ℕ) → e < count → (link_at links e).far ≡ far arcs e
 
 -- at each node, the search for paths continues at one of the node's ends, or has none left
 pub record IsCurrent (arcs : List Arc) (current : List ℕ) : Type 0 where
@@ -56,11 +65,11 @@ abbrev pub capacities : List Arc → ℕ
 capacities arcs = sum_by (λ a. a.capacity) arcs
 
 -- a network: fewer than 2^31 arcs join fewer than 2^31 nodes, source and sink included, total capacity is below 2^64, and ends are linked
-pub record IsNetwork (arcs : List Arc) (first next : List ℕ) : Type 0 where
+pub record IsNetwork (arcs : List Arc) (first : List ℕ) (links : List EndLink) : Type 0 where
   pub joins : JoinsNodes arcs (length first)
   pub ends : 1 < length first
   pub few_nodes : length first < 2 ^ 31
   pub few_arcs : length arcs < 2 ^ 31
   pub fits : capacities arcs < 2 ^ 64
-  pub index : IsIndex arcs first next (2 * length arcs)
-  pub all : length next ≡ 2 * length arcs
+  pub index : IsIndex arcs first links (2 * length arcs)
+  pub all : length links ≡ 2 * length arcs

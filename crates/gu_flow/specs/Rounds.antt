@@ -8,11 +8,14 @@ use Rattle.gu_flow.specs.Floors.{IsAlike, KeepsFloors, room_out}
 use Rattle.gu_flow.specs.Flows.{inflow, outflow, IsFlow}
 use Rattle.gu_flow.specs.Searches.{HasPlaces, IsClear, IsSearch}
 
--- the lots that a search can push over an end within a region: from its node to the other, or, if it goes back, to its node
+-- the lots that a search can push over an end: from its node to the other, or, if it goes back, to its node
+abbrev pub room_of : List Arc → Allotment → Bool → ℕ → ℕ
+room_of arcs a back e = room_out arcs a.floors.items a.flow.items (if back then other_end e else e)
+
+-- those that it can push within a region
 abbrev pub room_inside : List Arc → Allotment → Bool → ℕ → ℕ
 room_inside arcs a back e =
-    if slice_index a.regions.items (near arcs e) == slice_index a.regions.items (far arcs e)
-    then room_out arcs a.floors.items a.flow.items (if back then other_end e else e) else 0
+    if slice_index a.regions.items (near arcs e) == slice_index a.regions.items (far arcs e) then room_of arcs a back e else 0
 
 -- nothing more can be pushed from the reached nodes to the others in the same region
 pub record IsClosedInside (arcs : List Arc) (floors flow regions : List ℕ) (reached : ℕ → Bool) : Type 0 where

@@ -63,6 +63,12 @@ pub record IsSearch (arcs : List Arc) (room : ℕ → ℕ) (s : Search) : Type 0
   pub ends_at : s.done < s.count → 0 < s.ends → near arcs (s.ends - 1) ≡ slice_index s.queue.items s.done
   pub half : s.done < s.count → IsLookedThrough arcs room s.marks.items (slice_index s.queue.items s.done) s.ends
 
+-- at the next node in the queue, a search can go on from `ends`
+pub record GoesOn (arcs : List Arc) (room : ℕ → ℕ) (s : Search) (ends : ℕ) : Type 0 where
+  pub ends_in : ends ≤ s.ends
+  pub ends_at : 0 < ends → near arcs (ends - 1) ≡ slice_index s.queue.items s.done
+  pub half : IsLookedThrough arcs room s.marks.items (slice_index s.queue.items s.done) ends
+
 -- it has room for this number of nodes
 pub record HasPlaces (nodes : ℕ) (s : Search) : Type 0 where
   pub marks : length s.marks.items ≡ nodes

@@ -3,10 +3,10 @@
 ghost use Rattle.std.specs.Prelude.{◌≡◌, ℕ, ◌+◌, ◌*◌, ◌/◌, ◌%◌, ◌<◌, ◌≤◌, IfOk, length, slice_index};
 ghost use Rattle.gu_flow.specs.Floors.{KeepsFloors, room_out};
 ghost use Rattle.gu_flow.specs.Flows.{IsFlow, IsWithin, Pushes};
-ghost use Rattle.gu_flow.specs.Rounds.{room_inside, IsAllotment, IsFree};
+ghost use Rattle.gu_flow.specs.Rounds.{room_of, IsAllotment, IsFree};
 ghost use Rattle.gu_flow.specs.Searches.{level_at, IsQueue};
 
-use crate::network::{Network, other_end};
+use crate::network::Network;
 use crate::searching::Search;
 use std::alloc::{AllocError, Global};
 
@@ -25,7 +25,7 @@ impl Allotment {
         ensures { IfOk result (λ a. IsFree net.now.arcs.items (length net.now.first.items) a) }
     {
         let floors = vec![in alloc; 0; flow.len()]?;
-        let regions = vec![in alloc; 0; net.nodes()]?;
+        let regions = vec![in alloc; 0; net.last_ends().len()]?;
         Ok(Allotment {
             flow,
             floors,
@@ -33,21 +33,17 @@ impl Allotment {
         })
     }
 
-    /// Returns the lots that a search can push over an end within a region, or against it if the search goes back.
+    /// Returns the lots that a search can push over an end, or against it if the search goes back.
     pub(crate) fn room(&self, net: &Network, back: bool, end: u32) -> u64
         requires allotment { IsAllotment net.now.arcs.items (length net.now.first.items) self.now }
         requires end { end < 2 * length net.now.arcs.items }
-        ensures { result ≡ room_inside net.now.arcs.items self.now back end }
+        ensures { result ≡ room_of net.now.arcs.items self.now back end }
     {
-        if self.regions[net.near(end) as usize] != self.regions[net.far(end) as usize] {
-            return 0;
-        }
-        let over = if back { other_end(end) } else { end };
-        let flows = self.flow[over as usize / 2];
-        if over % 2 == 0 {
-            net.capacity(over) - flows
+        let flows = self.flow[end as usize / 2];
+        if (end % 2 == 0) == back {
+            flows - self.floors[end as usize / 2]
         } else {
-            flows - self.floors[over as usize / 2]
+            net.capacity(end) - flows
         }
     }
 

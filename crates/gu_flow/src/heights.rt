@@ -16,17 +16,6 @@ const MOST_TURNS: u32 = 1 << 24;
 /// The cost of lifting a node, counted in ends, in addition to the ends looked at.
 const LIFT: usize = 12;
 
-/// Sets every node's height to the number of nodes, and the sink's to the lowest.
-fn raise(heights: &mut [u32])
-    requires few { (1 < length heights.old) × (length heights.old < 2 ^ 31) }
-{
-    let nodes = heights.len() as u32;
-    for height in heights.iter_mut() {
-        *height = nodes;
-    }
-    heights[SINK as usize] = 0;
-}
-
 /// Finds the nodes that lead directly to a node, and returns the number of nodes found in all.
 fn spread_back(
     net: &Network,
@@ -67,7 +56,9 @@ fn measure(net: &Network, flow: &[u64], heights: &mut [u32], queue: &mut [u32])
     requires nodes { length heights.old ≡ length net.now.first.items }
     requires room { 0 < length queue.old }
 {
-    raise(heights);
+    let nodes = heights.len() as u32;
+    heights.fill(nodes);
+    heights[SINK as usize] = 0;
     queue[0] = SINK;
     let mut found = 1;
     let mut done = 0;

@@ -49,7 +49,7 @@ pub(crate) fn maximize(
         (residual_out net.now.arcs.items allotment.new.flow.items) search.new) }
     ensures least { OnOk result (IsLeastSide net.now.arcs.items allotment.new.flow.items (is_reached search.new.marks.items)) }
 {
-    let nodes = net.nodes();
+    let nodes = net.last_ends().len();
     let mut current = vec![in alloc; 0; nodes]?;
     let mut way = vec![in alloc; 0; nodes]?;
     let mut left = SEARCHES * nodes;

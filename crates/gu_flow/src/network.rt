@@ -19,15 +19,23 @@ pub struct Arc {
     pub capacity: u64,
 }
 
+/// Where an end leads: to the node at the arc's other end, and to the previous end at its own node.
+#[derive(Clone, Copy)]
+pub struct EndLink {
+    pub far: u32,
+    /// The previous end plus one, or 0 if there is none.
+    pub next: u32,
+}
+
 /// A network: arcs that join nodes, with the ends at each node.
 #[derive(Drop)]
 pub(crate) struct Network {
     arcs: Vec<Arc>,
     /// For each node, its last end plus one, or 0 if it has none.
     first: Vec<u32>,
-    /// For each end, the previous end at the same node plus one, or 0 if there is none.
-    next: Vec<u32>,
-    ghost is_network: { IsNetwork arcs.items first.items next.items },
+    /// For each end, where it leads.
+    links: Vec<EndLink>,
+    ghost is_network: { IsNetwork arcs.items first.items links.items },
 }
 
 /// Returns the arc's other end.
@@ -48,16 +56,19 @@ fn near(arcs: &[Arc], end: u32) -> u32
 }
 
 /// Links the ends at each node, from the last to the first.
-fn link(arcs: &[Arc], first: &mut [u32], next: &mut [u32])
+fn link(arcs: &[Arc], first: &mut [u32], links: &mut [EndLink])
     requires joins { JoinsNodes arcs.now (length first.old) }
     requires few { length arcs.now < 2 ^ 31 }
     requires none { All (λ ends. ends ≡ 0) first.old }
-    requires ends { length next.old ≡ 2 * length arcs.now }
-    ensures { IsIndex arcs.now first.new next.new (2 * length arcs.now) }
+    requires ends { length links.old ≡ 2 * length arcs.now }
+    ensures { IsIndex arcs.now first.new links.new (2 * length arcs.now) }
 {
-    for end in 0..next.len() {
+    for end in 0..links.len() {
         let node = near(arcs, end as u32) as usize;
-        next[end] = first[node];
+        links[end] = EndLink {
+            far: near(arcs, other_end(end as u32)),
+            next: first[node],
+        };
         first[node] = end as u32 + 1;
     }
 }
@@ -73,22 +84,15 @@ impl Network {
         ensures nodes { IfOk result (λ net. length net.first.items ≡ nodes) }
     {
         let mut first = vec![in alloc; 0; nodes]?;
-        let mut next = vec![in alloc; 0; 2 * arcs.len()]?;
-        link(&arcs, &mut first, &mut next);
-        Ok(Network { arcs, first, next })
+        let mut links = vec![in alloc; EndLink { far: 0, next: 0 }; 2 * arcs.len()]?;
+        link(&arcs, &mut first, &mut links);
+        Ok(Network { arcs, first, links })
     }
 
     pub(crate) fn arcs(&self) -> &[Arc]
         ensures { result.now ≡ self.now.arcs.items }
     {
         &self.arcs
-    }
-
-    /// Returns the number of nodes.
-    pub(crate) fn nodes(&self) -> usize
-        ensures { result ≡ length self.now.first.items }
-    {
-        self.first.len()
     }
 
     /// Returns the capacity of the arc of an end.
@@ -114,8 +118,7 @@ impl Network {
         ensures is { result ≡ far self.now.arcs.items end }
         ensures within { result < length self.now.first.items }
     {
-        let arc = &self.arcs[end as usize / 2];
-        if end % 2 == 0 { arc.to } else { arc.from }
+        self.links[end as usize].far
     }
 
     /// Returns a node's last end plus one, or 0 if it has none.
@@ -133,7 +136,7 @@ impl Network {
         ensures is { result ≡ last_before self.now.arcs.items end (near self.now.arcs.items end) }
         ensures less { result ≤ end }
     {
-        self.next[end as usize]
+        self.links[end as usize].next
     }
 
     /// Returns the last end of each node.

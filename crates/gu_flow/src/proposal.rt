@@ -137,7 +137,7 @@ fn sweep(alloc: Global, view: &View) -> Result<(Takes, Cut, u64), AllocError>
     let net = Network::new(alloc, arcs, view.rooms().len() + 2)?;
     let first = begin(alloc, view, &net)?;
     let mut allotment = Allotment::new(alloc, &net, first)?;
-    let mut searches = TwoWay::new(alloc, net.nodes())?;
+    let mut searches = TwoWay::new(alloc, net.last_ends().len())?;
     maximize(alloc, &net, &mut allotment, &mut searches.ahead)?;
     let cut = cut_by(alloc, view, net.arcs(), &searches.ahead.marks)?;
     searches.ahead.clear();

@@ -29,7 +29,7 @@ impl TwoWay {
         Ok(TwoWay { ahead, back })
     }
 
-    /// Lets each search look at one end in turn, until they meet or one has none left. Returns a node that both have reached.
+    /// Lets the searches take turns, until they meet or one has no ends left. Returns a node that both have reached.
     fn meet(&mut self, net: &Network, allotment: &Allotment) -> Option<u32>
         requires allotment { IsAllotment net.now.arcs.items (length net.now.first.items) allotment.now }
         requires under_way { AreUnderWay net.now.arcs.items (length net.now.first.items) allotment.now self.old }
@@ -79,7 +79,7 @@ impl TwoWay {
         let mut node = met;
         while node != self.back.from {
             let end = self.back.marks[node as usize].via;
-            let _ = self.ahead.reach(net, allotment, other_end(end));
+            self.ahead.reach(net, allotment, other_end(end));
             node = net.near(end);
         }
     }
