@@ -1,22 +1,5 @@
 -- Lists of arcs, laid out one room after another.
-use Rattle.std.proofs.Common.{◌≡◌, ◌≢◌, ℕ, zero, suc, slice_get, ◌+◌, ◌^◌, ◌<◌, ◌≤◌, ◌==◌, ◌⊎◌, min, cond, List, [], ◌∷◌, ◌++◌, map, length, arith, refl, inl, inr}
-use Rattle.std.specs.Prelude.{All}
-use Rattle.std.specs.List.{AllByRecursion}
-use Rattle.std.proofs.lemmas.Bool.{cases_lt, cond_both}
-use Rattle.std.proofs.lemmas.List.{get_or_append_left, get_or_push, length_push}
-use Rattle.std.proofs.lemmas.List.Elements.{All-from_get_or}
-use Rattle.std.proofs.lemmas.List.Sums.{sum_by-le}
-use Rattle.gu_view.specs.Paths.{step_of}
-use Rattle.gu_view.specs.Takes.{lots_with}
-use Rattle.gu_view.specs.View.{GroupView, IsView, place_of}
-use Rattle.gu_flow.specs.Ends.{no_arc, arc_at, capacities, JoinsNodes}
-use Rattle.gu_flow.specs.Layouts.{node_or_sink, node_at}
-use Rattle.gu_flow.specs.Networks.{no_room, room_at, capacity_of, way_of, IsArcOf}
-use Rattle.gu_flow.specs.declared.network.Arc.{Arc}
-use Rattle.gu_terms.specs.declared.agreement.AgreementId.{AgreementId}
-use Rattle.gu_terms.specs.declared.limit_key.LimitKey.{LimitKey}
-use Rattle.gu_terms.specs.declared.limit_key.LimitKey.TheVariants.{Exec, Agr, Acct, Carry, Guar}
-use Rattle.gu_view.specs.declared.view.ViewOffer.{ViewOffer}
+use Rattle.gu_flow.proofs.Words.{◌≡◌, ◌≢◌, ℕ, zero, suc, slice_get, ◌+◌, ◌^◌, ◌<◌, ◌≤◌, ◌==◌, ◌⊎◌, min, cond, List, [], ◌∷◌, ◌++◌, map, length, arith, refl, inl, inr, All, AllByRecursion, cases_lt, cond_both, get_or_append_left, get_or_push, length_push, All-from_get_or, sum_by-le, step_of, lots_with, GroupView, IsView, place_of, no_arc, arc_at, capacities, JoinsNodes, node_or_sink, node_at, no_room, room_at, capacity_of, way_of, IsArcOf, Arc, AgreementId, LimitKey, Exec, Agr, Acct, Carry, Guar, ViewOffer}
 use Rattle.gu_flow.proofs.RoomPlaces.{roomed}
 
 -- each arc is that of the room at its index

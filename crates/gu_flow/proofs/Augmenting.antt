@@ -1,10 +1,5 @@
 -- Lots are pushed back along a path, arc by arc.
-use Rattle.std.proofs.Common.{◌≡◌, ◌≢◌, ℕ, ◌+◌, ◌-◌, ◌/◌, ◌<◌, ◌≤◌, ◌==◌, cond, List, length, sym, ◌∙◌, ap, arith, inl, inr, get_or, min}
-use Rattle.std.proofs.lemmas.Bool.{cases_eq, cases_lt, ne_eqb, cond-false}
-use Rattle.gu_flow.specs.declared.network.Arc.{Arc}
-use Rattle.gu_flow.specs.Ends.{near, far, other_end, residual_in, residual_out}
-use Rattle.gu_flow.specs.Flows.{inflow, outflow, value_of, IsWithin, Pushes}
-use Rattle.gu_flow.specs.Ways.{stand, IsWhole, IsNarrow}
+use Rattle.gu_flow.proofs.Words.{◌≡◌, ◌≢◌, ℕ, ◌+◌, ◌-◌, ◌/◌, ◌<◌, ◌≤◌, ◌==◌, cond, List, length, sym, ◌∙◌, ap, arith, inl, inr, get_or, min, cases_eq, cases_lt, ne_eqb, cond-false, Arc, near, far, other_end, residual_in, residual_out, inflow, outflow, value_of, IsWithin, Pushes, stand, IsWhole, IsNarrow}
 use Rattle.gu_flow.proofs.EndLemmas.{other_end-arc, near-other_end, far-other_end, residual_out-other_end}
 
 -- the node that the path has reached lacks the lots, all others are balanced, and the remaining steps have room

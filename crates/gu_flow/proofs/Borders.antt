@@ -1,13 +1,6 @@
 -- Flows of the same value agree at the border of the nodes that a search above the floors has reached.
-use Rattle.std.proofs.Common.{◌≡◌, ◌≢◌, ℕ, ◌+◌, ◌*◌, ◌/◌, ◌%◌, ◌<◌, ◌≤◌, ◌==◌, ◌-◌, Bool, true, false, cond, List, [], length, get_or, refl, sym, ◌∙◌, ap, arith, inl, inr}
+use Rattle.gu_flow.proofs.Words.{◌≡◌, ◌≢◌, ℕ, ◌+◌, ◌*◌, ◌/◌, ◌%◌, ◌<◌, ◌≤◌, ◌==◌, ◌-◌, Bool, true, false, cond, List, [], length, get_or, refl, sym, ◌∙◌, ap, arith, inl, inr, cases_Bool, cases_eq, cases_lt, eq-eqb, ne_eqb, Arc, no_arc, arc_at, is_tail, JoinsNodes, IsAlike, IsClosedInside, AreFixed, CarriesMost, places, sum_over, inflow, outflow, value_of, IsFlow, IsClosed, sum_by-add, sum_by-agree, sum_by-swap}
 use Rattle.std.specs.List.{sum_by}
-use Rattle.std.proofs.lemmas.Bool.{cases_Bool, cases_eq, cases_lt, eq-eqb, ne_eqb}
-use Rattle.gu_flow.specs.declared.network.Arc.{Arc}
-use Rattle.gu_flow.specs.Ends.{no_arc, arc_at, is_tail, JoinsNodes}
-use Rattle.gu_flow.specs.Floors.{IsAlike}
-use Rattle.gu_flow.specs.Rounds.{IsClosedInside, AreFixed, CarriesMost}
-use Rattle.gu_flow.specs.Flows.{places, sum_over, inflow, outflow, value_of, IsFlow, IsClosed}
-use Rattle.gu_terms.proofs.Lists.{sum_by-add, sum_by-agree, sum_by-swap}
 use Rattle.gu_flow.proofs.SumLemmas.{sum_places_by, sum_places_set, cond-sum, cond-swap, sum_one_place, same_terms}
 
 -- the flow into the nodes of a set, arc by arc, and out of them

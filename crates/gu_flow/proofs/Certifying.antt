@@ -1,30 +1,6 @@
 -- The shares of a maximum flow and the cut at which its last search stops: right takes, a right cut, and no greater takes.
-use Rattle.std.proofs.Common.{◌≡◌, ◌≢◌, ℕ, ◌+◌, ◌<◌, ◌≤◌, ◌==◌, ◌⊎◌, not, Bool, true, false, cond, List, suc, length, get_or, refl, sym, ◌∙◌, ap, subst, arith, inl, inr}
-use Rattle.std.specs.Prelude.{IsTrue, nat_lt, sum_by}
-use Rattle.std.specs.List.{AllByRecursion, list_any}
-use Rattle.std.proofs.Math.Bool.{and-true, and-false}
-use Rattle.std.proofs.lemmas.Bool.{cases_eq, cases_order, or_left, or_right, eq-eqb, ne_eqb, eqb-true, and_from}
-use Rattle.std.proofs.lemmas.List.{get_or_default}
-use Rattle.std.proofs.lemmas.List.Elements.{All-filter, All-from_get_or}
-use Rattle.gu_terms.specs.Cuts.{CutLists, has_number}
-use Rattle.gu_terms.specs.LimitKeys.{has_key}
-use Rattle.gu_terms.specs.Takes.{lots_of}
-use Rattle.gu_terms.specs.declared.takes.Take.{Take}
+use Rattle.gu_flow.proofs.Words.{◌≡◌, ◌≢◌, ℕ, ◌+◌, ◌<◌, ◌≤◌, ◌==◌, ◌⊎◌, not, Bool, true, false, cond, List, suc, length, get_or, refl, sym, ◌∙◌, ap, subst, arith, inl, inr, IsTrue, nat_lt, sum_by, AllByRecursion, list_any, and-true, and-false, cases_eq, cases_order, or_left, or_right, eq-eqb, ne_eqb, eqb-true, and_from, get_or_default, All-filter, All-from_get_or, CutLists, has_number, has_key, lots_of, Take, any_key, has_offer, IsRight, Covers, is_covered, room_of, IsNearestCut, IsAdmissible, IsGreatest, IsOldestFirst, IsOldestGreatest, lots_under, total, GroupView, IsView, IsNested, ViewOffer, leads_out, cuts_key, cuts_offers, IsCutBy, arc_at, places, sum_over, IsFlow, IsClosed, no_room, room_at, no_offer, offer_at, way_of, IsOfferOf, AreArcs, IsSound, above_zero, agreement_place, agreement_lots, AreAllShares, Arc, sum_by-add, sum_by-swap, sum_by-agree}
 use Rattle.gu_view.proofs.CutBounds.{greatest_by_cut}
-use Rattle.gu_view.proofs.HoldLemmas.{any_key}
-use Rattle.gu_view.specs.Check.{has_offer, IsRight}
-use Rattle.gu_view.specs.Cut.{Covers, is_covered, room_of}
-use Rattle.gu_view.specs.Nearest.{IsNearestCut}
-use Rattle.gu_view.specs.Takes.{IsAdmissible, IsGreatest, IsOldestFirst, IsOldestGreatest, lots_under, total}
-use Rattle.gu_view.specs.View.{GroupView, IsView, IsNested}
-use Rattle.gu_view.specs.declared.view.ViewOffer.{ViewOffer}
-use Rattle.gu_flow.specs.CutArcs.{leads_out, cuts_key, cuts_offers, IsCutBy}
-use Rattle.gu_flow.specs.Ends.{arc_at}
-use Rattle.gu_flow.specs.Flows.{places, sum_over, IsFlow, IsClosed}
-use Rattle.gu_flow.specs.Networks.{no_room, room_at, no_offer, offer_at, way_of, IsOfferOf, AreArcs}
-use Rattle.gu_flow.specs.Proposals.{IsSound}
-use Rattle.gu_flow.specs.Shares.{above_zero, agreement_place, agreement_lots, AreAllShares}
-use Rattle.gu_flow.specs.declared.network.Arc.{Arc}
 use Rattle.gu_flow.proofs.ArcLists.{IsAgreement, kind_of, capacity-le}
 use Rattle.gu_flow.proofs.CutMembers.{key_told, offer_told}
 use Rattle.gu_flow.proofs.CutTotals.{walk_leads_out, total_is_cut}
@@ -32,7 +8,6 @@ use Rattle.gu_flow.proofs.Loads.{agree, Sided}
 use Rattle.gu_flow.proofs.ShareLemmas.{share_taken, share_fits, shares_ascend, shares_oldest_first, shares_together, shares_known}
 use Rattle.gu_flow.proofs.SomeLots.{above_zero-all, above_zero-lots}
 use Rattle.gu_flow.proofs.Sides.{IsLaid, distance, first_left, later_right}
-use Rattle.gu_terms.proofs.Lists.{sum_by-add, sum_by-swap, sum_by-agree}
 use Rattle.gu_flow.proofs.SumLemmas.{sum_by-by, sum_by_place, sum_places_by, sum_one_place, cond-sum, cond-swap}
 use Rattle.gu_flow.proofs.Walks.{Walking, load}
 use Rattle.gu_flow.proofs.ViewLoads.{all_walk, brought_is, each_offer, key_on, offer_here, under_agreement, walking}

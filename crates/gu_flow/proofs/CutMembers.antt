@@ -1,25 +1,6 @@
 -- The members of the cut, one after another.
-use Rattle.std.proofs.Common.{◌≡◌, ◌≢◌, ℕ, ◌+◌, ◌<◌, ◌==◌, ◌||◌, ◌&&◌, not, nat_lt, Bool, true, false, cond, List, [], ◌∷◌, ◌++◌, length, refl, sym, ◌∙◌, ap, subst, arith, inl, inr}
-use Rattle.std.specs.Prelude.{All}
-use Rattle.std.specs.List.{list_any}
-use Rattle.std.proofs.Math.Bool.{or-false, and-true, and-false, and-not_self}
-use Rattle.std.proofs.lemmas.Bool.{cases_Bool, cases_eq, cases_lt, cases_order, eq-eqb, ne_eqb, eqb-true, lt-ltb, le-ltb, not-false, and_right}
-use Rattle.std.proofs.lemmas.List.{get_or_past}
-use Rattle.std.proofs.lemmas.List.Elements.{All-push}
-use Rattle.std.proofs.lemmas.List.Folds.{list_any-append, list_any_at}
-use Rattle.gu_terms.proofs.KeyLemmas.{key_eq-same, key_eq-refl}
-use Rattle.gu_terms.specs.Cuts.{CutLists, has_number}
-use Rattle.gu_terms.specs.LimitKeys.{key_eq, has_key}
-use Rattle.gu_terms.specs.declared.limit_key.LimitKey.{LimitKey}
+use Rattle.gu_flow.proofs.Words.{◌≡◌, ◌≢◌, ℕ, ◌+◌, ◌<◌, ◌==◌, ◌||◌, ◌&&◌, not, nat_lt, Bool, true, false, cond, List, [], ◌∷◌, ◌++◌, length, refl, sym, ◌∙◌, ap, subst, arith, inl, inr, All, list_any, or-false, and-true, and-false, and-not_self, cases_Bool, cases_eq, cases_lt, cases_order, eq-eqb, ne_eqb, eqb-true, lt-ltb, le-ltb, not-false, and_right, get_or_past, All-push, list_any-append, list_any_at, key_eq-same, key_eq-refl, CutLists, has_number, key_eq, has_key, LimitKey, GroupView, IsView, Room, ViewOffer, leads_out, cuts_key, cuts_offers, AreCut, AreKeysCut, AreNoOffersCut, AreOffersCut, IsCutBy, no_arc, arc_at, no_offer, offer_at, no_room, room_at, IsOfferOf, agreement_place, Arc}
 use Rattle.gu_view.proofs.RoomLemmas.{apart}
-use Rattle.gu_view.specs.View.{GroupView, IsView}
-use Rattle.gu_view.specs.declared.view.Room.{Room}
-use Rattle.gu_view.specs.declared.view.ViewOffer.{ViewOffer}
-use Rattle.gu_flow.specs.CutArcs.{leads_out, cuts_key, cuts_offers, AreCut, AreKeysCut, AreNoOffersCut, AreOffersCut, IsCutBy}
-use Rattle.gu_flow.specs.Ends.{no_arc, arc_at}
-use Rattle.gu_flow.specs.Networks.{no_offer, offer_at, no_room, room_at, IsOfferOf}
-use Rattle.gu_flow.specs.Shares.{agreement_place}
-use Rattle.gu_flow.specs.declared.network.Arc.{Arc}
 
 -- what is cut before the next index
 next_place : (n i : ℕ) (cuts old new : ℕ → Bool) → ((k : ℕ) → k < n → old k ≡ (nat_lt k i && cuts k)) → ((k : ℕ) → k < n → new k ≡ (old k || ((i == k) && cuts i)))

@@ -1,12 +1,6 @@
 -- The total brought by many walks is the capacity of the arcs out of a closed set of nodes.
-use Rattle.std.proofs.Common.{◌≡◌, ℕ, ◌+◌, ◌*◌, ◌/◌, ◌%◌, ◌<◌, ◌==◌, ◌&&◌, not, Bool, true, false, cond, List, [], ◌∷◌, length, get_or, refl, sym, ◌∙◌, ap, arith, inl, inr}
-use Rattle.std.specs.List.{sum_by, AllByRecursion}
-use Rattle.std.proofs.lemmas.Bool.{cond-false, cond-true, and_parts, and_from, cases_Bool, not-true, not_from_false, or_left, or_right, eq-eqb, ne_eqb}
-use Rattle.gu_flow.specs.declared.network.Arc.{Arc}
-use Rattle.gu_flow.specs.CutArcs.{leads_out}
-use Rattle.gu_flow.specs.Ends.{arc_at}
-use Rattle.gu_flow.specs.Flows.{places, sum_over, IsWithin, IsClosed}
-use Rattle.gu_terms.proofs.Lists.{sum_by-add, sum_by-zeros}
+use Rattle.gu_flow.proofs.Words.{◌≡◌, ℕ, ◌+◌, ◌*◌, ◌/◌, ◌%◌, ◌<◌, ◌==◌, ◌&&◌, not, Bool, true, false, cond, List, [], ◌∷◌, length, get_or, refl, sym, ◌∙◌, ap, arith, inl, inr, AllByRecursion, cond-false, cond-true, and_parts, and_from, cases_Bool, not-true, not_from_false, or_left, or_right, eq-eqb, ne_eqb, Arc, leads_out, arc_at, places, sum_over, IsWithin, IsClosed, sum_by-add, sum_by-zeros}
+use Rattle.std.specs.List.{sum_by}
 use Rattle.gu_flow.proofs.SumLemmas.{sum_by-by, sum_places_by, at_test, cond_same}
 use Rattle.gu_flow.proofs.Walks.{Walks, has_place, Walking, way_sum, along_walk, load, by_walks}
 

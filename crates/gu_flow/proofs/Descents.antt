@@ -1,16 +1,7 @@
 -- Paths that go down a level at each step, augmented one after another.
-use Rattle.std.proofs.Common.{◌≡◌, ◌≢◌, ℕ, ◌+◌, ◌-◌, ◌*◌, ◌/◌, ◌<◌, ◌≤◌, ◌==◌, cond, List, zero, suc, length, refl, sym, ◌∙◌, ap, subst, arith, inl, inr, get_or, get_or-set_other, get_or-set_same, get_or-take, take}
-use Rattle.std.proofs.Math.ListN.{set, length-set}
-use Rattle.std.proofs.lemmas.Bool.{cases_Bool, cases_eq}
-use Rattle.std.proofs.lemmas.List.{length-take-le}
-use Rattle.std.proofs.lemmas.List.Sums.{sum_by-set}
+use Rattle.gu_flow.proofs.Words.{◌≡◌, ◌≢◌, ℕ, ◌+◌, ◌-◌, ◌*◌, ◌/◌, ◌<◌, ◌≤◌, ◌==◌, cond, List, zero, suc, length, refl, sym, ◌∙◌, ap, subst, arith, inl, inr, get_or, get_or-set_other, get_or-set_same, get_or-take, take, length-set, cases_Bool, cases_eq, length-take-le, sum_by-set, Arc, Mark, arc_at, is_tail, near, far, other_end, residual_in, residual_out, last_before, IsCurrent, IsFlow, value_of, mark_at, level_at, IsTree, stand, IsStep, HasRoom, TakesEachOnce, IsWhole, IsAhead, IsDown, IsDescent}
+use Rattle.std.proofs.Math.ListN.{set}
 use Rattle.std.specs.List.{sum}
-use Rattle.gu_flow.specs.declared.network.Arc.{Arc}
-use Rattle.gu_flow.specs.declared.searching.Mark.{Mark}
-use Rattle.gu_flow.specs.Ends.{arc_at, is_tail, near, far, other_end, residual_in, residual_out, last_before, IsCurrent}
-use Rattle.gu_flow.specs.Flows.{IsFlow, value_of}
-use Rattle.gu_flow.specs.Searches.{mark_at, level_at, IsTree}
-use Rattle.gu_flow.specs.Ways.{stand, IsStep, HasRoom, TakesEachOnce, IsWhole, IsAhead, IsDown, IsDescent}
 use Rattle.gu_flow.proofs.Linking.{last_is_before, last_is_at}
 use Rattle.gu_flow.proofs.SumLemmas.{at_set}
 use Rattle.gu_flow.proofs.Augmenting.{stand-more}

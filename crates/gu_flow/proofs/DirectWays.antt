@@ -1,20 +1,9 @@
 -- The ends of an offer's way, from the sink back to the source, are a whole path.
-use Rattle.std.proofs.Common.{◌≡◌, ℕ, ◌+◌, ◌-◌, ◌*◌, ◌%◌, ◌<◌, ◌≤◌, ◌==◌, false, List, length, map, take, zero, suc, get_or, slice_get, Option, Some, None, refl, sym, ◌∙◌, ap, arith}
-use Rattle.std.specs.Prelude.{IfSome}
-use Rattle.std.proofs.lemmas.Bool.{ne_eqb}
-use Rattle.std.proofs.lemmas.List.{get_or-take, length-map, length-take-le}
-use Rattle.std.proofs.lemmas.Option.{slice_get-get_or}
+use Rattle.gu_flow.proofs.Words.{◌≡◌, ℕ, ◌+◌, ◌-◌, ◌*◌, ◌%◌, ◌<◌, ◌≤◌, ◌==◌, false, List, length, map, take, zero, suc, get_or, slice_get, Option, Some, None, refl, sym, ◌∙◌, ap, arith, IfSome, ne_eqb, length-map, length-take-le, slice_get-get_or, AgreementId, GroupView, IsView, IsNested, place_of, ViewOffer, arc_at, far, near, node_at, no_offer, offer_at, way_of, IsOfferOf, AreArcs, stand, IsWhole, Arc}
+use Rattle.std.proofs.lemmas.List.{get_or-take}
 use Rattle.gu_terms.specs.Paths.{path_through}
 use Rattle.gu_terms.specs.declared.account.AccountId.{AccountId}
-use Rattle.gu_terms.specs.declared.agreement.AgreementId.{AgreementId}
 use Rattle.gu_terms.specs.declared.firm.FirmId.{FirmId}
-use Rattle.gu_view.specs.View.{GroupView, IsView, IsNested, place_of}
-use Rattle.gu_view.specs.declared.view.ViewOffer.{ViewOffer}
-use Rattle.gu_flow.specs.Ends.{arc_at, far, near}
-use Rattle.gu_flow.specs.Layouts.{node_at}
-use Rattle.gu_flow.specs.Networks.{no_offer, offer_at, way_of, IsOfferOf, AreArcs}
-use Rattle.gu_flow.specs.Ways.{stand, IsWhole}
-use Rattle.gu_flow.specs.declared.network.Arc.{Arc}
 use Rattle.gu_flow.proofs.Augmenting.{stand-more}
 use Rattle.gu_flow.proofs.OfferWays.{path_at, step_at, way_ends, way_stepped}
 use Rattle.gu_flow.proofs.Sides.{stepped_at}

@@ -1,8 +1,5 @@
 -- The two ends of an arc.
-use Rattle.std.proofs.Common.{◌≡◌, ℕ, ◌+◌, ◌-◌, ◌*◌, ◌/◌, ◌%◌, ◌<◌, Bool, true, false, not, cond, List, length, get_or, refl, arith, inl, inr}
-use Rattle.std.proofs.lemmas.Bool.{cases_Bool, eqb-true, eqb-false, eq-eqb, ne_eqb}
-use Rattle.gu_flow.specs.declared.network.Arc.{Arc}
-use Rattle.gu_flow.specs.Ends.{no_arc, JoinsNodes, arc_at, is_tail, near, far, other_end, residual_in, residual_out}
+use Rattle.gu_flow.proofs.Words.{◌≡◌, ℕ, ◌+◌, ◌-◌, ◌*◌, ◌/◌, ◌%◌, ◌<◌, Bool, true, false, not, cond, List, length, get_or, refl, arith, inl, inr, cases_Bool, eqb-true, eqb-false, eq-eqb, ne_eqb, Arc, no_arc, JoinsNodes, arc_at, is_tail, near, far, other_end, residual_in, residual_out}
 
 -- an end is a tail or a head
 tail_is : (e : ℕ) → is_tail e ≡ true → e % 2 ≡ 0

@@ -1,31 +1,5 @@
 -- The nodes to which offers come past a cut with the least room: no greatest flow can push more out of them.
-use Rattle.std.proofs.Common.{◌≡◌, ◌≢◌, ℕ, zero, suc, ◌+◌, ◌/◌, ◌<◌, ◌≤◌, ◌==◌, ◌||◌, ◌&&◌, not, Bool, true, false, cond, List, Some, length, get_or, slice_get, refl, sym, ◌∙◌, ap, arith, inl, inr}
-use Rattle.std.specs.Prelude.{sum_by}
-use Rattle.std.specs.List.{list_any}
-use Rattle.std.proofs.lemmas.Bool.{and_parts, cases_Bool, cases_eq, eq-eqb, eqb-true, false_from_ne_true, ne_eqb, not-true, or_cases, or_left, or_right}
-use Rattle.std.proofs.lemmas.List.{get_or_default, length-map}
-use Rattle.std.proofs.lemmas.List.Folds.{Any-from_list_any, list_any_at}
-use Rattle.std.proofs.lemmas.Option.{slice_get-get_or, slice_get_within}
-use Rattle.gu_terms.proofs.Lists.{sum_by-add, sum_by-swap}
-use Rattle.gu_terms.specs.Cuts.{CutLists, has_number}
-use Rattle.gu_terms.specs.LimitKeys.{has_key, key_eq}
-use Rattle.gu_terms.specs.declared.limit_key.LimitKey.{LimitKey}
-use Rattle.gu_terms.specs.declared.limit_key.LimitKey.TheVariants.{Agr}
-use Rattle.gu_terms.specs.declared.agreement.AgreementId.{AgreementId}
-use Rattle.gu_view.proofs.HoldLemmas.{held, hits_at, holds_by_key, misses_before}
-use Rattle.gu_view.specs.Cut.{Covers, room_of}
-use Rattle.gu_view.specs.Nearest.{held_at, holds}
-use Rattle.gu_view.specs.Paths.{step_of}
-use Rattle.gu_view.specs.Takes.{lots_with, total}
-use Rattle.gu_view.specs.View.{GroupView, IsView, IsNested, place_of}
-use Rattle.gu_view.specs.declared.view.ViewOffer.{ViewOffer}
-use Rattle.gu_flow.specs.CutArcs.{leads_out}
-use Rattle.gu_flow.specs.Ends.{arc_at, is_tail}
-use Rattle.gu_flow.specs.Flows.{places, sum_over, IsClosed, IsWithin}
-use Rattle.gu_flow.specs.Layouts.{node_of, node_or_sink, node_at}
-use Rattle.gu_flow.specs.Networks.{no_offer, no_room, room_at, way_of, IsArcOf, IsOfferOf, AreArcs}
-use Rattle.gu_flow.specs.Shares.{agreement_place}
-use Rattle.gu_flow.specs.declared.network.Arc.{Arc}
+use Rattle.gu_flow.proofs.Words.{◌≡◌, ◌≢◌, ℕ, zero, suc, ◌+◌, ◌/◌, ◌<◌, ◌≤◌, ◌==◌, ◌||◌, ◌&&◌, not, Bool, true, false, cond, List, Some, length, get_or, slice_get, refl, sym, ◌∙◌, ap, arith, inl, inr, sum_by, list_any, and_parts, cases_Bool, cases_eq, eq-eqb, eqb-true, false_from_ne_true, ne_eqb, not-true, or_cases, or_left, or_right, get_or_default, length-map, Any-from_list_any, list_any_at, slice_get-get_or, slice_get_within, sum_by-add, sum_by-swap, CutLists, has_number, has_key, key_eq, LimitKey, Agr, AgreementId, held, hits_at, holds_by_key, misses_before, Covers, room_of, held_at, holds, step_of, lots_with, total, GroupView, IsView, IsNested, place_of, ViewOffer, leads_out, arc_at, is_tail, places, sum_over, IsClosed, IsWithin, node_of, node_or_sink, node_at, no_offer, no_room, room_at, way_of, IsArcOf, IsOfferOf, AreArcs, agreement_place, Arc}
 use Rattle.gu_flow.proofs.ArcLists.{capacity-le, kind_of}
 use Rattle.gu_flow.proofs.CutTotals.{leads_back, total_leaves}
 use Rattle.gu_flow.proofs.HeldWays.{path_at, room_key, way_at}

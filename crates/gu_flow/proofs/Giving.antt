@@ -1,21 +1,5 @@
 -- Each offer in turn is given as much as possible.
-use Rattle.std.proofs.Common.{◌≡◌, ◌≢◌, ℕ, ◌+◌, ◌<◌, ◌≤◌, ◌==◌, min, cond, List, length, take, set, get_or, refl, sym, ◌∙◌, ap, subst, arith, inl, inr}
-use Rattle.std.proofs.Math.ListN.{length-set}
-use Rattle.std.proofs.lemmas.Bool.{cases_eq, eq-eqb, ne_eqb, cond-true, cond-false}
-use Rattle.std.proofs.lemmas.List.Elements.{All-from_get_or}
-use Rattle.std.proofs.lemmas.List.Sums.{sum_by-take-le, sum_by-le}
-use Rattle.gu_terms.proofs.Lists.{part-le}
-use Rattle.gu_view.specs.View.{GroupView, IsView}
-use Rattle.gu_view.specs.declared.view.ViewOffer.{ViewOffer}
-use Rattle.gu_flow.specs.declared.allotment.Allotment.{Allotment}
-use Rattle.gu_flow.specs.declared.network.Arc.{Arc}
-use Rattle.gu_flow.specs.Ends.{arc_at}
-use Rattle.gu_flow.specs.Floors.{IsAlike}
-use Rattle.gu_flow.specs.Flows.{value_of}
-use Rattle.gu_flow.specs.Networks.{no_offer, offer_at}
-use Rattle.gu_flow.specs.OldestFlows.{got_before, IsOldestBefore}
-use Rattle.gu_flow.specs.Rounds.{IsAllotment}
-use Rattle.gu_flow.specs.Shares.{agreement_place, agreement_lots}
+use Rattle.gu_flow.proofs.Words.{◌≡◌, ◌≢◌, ℕ, ◌+◌, ◌<◌, ◌≤◌, ◌==◌, min, cond, List, length, take, set, get_or, refl, sym, ◌∙◌, ap, subst, arith, inl, inr, length-set, cases_eq, eq-eqb, ne_eqb, cond-true, cond-false, All-from_get_or, sum_by-take-le, sum_by-le, part-le, GroupView, IsView, ViewOffer, Allotment, Arc, arc_at, IsAlike, value_of, no_offer, offer_at, got_before, IsOldestBefore, IsAllotment, agreement_place, agreement_lots}
 use Rattle.gu_flow.proofs.OldestPass.{more, stays, one_more}
 use Rattle.gu_flow.proofs.SumLemmas.{at_set}
 

@@ -1,25 +1,5 @@
 -- The cut between the reached nodes and the others holds each offer back where its way first leads out of the reached ones.
-use Rattle.std.proofs.Common.{◌≡◌, ℕ, zero, suc, ◌+◌, ◌<◌, ◌≤◌, ◌==◌, ◌&&◌, not, Bool, true, false, List, Some, length, get_or, slice_get, refl, sym, ◌∙◌, ap, subst, arith, inl, inr}
-use Rattle.std.specs.Option.{option_map}
-use Rattle.std.proofs.lemmas.Bool.{and_from, and_parts, cases_eq, eq-eqb, eqb-true, ne_eqb, not-true, or_cases, or_left, or_right}
-use Rattle.std.proofs.lemmas.List.Elements.{All-from_recursion}
-use Rattle.std.proofs.lemmas.Option.{slice_get_cases, slice_get-map, slice_get-get_or}
-use Rattle.gu_terms.proofs.KeyLemmas.{key_eq-from, key_eq-same}
-use Rattle.gu_terms.specs.Cuts.{CutLists, has_number}
-use Rattle.gu_terms.specs.LimitKeys.{has_key, key_eq}
-use Rattle.gu_terms.specs.declared.limit_key.LimitKey.{LimitKey}
-use Rattle.gu_terms.specs.declared.limit_key.LimitKey.TheVariants.{Agr}
-use Rattle.gu_view.proofs.HoldLemmas.{hits_at, misses_before, on_path, same_test}
-use Rattle.gu_view.proofs.TakesLemmas.{key_at_place}
-use Rattle.gu_view.specs.Nearest.{held_at, holds}
-use Rattle.gu_view.specs.View.{GroupView, IsView, IsNested, place_of}
-use Rattle.gu_view.specs.declared.view.ViewOffer.{ViewOffer}
-use Rattle.gu_flow.specs.CutArcs.{leads_out, cuts_key, cuts_offers, IsCutBy}
-use Rattle.gu_flow.specs.Ends.{arc_at}
-use Rattle.gu_flow.specs.Layouts.{node_at}
-use Rattle.gu_flow.specs.Networks.{no_room, room_at, way_of, IsOfferOf, AreArcs}
-use Rattle.gu_flow.specs.Shares.{agreement_place}
-use Rattle.gu_flow.specs.declared.network.Arc.{Arc}
+use Rattle.gu_flow.proofs.Words.{◌≡◌, ℕ, zero, suc, ◌+◌, ◌<◌, ◌≤◌, ◌==◌, ◌&&◌, not, Bool, true, false, List, Some, length, get_or, slice_get, refl, sym, ◌∙◌, ap, subst, arith, inl, inr, option_map, and_from, and_parts, cases_eq, eq-eqb, eqb-true, ne_eqb, not-true, or_cases, or_left, or_right, All-from_recursion, slice_get_cases, slice_get-map, slice_get-get_or, key_eq-from, key_eq-same, CutLists, has_number, has_key, key_eq, LimitKey, Agr, hits_at, misses_before, on_path, same_test, key_at_place, held_at, holds, GroupView, IsView, IsNested, place_of, ViewOffer, leads_out, cuts_key, cuts_offers, IsCutBy, arc_at, node_at, no_room, room_at, way_of, IsOfferOf, AreArcs, agreement_place, Arc}
 use Rattle.gu_flow.proofs.ArcLists.{kind_of}
 use Rattle.gu_flow.proofs.CutMembers.{key_told, offer_told}
 use Rattle.gu_flow.proofs.OfferWays.{own_in, under_own}

@@ -1,16 +1,7 @@
 -- A search from the source over a flow without floors: what it has reached lies within each source side from which nothing more can be pushed.
-use Rattle.std.proofs.Common.{◌≡◌, ℕ, zero, suc, ◌-◌, ◌/◌, ◌<◌, ◌≤◌, Bool, true, false, cond, nat_lt, List, get_or, refl, sym, ◌∙◌, ap, subst, arith, inl, inr}
+use Rattle.gu_flow.proofs.Words.{◌≡◌, ℕ, zero, suc, ◌-◌, ◌/◌, ◌<◌, ◌≤◌, Bool, true, false, cond, nat_lt, List, get_or, refl, sym, ◌∙◌, ap, subst, arith, inl, inr, cases_Bool, cases_eq, eq-eqb, ltb-true, Allotment, Arc, Mark, Search, arc_at, is_tail, near, far, residual_out, JoinsNodes, IsClosed, IsFlow, room_inside, IsAllotment, IsFree, mark_at, level_at, is_reached, IsSourceSearch, IsTree}
 use Rattle.std.proofs.Math.Path.{fun_ext}
-use Rattle.std.proofs.lemmas.Bool.{cases_Bool, cases_eq, eq-eqb, ltb-true}
-use Rattle.gu_flow.specs.declared.allotment.Allotment.{Allotment}
-use Rattle.gu_flow.specs.declared.network.Arc.{Arc}
-use Rattle.gu_flow.specs.declared.searching.Mark.{Mark}
-use Rattle.gu_flow.specs.declared.searching.Search.{Search}
-use Rattle.gu_flow.specs.Ends.{arc_at, is_tail, near, far, residual_out, JoinsNodes}
-use Rattle.gu_flow.specs.Flows.{IsClosed, IsFlow}
 use Rattle.gu_flow.specs.LeastCuts.{IsLeastSide}
-use Rattle.gu_flow.specs.Rounds.{room_inside, IsAllotment, IsFree}
-use Rattle.gu_flow.specs.Searches.{mark_at, level_at, is_reached, IsSourceSearch, IsTree}
 use Rattle.gu_flow.proofs.Borders.{all_one, closed_stays}
 use Rattle.gu_flow.proofs.Looking.{search_done}
 

@@ -30,3 +30,4 @@ pub mod Looking
 pub mod RoundPushing
 pub mod Raising
 pub mod Giving
+pub mod Words

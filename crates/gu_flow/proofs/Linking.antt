@@ -1,11 +1,7 @@
 -- The ends at a node, linked from the last to the first.
-use Rattle.std.proofs.Common.{◌≡◌, ◌≢◌, ℕ, zero, suc, ◌+◌, ◌-◌, ◌*◌, ◌<◌, ◌≤◌, ◌==◌, List, length, sym, ◌∙◌, ap, arith, inl, inr, refl, get_or, get_or-set_other, get_or-set_same, add-one}
-use Rattle.std.proofs.Math.ListN.{set, length-set}
-use Rattle.std.proofs.lemmas.Bool.{cases_eq, cases_lt, cond_both, eqb-true, eqb-false, eq-eqb, ne_eqb}
-use Rattle.std.proofs.lemmas.List.{get_or_past}
-use Rattle.gu_flow.specs.declared.network.Arc.{Arc}
+use Rattle.gu_flow.proofs.Words.{◌≡◌, ◌≢◌, ℕ, zero, suc, ◌+◌, ◌-◌, ◌*◌, ◌<◌, ◌≤◌, ◌==◌, List, length, sym, ◌∙◌, ap, arith, inl, inr, refl, get_or, get_or-set_other, get_or-set_same, add-one, length-set, cases_eq, cases_lt, cond_both, eqb-true, eqb-false, eq-eqb, ne_eqb, get_or_past, Arc, near, far, last_before, no_link, link_at, IsCurrent, IsIndex}
+use Rattle.std.proofs.Math.ListN.{set}
 use Rattle.gu_flow.specs.declared.network.EndLink.{EndLink}
-use Rattle.gu_flow.specs.Ends.{near, far, last_before, no_link, link_at, IsCurrent, IsIndex}
 
 module _ (arcs : List Arc) where
   pub last_is_before : (e n : ℕ) → last_before arcs e n ≤ e

@@ -1,11 +1,5 @@
 -- If a flow and the loads of walks agree in the middle of a network, they agree everywhere.
-use Rattle.std.proofs.Common.{◌≡◌, ◌≢◌, ℕ, ◌<◌, ◌==◌, ◌⊎◌, cond, List, zero, suc, length, sym, ◌∙◌, ap, arith, inl, inr}
-use Rattle.std.specs.List.{AllByRecursion}
-use Rattle.std.proofs.lemmas.Bool.{eqb-true, eq-eqb}
-use Rattle.gu_view.proofs.HoldLemmas.{same_test}
-use Rattle.gu_flow.specs.declared.network.Arc.{Arc}
-use Rattle.gu_flow.specs.Ends.{arc_at}
-use Rattle.gu_flow.specs.Flows.{sum_over}
+use Rattle.gu_flow.proofs.Words.{◌≡◌, ◌≢◌, ℕ, ◌<◌, ◌==◌, ◌⊎◌, cond, List, zero, suc, length, sym, ◌∙◌, ap, arith, inl, inr, AllByRecursion, eqb-true, eq-eqb, same_test, Arc, arc_at, sum_over}
 use Rattle.gu_flow.proofs.SumLemmas.{sum_places_by, sum_one_place, at_test}
 use Rattle.gu_flow.proofs.Walks.{Walking, load, loads_kept}
 

@@ -1,14 +1,6 @@
 -- A search looks at a few ends in each turn.
-use Rattle.std.proofs.Common.{◌≡◌, ◌≢◌, ℕ, ◌+◌, ◌-◌, ◌*◌, ◌<◌, ◌≤◌, List, length, sym, ◌∙◌, ap, subst, arith, inl, inr, get_or, nat_lt, suc}
-use Rattle.std.proofs.lemmas.Bool.{cases_eq, cases_lt, ltb-true, ltb-false}
-use Rattle.std.proofs.lemmas.List.Sums.{count_by-le-length}
+use Rattle.gu_flow.proofs.Words.{◌≡◌, ◌≢◌, ℕ, ◌+◌, ◌-◌, ◌*◌, ◌<◌, ◌≤◌, List, length, sym, ◌∙◌, ap, subst, arith, inl, inr, get_or, nat_lt, suc, cases_eq, cases_lt, ltb-true, ltb-false, count_by-le-length, Arc, Mark, Search, near, far, last_before, mark_at, level_at, is_reached, GoesOn, IsQueue, IsTree, IsSearch, KeepsReached, IsShut}
 use native.Mathlib.Nat.{suc-mul}
-use Rattle.gu_flow.specs.declared.network.Arc.{Arc}
-use Rattle.gu_flow.specs.declared.searching.Mark.{Mark}
-use Rattle.gu_flow.specs.declared.searching.Search.{Search}
-use Rattle.gu_flow.specs.Ends.{near, far, last_before}
-use Rattle.gu_flow.specs.Searches.{mark_at, level_at, is_reached, GoesOn, IsQueue, IsTree, IsSearch, KeepsReached}
-use Rattle.gu_flow.specs.Flows.{IsShut}
 use Rattle.gu_flow.proofs.Linking.{last_is_before, last_is_at, none_after}
 use Rattle.gu_flow.proofs.Marks.{count_one}
 

@@ -1,13 +1,6 @@
 -- A search reaches one more node.
-use Rattle.std.proofs.Common.{◌≡◌, ◌≢◌, ℕ, ◌+◌, ◌*◌, ◌<◌, ◌≤◌, Bool, true, false, cond, List, length, refl, ◌∙◌, ap, arith, get_or, get_or-set_other, get_or-set_same, nat_lt}
-use Rattle.std.proofs.Math.ListN.{set, length-set}
-use Rattle.std.proofs.lemmas.List.Sums.{sum_by-le, sum_by-set, count_by-le-length}
-use Rattle.std.proofs.lemmas.List.Elements.{All-from_get_or}
-use Rattle.std.proofs.lemmas.Bool.{lt-ltb}
-use Rattle.gu_flow.specs.declared.network.Arc.{Arc}
-use Rattle.gu_flow.specs.declared.searching.Mark.{Mark}
-use Rattle.gu_flow.specs.Ends.{near, far}
-use Rattle.gu_flow.specs.Searches.{no_mark, mark_at, level_at, IsEntry, IsTree, reached_count, IsQueue}
+use Rattle.gu_flow.proofs.Words.{◌≡◌, ◌≢◌, ℕ, ◌+◌, ◌*◌, ◌<◌, ◌≤◌, Bool, true, false, cond, List, length, refl, ◌∙◌, ap, arith, get_or, get_or-set_other, get_or-set_same, nat_lt, length-set, sum_by-le, sum_by-set, count_by-le-length, All-from_get_or, lt-ltb, Arc, Mark, near, far, no_mark, mark_at, level_at, IsEntry, IsTree, reached_count, IsQueue}
+use Rattle.std.proofs.Math.ListN.{set}
 use Rattle.gu_flow.proofs.SumLemmas.{at_set}
 
 count_step : (b : Bool) (now was level : ℕ) → b ≡ false → 0 < level → now + cond b 1 0 ≡ was + cond (nat_lt 0 level) 1 0 → now ≡ was + 1

@@ -1,36 +1,6 @@
 -- The cut at the least source side is the nearest cut.
-use Rattle.std.proofs.Common.{◌≡◌, ◌≢◌, ℕ, suc, ◌<◌, ◌≤◌, ◌==◌, not, Bool, true, false, List, Some, length, map, get_or, slice_get, refl, sym, ◌∙◌, ap, subst, arith, inl, inr}
-use Rattle.std.specs.Prelude.{All}
-use Rattle.std.specs.List.{Any}
-use Rattle.std.proofs.lemmas.Bool.{and_parts, cases_eq, cases_lt, eq-eqb, eqb-true, ne_eqb, not-true}
-use Rattle.std.proofs.lemmas.List.{get_or_default}
-use Rattle.std.proofs.lemmas.List.Elements.{All-from_get_or}
-use Rattle.std.proofs.lemmas.List.Folds.{Any-from_list_any, list_any_at}
-use Rattle.std.proofs.lemmas.Option.{slice_get-get_or}
-use Rattle.gu_terms.proofs.KeyLemmas.{key_eq-refl}
-use Rattle.gu_terms.proofs.Lists.{position_or_len-within}
-use Rattle.gu_terms.specs.Cuts.{CutLists, has_number}
-use Rattle.gu_terms.specs.LimitKeys.{has_key, key_eq}
-use Rattle.gu_terms.specs.declared.limit_key.LimitKey.{LimitKey}
-use Rattle.gu_terms.specs.declared.limit_key.LimitKey.TheVariants.{Agr}
+use Rattle.gu_flow.proofs.Words.{◌≡◌, ◌≢◌, ℕ, suc, ◌<◌, ◌≤◌, ◌==◌, not, Bool, true, false, List, Some, length, map, get_or, slice_get, refl, sym, ◌∙◌, ap, subst, arith, inl, inr, All, Any, and_parts, cases_eq, cases_lt, eq-eqb, eqb-true, ne_eqb, not-true, get_or_default, All-from_get_or, Any-from_list_any, list_any_at, slice_get-get_or, key_eq-refl, position_or_len-within, CutLists, has_number, has_key, key_eq, LimitKey, Agr, first_hit, hits_at, holds_by_key, key_at_place, has_room, Covers, IsLeastCut, room_of, IsConcise, IsHeldBy, IsNearestCut, IsTight, held_at, holds, step_of, IsAdmissible, lots_under, lots_with, total, GroupView, IsView, IsNested, place_of, ViewOffer, Room, leads_out, cuts_offers, IsCutBy, arc_at, IsClosed, IsFlow, node_of, node_or_sink, node_at, no_offer, no_room, offer_at, room_at, way_of, IsArcOf, IsOfferOf, AreArcs, agreement_place, Arc}
 use Rattle.gu_view.proofs.CutBounds.{cut_bounds_takes}
-use Rattle.gu_view.proofs.HoldLemmas.{first_hit, hits_at, holds_by_key}
-use Rattle.gu_view.proofs.TakesLemmas.{key_at_place}
-use Rattle.gu_view.specs.Check.{has_room}
-use Rattle.gu_view.specs.Cut.{Covers, IsLeastCut, room_of}
-use Rattle.gu_view.specs.Nearest.{IsConcise, IsHeldBy, IsNearestCut, IsTight, held_at, holds}
-use Rattle.gu_view.specs.Paths.{step_of}
-use Rattle.gu_view.specs.Takes.{IsAdmissible, lots_under, lots_with, total}
-use Rattle.gu_view.specs.View.{GroupView, IsView, IsNested, place_of}
-use Rattle.gu_view.specs.declared.view.ViewOffer.{ViewOffer}
-use Rattle.gu_view.specs.declared.view.Room.{Room}
-use Rattle.gu_flow.specs.CutArcs.{leads_out, cuts_offers, IsCutBy}
-use Rattle.gu_flow.specs.Ends.{arc_at}
-use Rattle.gu_flow.specs.Flows.{IsClosed, IsFlow}
-use Rattle.gu_flow.specs.Layouts.{node_of, node_or_sink, node_at}
-use Rattle.gu_flow.specs.Networks.{no_offer, no_room, offer_at, room_at, way_of, IsArcOf, IsOfferOf, AreArcs}
-use Rattle.gu_flow.specs.Shares.{agreement_place}
-use Rattle.gu_flow.specs.declared.network.Arc.{Arc}
 use Rattle.gu_flow.proofs.ArcLists.{kind_of}
 use Rattle.gu_flow.proofs.CutMembers.{key_told, offer_told}
 use Rattle.gu_flow.proofs.CutTotals.{full}

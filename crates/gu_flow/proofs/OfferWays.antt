@@ -1,26 +1,8 @@
 -- The ways of a nested view's offers: executing firm, agreement, account, carrying firm, and its guarantor if it has one.
-use Rattle.std.proofs.Common.{◌≡◌, ℕ, ◌+◌, ◌<◌, ◌==◌, true, List, [], ◌∷◌, Option, Some, None, suc, length, map, get_or, slice_get, refl, sym, ◌∙◌, ap, subst, arith, inl, inr, one-add}
-use Rattle.std.specs.List.{AllByRecursion, position_or_len}
-use Rattle.std.specs.Option.{option_map}
-use Rattle.std.proofs.Math.Bool.{or-false}
-use Rattle.std.proofs.lemmas.Bool.{cases_Bool, cases_order}
-use Rattle.std.proofs.lemmas.Option.{slice_get-map}
-use Rattle.gu_terms.proofs.KeyLemmas.{key_eq-same}
-use Rattle.gu_terms.specs.LimitKeys.{key_eq, has_key}
+use Rattle.gu_flow.proofs.Words.{◌≡◌, ℕ, ◌+◌, ◌<◌, ◌==◌, true, List, [], ◌∷◌, Option, Some, None, suc, length, map, get_or, slice_get, refl, sym, ◌∙◌, ap, subst, arith, inl, inr, one-add, AllByRecursion, position_or_len, option_map, or-false, cases_Bool, cases_order, slice_get-map, key_eq-same, key_eq, has_key, AgreementId, LimitKey, Exec, Agr, Acct, Carry, Guar, key_at_place, step_of, GroupView, IsView, IsNested, IsPath, next_key, place_of, ViewOffer, Room, node_or_sink, node_at, no_room, room_at, no_offer, way_of, IsOfferOf, agreement_place}
 use Rattle.gu_terms.specs.Paths.{path_through}
 use Rattle.gu_terms.specs.declared.account.AccountId.{AccountId}
-use Rattle.gu_terms.specs.declared.agreement.AgreementId.{AgreementId}
 use Rattle.gu_terms.specs.declared.firm.FirmId.{FirmId}
-use Rattle.gu_terms.specs.declared.limit_key.LimitKey.{LimitKey}
-use Rattle.gu_terms.specs.declared.limit_key.LimitKey.TheVariants.{Exec, Agr, Acct, Carry, Guar}
-use Rattle.gu_view.proofs.TakesLemmas.{key_at_place}
-use Rattle.gu_view.specs.Paths.{step_of}
-use Rattle.gu_view.specs.View.{GroupView, IsView, IsNested, IsPath, next_key, place_of}
-use Rattle.gu_view.specs.declared.view.ViewOffer.{ViewOffer}
-use Rattle.gu_view.specs.declared.view.Room.{Room}
-use Rattle.gu_flow.specs.Layouts.{node_or_sink, node_at}
-use Rattle.gu_flow.specs.Networks.{no_room, room_at, no_offer, way_of, IsOfferOf}
-use Rattle.gu_flow.specs.Shares.{agreement_place}
 use Rattle.gu_flow.proofs.RoomPlaces.{place_of_room, at_place, roomed}
 use Rattle.gu_flow.proofs.Sides.{AreStepped}
 

@@ -1,14 +1,5 @@
 -- Each offer in turn: older offers keep what they got, and the next one gets as much as possible.
-use Rattle.std.proofs.Common.{◌≡◌, ℕ, ◌+◌, ◌-◌, ◌<◌, ◌≤◌, ◌==◌, cond, List, zero, suc, length, take, get_or, sym, ◌∙◌, ap, arith, inl, inr, add-one, subst}
-use Rattle.std.proofs.lemmas.Bool.{cases_eq, ne_eqb, cond-false}
-use Rattle.std.proofs.lemmas.List.Sums.{sum_by_more}
-use Rattle.gu_view.specs.View.{GroupView}
-use Rattle.gu_view.specs.declared.view.ViewOffer.{ViewOffer}
-use Rattle.gu_flow.specs.Flows.{IsFlow, value_of}
-use Rattle.gu_flow.specs.Networks.{no_offer, offer_at}
-use Rattle.gu_flow.specs.OldestFlows.{got_before, IsOldestBefore}
-use Rattle.gu_flow.specs.Shares.{agreement_place, agreement_lots}
-use Rattle.gu_flow.specs.declared.network.Arc.{Arc}
+use Rattle.gu_flow.proofs.Words.{◌≡◌, ℕ, ◌+◌, ◌-◌, ◌<◌, ◌≤◌, ◌==◌, cond, List, zero, suc, length, take, get_or, sym, ◌∙◌, ap, arith, inl, inr, add-one, subst, cases_eq, ne_eqb, cond-false, sum_by_more, GroupView, ViewOffer, IsFlow, value_of, no_offer, offer_at, got_before, IsOldestBefore, agreement_place, agreement_lots, Arc}
 
 module _ (view : GroupView) (arcs : List Arc) (flow after : List ℕ) (i : ℕ) (i_in : i < length view.offers) (oldest : IsOldestBefore view arcs flow i) (is_flow : IsFlow arcs after) (value : value_of arcs after ≡ value_of arcs flow)
     (keeps : (p : ℕ) → got_before view flow i p ≤ get_or after p 0) where

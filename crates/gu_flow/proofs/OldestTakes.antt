@@ -1,23 +1,5 @@
 -- The oldest flow gives the unique choice: greatest, and oldest first over the group.
-use Rattle.std.proofs.Common.{◌≡◌, ℕ, ◌+◌, ◌<◌, ◌≤◌, ◌==◌, Bool, true, false, cond, List, zero, suc, length, take, get_or, refl, sym, ◌∙◌, ap, subst, arith, inl, inr, add-one}
-use Rattle.std.specs.Prelude.{sum_by}
-use Rattle.std.proofs.lemmas.Bool.{cases_Bool, cases_lt, eq-eqb, eqb-true, cond-true}
-use Rattle.std.proofs.lemmas.List.{get_or_default}
-use Rattle.std.proofs.lemmas.List.Sums.{sum_by_more, sum_by-take-le}
-use Rattle.gu_terms.proofs.Lists.{along, sum_by-mono, sum_by-zeros}
-use Rattle.gu_terms.specs.LimitKeys.{has_key}
-use Rattle.gu_terms.specs.Takes.{lots_of}
-use Rattle.gu_terms.specs.declared.limit_key.LimitKey.TheVariants.{Agr}
-use Rattle.gu_terms.specs.declared.takes.Take.{Take}
-use Rattle.gu_view.proofs.TakesLemmas.{key_at_place}
-use Rattle.gu_view.specs.Takes.{AgreeOnOlder, IsGreatest, IsOldestGreatest, lots_under}
-use Rattle.gu_view.specs.View.{GroupView, IsView, IsNested}
-use Rattle.gu_view.specs.declared.view.ViewOffer.{ViewOffer}
-use Rattle.gu_flow.specs.Flows.{IsFlow, value_of}
-use Rattle.gu_flow.specs.Networks.{no_room, room_at, no_offer, offer_at, IsOfferOf, AreArcs}
-use Rattle.gu_flow.specs.OldestFlows.{got_before, IsOldestFlow}
-use Rattle.gu_flow.specs.Shares.{agreement_place, agreement_lots, AreAllShares}
-use Rattle.gu_flow.specs.declared.network.Arc.{Arc}
+use Rattle.gu_flow.proofs.Words.{◌≡◌, ℕ, ◌+◌, ◌<◌, ◌≤◌, ◌==◌, Bool, true, false, cond, List, zero, suc, length, take, get_or, refl, sym, ◌∙◌, ap, subst, arith, inl, inr, add-one, sum_by, cases_Bool, cases_lt, eq-eqb, eqb-true, cond-true, get_or_default, sum_by_more, sum_by-take-le, along, sum_by-mono, sum_by-zeros, has_key, lots_of, Agr, Take, key_at_place, AgreeOnOlder, IsGreatest, IsOldestGreatest, lots_under, GroupView, IsView, IsNested, ViewOffer, IsFlow, value_of, no_room, room_at, no_offer, offer_at, IsOfferOf, AreArcs, got_before, IsOldestFlow, agreement_place, agreement_lots, AreAllShares, Arc}
 use Rattle.gu_flow.proofs.OfferWays.{own_in, under_own}
 use Rattle.gu_flow.proofs.ShareLemmas.{shares_so_far}
 use Rattle.gu_flow.proofs.ViewLoads.{offer_here, each_offer, brought_is, value_is_total, is_flow_of, flow_of, flow_of-long, flow_of-at}

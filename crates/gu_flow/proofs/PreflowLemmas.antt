@@ -1,11 +1,5 @@
 -- Lots are pushed over an end of an arc, and given back.
-use Rattle.std.proofs.Common.{◌≡◌, ◌≢◌, ℕ, ◌+◌, ◌-◌, ◌^◌, ◌<◌, ◌≤◌, ◌==◌, cond, List, length, refl, arith, ◌∙◌, subst, inl, inr, get_or}
-use Rattle.std.proofs.lemmas.Bool.{cases_eq, eqb-true, eq-eqb, ne_eqb, cond-true}
-use Rattle.gu_terms.proofs.Lists.{sum_by-zeros}
-use Rattle.gu_flow.specs.declared.network.Arc.{Arc}
-use Rattle.gu_flow.specs.Ends.{arc_at, near, far, capacities}
-use Rattle.gu_flow.specs.Flows.{places, sum_over, inflow, IsFlow, Pushes}
-use Rattle.gu_flow.specs.Preflows.{IsPreflow, AreSettled}
+use Rattle.gu_flow.proofs.Words.{◌≡◌, ◌≢◌, ℕ, ◌+◌, ◌-◌, ◌^◌, ◌<◌, ◌≤◌, ◌==◌, cond, List, length, refl, arith, ◌∙◌, subst, inl, inr, get_or, cases_eq, eqb-true, eq-eqb, ne_eqb, cond-true, sum_by-zeros, Arc, arc_at, near, far, capacities, places, sum_over, inflow, IsFlow, Pushes, IsPreflow, AreSettled}
 use Rattle.gu_flow.proofs.PushLemmas.{inflow-le}
 use Rattle.gu_flow.proofs.SumLemmas.{sum_places_by, at_test, cond_same}
 

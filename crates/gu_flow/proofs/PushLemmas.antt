@@ -1,14 +1,6 @@
 -- The zero flow is a flow, and pushing lots over an end of an arc.
-use Rattle.std.proofs.Common.{◌≡◌, ◌≢◌, ℕ, ◌+◌, ◌-◌, ◌*◌, ◌/◌, ◌<◌, ◌≤◌, ◌==◌, Bool, true, false, cond, List, length, sym, ap, arith, inl, inr, get_or, get_or-set_other, get_or-set_same, ◌∙◌}
-use Rattle.std.proofs.Math.ListN.{set, length-set}
-use Rattle.std.proofs.lemmas.Bool.{both_ways, cases_lt}
-use Rattle.std.proofs.lemmas.List.Sums.{sum_by-set}
-use Rattle.std.proofs.lemmas.List.{get_or_past}
-use Rattle.std.specs.Prelude.{All}
-use Rattle.gu_terms.proofs.Lists.{part-le, sum_by-zeros}
-use Rattle.gu_flow.specs.declared.network.Arc.{Arc}
-use Rattle.gu_flow.specs.Ends.{no_arc, arc_at, is_tail, capacities, residual_in, residual_out}
-use Rattle.gu_flow.specs.Flows.{places, sum_over, inflow, outflow, value_of, IsWithin, IsFlow, Pushes}
+use Rattle.gu_flow.proofs.Words.{◌≡◌, ◌≢◌, ℕ, ◌+◌, ◌-◌, ◌*◌, ◌/◌, ◌<◌, ◌≤◌, ◌==◌, Bool, true, false, cond, List, length, sym, ap, arith, inl, inr, get_or, get_or-set_other, get_or-set_same, ◌∙◌, length-set, both_ways, cases_lt, sum_by-set, get_or_past, All, part-le, sum_by-zeros, Arc, no_arc, arc_at, is_tail, capacities, residual_in, residual_out, places, sum_over, inflow, outflow, value_of, IsWithin, IsFlow, Pushes}
+use Rattle.std.proofs.Math.ListN.{set}
 use Rattle.gu_flow.proofs.SumLemmas.{sum_by_place, sum_places_by, cond_same, sum_places_set, sum_places_le, at_set}
 
 -- the zero flow is a flow

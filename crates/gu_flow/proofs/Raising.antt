@@ -1,14 +1,5 @@
 -- The flow of an agreement's arc is raised, round by round.
-use Rattle.std.proofs.Common.{◌≡◌, ◌≢◌, ℕ, ◌+◌, ◌*◌, ◌/◌, ◌%◌, ◌<◌, ◌≤◌, ◌==◌, min, Bool, true, false, not, cond, List, length, get_or, refl, sym, ◌∙◌, ap, subst, arith, inl, inr}
-use Rattle.std.proofs.lemmas.Bool.{cases_Bool, cases_eq, eq-eqb, ltb-true, ltb-false}
-use Rattle.gu_flow.specs.declared.allotment.Allotment.{Allotment}
-use Rattle.gu_flow.specs.declared.network.Arc.{Arc}
-use Rattle.gu_flow.specs.declared.searching.Mark.{Mark}
-use Rattle.gu_flow.specs.Ends.{arc_at, is_tail, near, far, other_end, JoinsNodes}
-use Rattle.gu_flow.specs.Floors.{KeepsFloors, IsAlike, room_out}
-use Rattle.gu_flow.specs.Flows.{inflow, outflow, value_of, IsFlow, IsShut, Pushes}
-use Rattle.gu_flow.specs.Rounds.{room_inside, AreFixed, CarriesMost, IsAllotment, IsBrought, IsClosedInside}
-use Rattle.gu_flow.specs.Searches.{level_at, is_reached}
+use Rattle.gu_flow.proofs.Words.{◌≡◌, ◌≢◌, ℕ, ◌+◌, ◌*◌, ◌/◌, ◌%◌, ◌<◌, ◌≤◌, ◌==◌, min, Bool, true, false, not, cond, List, length, get_or, refl, sym, ◌∙◌, ap, subst, arith, inl, inr, cases_Bool, cases_eq, eq-eqb, ltb-true, ltb-false, Allotment, Arc, Mark, arc_at, is_tail, near, far, other_end, JoinsNodes, KeepsFloors, IsAlike, room_out, inflow, outflow, value_of, IsFlow, IsShut, Pushes, room_inside, AreFixed, CarriesMost, IsAllotment, IsBrought, IsClosedInside, level_at, is_reached}
 use Rattle.gu_flow.proofs.Borders.{fixed_more, fixed_stays, most_reached}
 use Rattle.gu_flow.proofs.EndLemmas.{near-other_end, far-other_end, other_end-in, other_end-twice}
 

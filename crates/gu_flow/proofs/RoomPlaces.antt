@@ -1,31 +1,9 @@
 -- The indexes of keys among the rooms of a view, and the ways that pass them.
-use Rattle.std.proofs.Common.{◌≡◌, ℕ, ◌+◌, min, ◌<◌, ◌≤◌, ◌==◌, Bool, true, cond, List, [], ◌∷◌, suc, length, map, get_or, refl, sym, ◌∙◌, ap, subst, arith, inl, inr, add-zero, zero-add}
-use Rattle.std.specs.Prelude.{slice_get, sum_by, IfSome}
-use Rattle.std.specs.List.{AllByRecursion, list_any}
-use Rattle.std.proofs.lemmas.Bool.{cases_Bool, cases_eq, eqb-true, eq-eqb}
-use Rattle.std.proofs.lemmas.List.{get_or_default}
-use Rattle.std.proofs.lemmas.List.Folds.{list_any_at}
-use Rattle.std.proofs.lemmas.List.Sums.{sum_by-le}
-use Rattle.std.proofs.lemmas.Option.{slice_get_cases, slice_get-get_or}
-use Rattle.gu_terms.proofs.KeyLemmas.{key_eq-same, key_eq-refl, key_eq-from}
-use Rattle.gu_terms.proofs.Lists.{part-le, position_or_len-within}
-use Rattle.gu_terms.specs.LimitKeys.{key_eq, has_key}
-use Rattle.gu_terms.specs.declared.agreement.AgreementId.{AgreementId}
-use Rattle.gu_terms.specs.declared.limit_key.LimitKey.{LimitKey}
-use Rattle.gu_terms.specs.declared.limit_key.LimitKey.TheVariants.{Agr}
-use Rattle.gu_view.proofs.HoldLemmas.{same_test}
+use Rattle.gu_flow.proofs.Words.{◌≡◌, ℕ, ◌+◌, min, ◌<◌, ◌≤◌, ◌==◌, Bool, true, cond, List, [], ◌∷◌, suc, length, map, get_or, refl, sym, ◌∙◌, ap, subst, arith, inl, inr, add-zero, zero-add, slice_get, sum_by, IfSome, AllByRecursion, list_any, cases_Bool, cases_eq, eqb-true, eq-eqb, get_or_default, list_any_at, sum_by-le, slice_get_cases, slice_get-get_or, key_eq-same, key_eq-refl, key_eq-from, part-le, position_or_len-within, key_eq, has_key, AgreementId, LimitKey, Agr, same_test, key_at_place, has_room, lots_with, GroupView, IsView, place_of, places_under, ViewOffer, Room, agreement_place, no_room, room_at, no_offer, offer_at, way_of, GoesBy, IsOfferOf, capacity_of}
 use Rattle.gu_view.proofs.PassingPlaces.{sum_by-places}
 use Rattle.gu_view.proofs.MarkLemmas.{path_inside}
 use Rattle.gu_view.proofs.RoomLemmas.{apart, has_key-keys_of, has_room-keys}
-use Rattle.gu_view.proofs.TakesLemmas.{key_at_place}
-use Rattle.gu_view.specs.Check.{has_room}
 use Rattle.gu_view.specs.Places.{places_from}
-use Rattle.gu_view.specs.Takes.{lots_with}
-use Rattle.gu_view.specs.View.{GroupView, IsView, place_of, places_under}
-use Rattle.gu_view.specs.declared.view.ViewOffer.{ViewOffer}
-use Rattle.gu_view.specs.declared.view.Room.{Room}
-use Rattle.gu_flow.specs.Shares.{agreement_place}
-use Rattle.gu_flow.specs.Networks.{no_room, room_at, no_offer, offer_at, way_of, GoesBy, IsOfferOf, capacity_of}
 
 -- the lots at the indexes under a key are those of the offers with it
 pub lots_under_places : (offers : List ViewOffer) (k : LimitKey) (places : List ℕ) → places ≡ places_under offers k → sum_by (λ p. (offer_at offers p).lots) places ≡ lots_with offers k

@@ -1,15 +1,5 @@
 -- A search is extended along the path of another, and lots are pushed along its own.
-use Rattle.std.proofs.Common.{◌≡◌, ◌≢◌, ℕ, ◌+◌, ◌-◌, ◌*◌, ◌/◌, ◌%◌, ◌<◌, ◌≤◌, ◌==◌, Bool, true, false, cond, List, length, refl, sym, ◌∙◌, ap, subst, arith, inl, inr, get_or}
-use Rattle.std.proofs.lemmas.Bool.{cases_Bool, eq-eqb, eqb-true}
-use Rattle.gu_flow.specs.declared.allotment.Allotment.{Allotment}
-use Rattle.gu_flow.specs.declared.network.Arc.{Arc}
-use Rattle.gu_flow.specs.declared.searching.Mark.{Mark}
-use Rattle.gu_flow.specs.declared.searching.Search.{Search}
-use Rattle.gu_flow.specs.Ends.{arc_at, is_tail, near, far, other_end, residual_in}
-use Rattle.gu_flow.specs.Floors.{KeepsFloors, room_out}
-use Rattle.gu_flow.specs.Flows.{inflow, outflow, IsWithin, Pushes}
-use Rattle.gu_flow.specs.Rounds.{room_inside, IsBrought}
-use Rattle.gu_flow.specs.Searches.{mark_at, level_at, IsEntry, IsTree, KeepsReached}
+use Rattle.gu_flow.proofs.Words.{◌≡◌, ◌≢◌, ℕ, ◌+◌, ◌-◌, ◌*◌, ◌/◌, ◌%◌, ◌<◌, ◌≤◌, ◌==◌, Bool, true, false, cond, List, length, refl, sym, ◌∙◌, ap, subst, arith, inl, inr, get_or, cases_Bool, eq-eqb, eqb-true, Allotment, Arc, Mark, Search, arc_at, is_tail, near, far, other_end, residual_in, KeepsFloors, room_out, inflow, outflow, IsWithin, Pushes, room_inside, IsBrought, mark_at, level_at, IsEntry, IsTree, KeepsReached}
 use Rattle.gu_flow.proofs.EndLemmas.{near-other_end, far-other_end, other_end-in}
 
 -- a search that goes on and on keeps what it reached

@@ -1,25 +1,7 @@
 -- Shares of the offers under an agreement: oldest first, and equal to the flow in total.
-use Rattle.std.proofs.Common.{◌≡◌, ℕ, ◌+◌, ◌-◌, ◌<◌, ◌≤◌, ◌==◌, min, true, cond, List, [], ◌∷◌, ◌++◌, zero, suc, length, take, set, get_or, refl, sym, ◌∙◌, ap, subst, arith, inl, inr, length-append, length-set, add-one, Some}
-use Rattle.std.specs.Prelude.{All, unwrap_or, sum_by, IsTrue}
-use Rattle.std.specs.List.{find}
-use Rattle.std.specs.Option.{option_map}
+use Rattle.gu_flow.proofs.Words.{◌≡◌, ℕ, ◌+◌, ◌-◌, ◌<◌, ◌≤◌, ◌==◌, min, true, cond, List, [], ◌∷◌, ◌++◌, zero, suc, length, take, set, get_or, refl, sym, ◌∙◌, ap, subst, arith, inl, inr, length-append, add-one, Some, All, unwrap_or, sum_by, IsTrue, find, option_map, get_or-append, cases_eq, cases_lt, eq-eqb, ne_eqb, cond-true, cond-false, get_or_default, take_all, All-from_get_or, list_any_at, sum_by_more, sum_by-take-le, sum_by-le, IsAscending, lots_of, Agr, Take, has_offer, total, GroupView, IsView, place_of, ViewOffer, places, no_offer, offer_at, agreement_place, agreement_lots, share_of, no_take, take_at, above_zero, AreSharesBefore, AreAllShares}
+use Rattle.std.proofs.Common.{length-set}
 use Rattle.std.proofs.Math.Seq.{get_or-append_seam}
-use Rattle.std.proofs.Math.ListN.{get_or-append}
-use Rattle.std.proofs.lemmas.Bool.{cases_eq, cases_lt, eq-eqb, ne_eqb, cond-true, cond-false}
-use Rattle.std.proofs.lemmas.List.{get_or_default, take_all}
-use Rattle.std.proofs.lemmas.List.Elements.{All-from_get_or}
-use Rattle.std.proofs.lemmas.List.Folds.{list_any_at}
-use Rattle.std.proofs.lemmas.List.Sums.{sum_by_more, sum_by-take-le, sum_by-le}
-use Rattle.gu_terms.specs.Takes.{IsAscending, lots_of}
-use Rattle.gu_terms.specs.declared.limit_key.LimitKey.TheVariants.{Agr}
-use Rattle.gu_terms.specs.declared.takes.Take.{Take}
-use Rattle.gu_view.specs.Check.{has_offer}
-use Rattle.gu_view.specs.Takes.{total}
-use Rattle.gu_view.specs.View.{GroupView, IsView, place_of}
-use Rattle.gu_view.specs.declared.view.ViewOffer.{ViewOffer}
-use Rattle.gu_flow.specs.Flows.{places}
-use Rattle.gu_flow.specs.Networks.{no_offer, offer_at}
-use Rattle.gu_flow.specs.Shares.{agreement_place, agreement_lots, share_of, no_take, take_at, above_zero, AreSharesBefore, AreAllShares}
 use Rattle.gu_flow.proofs.SumLemmas.{sum_by_place, sum_places_by, at_set}
 
 module _ (view : GroupView) (flow : List ℕ) where

@@ -1,10 +1,5 @@
 -- A network laid out by ways: the arcs into its middle, and the arcs out of it.
-use Rattle.std.proofs.Common.{◌≡◌, ℕ, ◌+◌, ◌-◌, ◌<◌, ◌≤◌, ◌==◌, ◌⊎◌, true, cond, List, [], ◌∷◌, Some, None, slice_get, zero, suc, length, refl, sym, ◌∙◌, ap, subst, arith, inl, inr}
-use Rattle.std.proofs.lemmas.List.Sums.{sum_by-cons}
-use Rattle.std.proofs.lemmas.Bool.{eqb-true, eq-eqb, ne_eqb, cases_eq, or_cases, cond-false, false_from_ne_true}
-use Rattle.gu_flow.specs.declared.network.Arc.{Arc}
-use Rattle.gu_flow.specs.Ends.{arc_at}
-use Rattle.gu_flow.specs.Layouts.{node_of, node_or_sink, node_at}
+use Rattle.gu_flow.proofs.Words.{◌≡◌, ℕ, ◌+◌, ◌-◌, ◌<◌, ◌≤◌, ◌==◌, ◌⊎◌, true, cond, List, [], ◌∷◌, Some, None, slice_get, zero, suc, length, refl, sym, ◌∙◌, ap, subst, arith, inl, inr, sum_by-cons, eqb-true, eq-eqb, ne_eqb, cases_eq, or_cases, cond-false, false_from_ne_true, Arc, arc_at, node_of, node_or_sink, node_at}
 use Rattle.gu_flow.proofs.Walks.{Walks, has_place, CountsOnce}
 use Rattle.gu_flow.proofs.Loads.{IsAlone}
 

@@ -1,16 +1,6 @@
 -- The takes with more than 0 lots take the same as all takes, in total and from each offer.
-use Rattle.std.proofs.Common.{◌≡◌, ℕ, ◌<◌, ◌==◌, false, true, List, [], ◌∷◌, refl, ◌∙◌, ap, sym, arith, inl, inr, None}
-use Rattle.std.specs.Prelude.{All, nat_lt, sum_by, unwrap_or}
-use Rattle.std.specs.List.{find}
-use Rattle.std.specs.Option.{option_map}
-use Rattle.std.proofs.lemmas.Bool.{cases_eq, eq-eqb, ne_eqb, lt-ltb, ltb-true}
-use Rattle.std.proofs.lemmas.List.Elements.{filter_passes}
+use Rattle.gu_flow.proofs.Words.{◌≡◌, ℕ, ◌<◌, ◌==◌, false, true, List, [], ◌∷◌, refl, ◌∙◌, ap, sym, arith, inl, inr, None, All, nat_lt, sum_by, unwrap_or, find, option_map, cases_eq, eq-eqb, ne_eqb, lt-ltb, ltb-true, filter_passes, sum_by-cons, Later, Later-from_AllPairs, along, none_found, IsAscending, lots_of, Take, above_zero}
 use Rattle.std.proofs.lemmas.List.Kept.{AllPairs-filter}
-use Rattle.std.proofs.lemmas.List.Sums.{sum_by-cons}
-use Rattle.gu_terms.proofs.Lists.{Later, Later-from_AllPairs, along, none_found}
-use Rattle.gu_terms.specs.Takes.{IsAscending, lots_of}
-use Rattle.gu_terms.specs.declared.takes.Take.{Take}
-use Rattle.gu_flow.specs.Shares.{above_zero}
 
 -- each takes lots
 pub above_zero-all : (takes : List Take) → All (λ t. 0 < t.lots) (above_zero takes)

@@ -1,11 +1,6 @@
 -- Sums over lists, and over the indexes of a list.
-use Rattle.std.proofs.Common.{◌≡◌, ◌≢◌, ℕ, ◌+◌, ◌<◌, ◌≤◌, ◌==◌, Bool, true, false, cond, List, [], ◌∷◌, zero, suc, length, map, refl, sym, ◌∙◌, ap, arith, subst, inl, inr, set, get_or, get_or-set_same, get_or-set_other}
-use Rattle.std.specs.List.{sum_by, AllByRecursion}
-use Rattle.std.proofs.lemmas.List.Sums.{sum_by-cons}
-use Rattle.gu_terms.proofs.Lists.{sum_by-agree, sum_by-zeros}
-use Rattle.gu_view.proofs.HoldLemmas.{same_test}
-use Rattle.gu_flow.specs.Flows.{places}
-use Rattle.std.proofs.lemmas.Bool.{cases_eq, ne_eqb, eq-eqb, eqb-true, cond-false, cond-true}
+use Rattle.gu_flow.proofs.Words.{◌≡◌, ◌≢◌, ℕ, ◌+◌, ◌<◌, ◌≤◌, ◌==◌, Bool, true, false, cond, List, [], ◌∷◌, zero, suc, length, map, refl, sym, ◌∙◌, ap, arith, subst, inl, inr, set, get_or, get_or-set_same, get_or-set_other, AllByRecursion, sum_by-cons, sum_by-agree, sum_by-zeros, same_test, places, cases_eq, ne_eqb, eq-eqb, eqb-true, cond-false, cond-true}
+use Rattle.std.specs.List.{sum_by}
 
 module _ {X : Type 0} where
   -- equal terms, given a property of each element

@@ -1,26 +1,5 @@
 -- Admissible lots give a flow through the network of a view, whose value is their total.
-use Rattle.std.proofs.Common.{◌≡◌, ℕ, ◌+◌, ◌<◌, ◌≤◌, ◌==◌, Bool, true, false, cond, List, [], ◌∷◌, zero, suc, length, map, get_or, slice_get, Some, refl, sym, ◌∙◌, ap, arith, inl, inr}
-use Rattle.std.specs.Prelude.{All, sum_by}
-use Rattle.std.specs.List.{AllByRecursion, list_any}
-use Rattle.std.proofs.lemmas.Bool.{cases_lt, or_cases, eq-eqb, eqb-true}
-use Rattle.std.proofs.lemmas.List.{get_or_default, get_or_past, get_or-map, length-map}
-use Rattle.std.proofs.lemmas.List.Elements.{recursion_from_All}
-use Rattle.std.proofs.lemmas.List.Folds.{list_any_at}
-use Rattle.std.proofs.lemmas.Option.{slice_get_within, get_or_from_slice_get}
-use Rattle.gu_terms.proofs.Lists.{along, sum_by-add, sum_by-mono}
-use Rattle.gu_terms.specs.LimitKeys.{has_key}
-use Rattle.gu_terms.specs.declared.limit_key.LimitKey.{LimitKey}
-use Rattle.gu_terms.specs.declared.limit_key.LimitKey.TheVariants.{Agr}
-use Rattle.gu_terms.specs.declared.agreement.AgreementId.{AgreementId}
-use Rattle.gu_view.specs.Takes.{IsAdmissible, lots_under, lots_with, total}
-use Rattle.gu_view.specs.View.{GroupView, IsView, IsNested, place_of}
-use Rattle.gu_view.specs.declared.view.ViewOffer.{ViewOffer}
-use Rattle.gu_flow.specs.Ends.{arc_at}
-use Rattle.gu_flow.specs.Flows.{places, sum_over, value_of, IsFlow}
-use Rattle.gu_flow.specs.Layouts.{node_at}
-use Rattle.gu_flow.specs.Networks.{no_room, room_at, no_offer, way_of, IsOfferOf, AreArcs}
-use Rattle.gu_flow.specs.Shares.{agreement_place}
-use Rattle.gu_flow.specs.declared.network.Arc.{Arc}
+use Rattle.gu_flow.proofs.Words.{◌≡◌, ℕ, ◌+◌, ◌<◌, ◌≤◌, ◌==◌, Bool, true, false, cond, List, [], ◌∷◌, zero, suc, length, map, get_or, slice_get, Some, refl, sym, ◌∙◌, ap, arith, inl, inr, All, sum_by, AllByRecursion, list_any, cases_lt, or_cases, eq-eqb, eqb-true, get_or_default, get_or_past, get_or-map, length-map, recursion_from_All, list_any_at, slice_get_within, get_or_from_slice_get, along, sum_by-add, sum_by-mono, has_key, LimitKey, Agr, AgreementId, IsAdmissible, lots_under, lots_with, total, GroupView, IsView, IsNested, place_of, ViewOffer, arc_at, places, sum_over, value_of, IsFlow, node_at, no_room, room_at, no_offer, way_of, IsOfferOf, AreArcs, agreement_place, Arc}
 use Rattle.gu_flow.proofs.ArcLists.{places_within, kind_of}
 use Rattle.gu_flow.proofs.OfferWays.{step_at, under_own, way_stepped, way_ends, alike}
 use Rattle.gu_flow.proofs.RoomPlaces.{goes_by_key, roomed}

@@ -1,12 +1,6 @@
 -- Ways through a network, and the total load of many of them.
-use Rattle.std.proofs.Common.{◌≡◌, ◌≢◌, ℕ, ◌+◌, ◌<◌, ◌==◌, Bool, cond, List, [], ◌∷◌, length, refl, sym, ◌∙◌, ap, subst, arith}
-use Rattle.std.specs.List.{sum_by, AllByRecursion, list_any}
-use Rattle.std.proofs.lemmas.List.Sums.{sum_by-cons}
-use Rattle.std.proofs.lemmas.Bool.{ne_eqb, cond-false}
-use Rattle.gu_flow.specs.declared.network.Arc.{Arc}
-use Rattle.gu_flow.specs.Ends.{arc_at}
-use Rattle.gu_flow.specs.Flows.{places, sum_over}
-use Rattle.gu_terms.proofs.Lists.{sum_by-agree, sum_by-swap}
+use Rattle.gu_flow.proofs.Words.{◌≡◌, ◌≢◌, ℕ, ◌+◌, ◌<◌, ◌==◌, Bool, cond, List, [], ◌∷◌, length, refl, sym, ◌∙◌, ap, subst, arith, AllByRecursion, list_any, sum_by-cons, ne_eqb, cond-false, Arc, arc_at, places, sum_over, sum_by-agree, sum_by-swap}
+use Rattle.std.specs.List.{sum_by}
 use Rattle.gu_flow.proofs.SumLemmas.{sum_by-by, cond-sum, cond-swap, sum_one_place}
 
 -- the arcs at these indexes lead from node to node

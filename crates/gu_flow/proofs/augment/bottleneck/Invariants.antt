@@ -1,5 +1,4 @@
-use Rattle.std.proofs.Common.{◌≡◌, ◌<◌}
-use Rattle.gu_flow.specs.Ways.{HasRoom, IsNarrow}
+use Rattle.gu_flow.proofs.Words.{◌≡◌, ◌<◌, HasRoom, IsNarrow}
 use Rattle.gu_flow.proofs.augment.bottleneck.Given as goal
 
 abbrev pub invariant-loop-end : goal.invariant-loop-end

@@ -1,6 +1,4 @@
-use Rattle.std.proofs.Common.{◌≡◌, refl, ap, ◌∙◌, length, replicate}
-use Rattle.std.proofs.lemmas.List.{length-replicate}
-use Rattle.std.proofs.lemmas.List.Elements.{All-replicate}
+use Rattle.gu_flow.proofs.Words.{◌≡◌, refl, ap, ◌∙◌, length, replicate, length-replicate, All-replicate}
 use Rattle.gu_flow.proofs.PushLemmas.{empty_flow}
 use Rattle.gu_flow.proofs.beginning.begin.Goals as goal
 

@@ -1,6 +1,4 @@
-use Rattle.std.proofs.Common.{◌≡◌, ◌≤◌, ap, arith, length}
-use Rattle.std.proofs.lemmas.List.{length-take-le}
-use Rattle.gu_flow.specs.Networks.{offer_at, way_of}
+use Rattle.gu_flow.proofs.Words.{◌≡◌, ◌≤◌, ap, arith, length, length-take-le, offer_at, way_of}
 use Rattle.gu_flow.proofs.DirectWays.{few, here, is_whole, places_are}
 use Rattle.gu_flow.proofs.beginning.give_directly.Goals as goal
 

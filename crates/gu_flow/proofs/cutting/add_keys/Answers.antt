@@ -1,8 +1,4 @@
-use Rattle.std.proofs.Common.{◌≡◌, false, ap, sym, ◌∙◌}
-use Rattle.std.proofs.Math.Bool.{or-false}
-use Rattle.gu_view.specs.declared.view.Room.{Room}
-use Rattle.gu_flow.specs.Searches.{is_reached}
-use Rattle.gu_flow.specs.Networks.{room_at}
+use Rattle.gu_flow.proofs.Words.{◌≡◌, false, ap, sym, ◌∙◌, or-false, Room, is_reached, room_at}
 use Rattle.gu_flow.proofs.CutMembers.{key_cut, none_cut, none_by_key, none_more}
 use Rattle.gu_flow.proofs.RoomPlaces.{own_room}
 use Rattle.gu_flow.proofs.cutting.add_keys.Goals as goal

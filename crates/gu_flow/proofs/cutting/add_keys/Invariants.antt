@@ -1,6 +1,4 @@
-use Rattle.std.proofs.Common.{◌≡◌, false}
-use Rattle.gu_flow.specs.CutArcs.{AreKeysCut, AreNoOffersCut}
-use Rattle.gu_flow.specs.Searches.{is_reached}
+use Rattle.gu_flow.proofs.Words.{◌≡◌, false, AreKeysCut, AreNoOffersCut, is_reached}
 use Rattle.gu_flow.proofs.cutting.add_keys.Given as goal
 
 abbrev pub invariant-loop-place : goal.invariant-loop-place

@@ -1,9 +1,4 @@
-use Rattle.std.proofs.Common.{◌≡◌, ap, sym, ◌∙◌}
-use Rattle.std.proofs.lemmas.List.{get_or_default}
-use Rattle.gu_view.specs.declared.view.ViewOffer.{ViewOffer}
-use Rattle.gu_flow.specs.CutArcs.{cuts_offers}
-use Rattle.gu_flow.specs.Searches.{is_reached}
-use Rattle.gu_flow.specs.Networks.{no_offer, offer_at}
+use Rattle.gu_flow.proofs.Words.{◌≡◌, ap, sym, ◌∙◌, get_or_default, ViewOffer, cuts_offers, is_reached, no_offer, offer_at}
 use Rattle.gu_flow.proofs.CutMembers.{offer_cut, none_cut}
 use Rattle.gu_flow.proofs.RoomPlaces.{agreement_read}
 use Rattle.gu_flow.proofs.cutting.add_offers.Goals as goal

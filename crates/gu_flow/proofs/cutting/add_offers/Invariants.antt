@@ -1,6 +1,4 @@
-use Rattle.std.proofs.Common.{◌≡◌}
-use Rattle.gu_flow.specs.CutArcs.{AreOffersCut}
-use Rattle.gu_flow.specs.Searches.{is_reached}
+use Rattle.gu_flow.proofs.Words.{◌≡◌, AreOffersCut, is_reached}
 use Rattle.gu_flow.proofs.cutting.add_offers.Given as goal
 
 abbrev pub invariant-loop-number : goal.invariant-loop-number

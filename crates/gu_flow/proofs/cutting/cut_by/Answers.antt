@@ -1,6 +1,4 @@
-use Rattle.std.proofs.Common.{◌∙◌, ap}
-use Rattle.gu_terms.specs.Cuts.{CutLists}
-use Rattle.gu_flow.specs.Searches.{is_reached}
+use Rattle.gu_flow.proofs.Words.{◌∙◌, ap, CutLists, is_reached}
 use Rattle.gu_flow.proofs.CutMembers.{none_at_all}
 use Rattle.gu_flow.proofs.cutting.cut_by.Goals as goal
 use Rattle.gu_flow.proofs.cutting.cut_by.Goals.{then-branch+in_ok-add_offers, else-branch}

@@ -1,6 +1,4 @@
-use Rattle.std.proofs.Common.{◌≤◌, length, slice_index, vec_len}
-use Rattle.gu_flow.specs.Flows.{value_of}
-use Rattle.gu_flow.specs.Preflows.{IsSurge}
+use Rattle.gu_flow.proofs.Words.{◌≤◌, length, slice_index, vec_len, value_of, IsSurge}
 use Rattle.gu_flow.proofs.heights.push_down.Given as goal
 
 abbrev pub invariant-ends : goal.invariant-ends

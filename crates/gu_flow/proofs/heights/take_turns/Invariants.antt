@@ -1,6 +1,4 @@
-use Rattle.std.proofs.Common.{◌≤◌, length, vec_len}
-use Rattle.gu_flow.specs.Flows.{value_of}
-use Rattle.gu_flow.specs.Preflows.{IsSurge}
+use Rattle.gu_flow.proofs.Words.{◌≤◌, length, vec_len, value_of, IsSurge}
 use Rattle.gu_flow.proofs.heights.take_turns.Given as goal
 
 abbrev pub invariant-turns : goal.invariant-turns

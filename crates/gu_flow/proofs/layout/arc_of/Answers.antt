@@ -1,8 +1,4 @@
-use Rattle.std.proofs.Common.{◌+◌, ◌∙◌, ap, get_or, refl}
-use Rattle.gu_view.specs.declared.view.Room.{Room}
-use Rattle.gu_view.specs.Paths.{step_of}
-use Rattle.gu_flow.specs.Layouts.{node_at}
-use Rattle.gu_flow.specs.Networks.{offer_at, way_of}
+use Rattle.gu_flow.proofs.Words.{◌+◌, ◌∙◌, ap, get_or, refl, Room, step_of, node_at, offer_at, way_of}
 use Rattle.gu_flow.proofs.RoomPlaces.{first_offer, own_room, own_way}
 use Rattle.gu_flow.proofs.layout.arc_of.Goals as goal
 

@@ -1,5 +1,4 @@
-use Rattle.std.proofs.Common.{arith, ◌∙◌}
-use Rattle.gu_flow.specs.Networks.{room_at}
+use Rattle.gu_flow.proofs.Words.{arith, ◌∙◌, room_at}
 use Rattle.gu_flow.proofs.RoomPlaces.{lots_of_members, lots_fit, own_room, agreement_capacity}
 use Rattle.gu_flow.proofs.layout.capacity_of.Goals as goal
 

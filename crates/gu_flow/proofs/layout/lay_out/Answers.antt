@@ -1,5 +1,4 @@
-use Rattle.std.proofs.Common.{arith}
-use Rattle.std.proofs.lemmas.List.{length_push}
+use Rattle.gu_flow.proofs.Words.{arith, length_push}
 use Rattle.gu_flow.proofs.ArcLists.{laid_more, arcs_join, arcs_fit}
 use Rattle.gu_flow.proofs.layout.lay_out.Goals as goal
 

@@ -1,8 +1,5 @@
-use Rattle.std.proofs.Common.{◌-◌, ◌<◌, ◌∙◌, refl, sym, ap, subst, arith, length}
-use Rattle.std.proofs.lemmas.List.{with_items_is}
+use Rattle.gu_flow.proofs.Words.{◌-◌, ◌<◌, ◌∙◌, refl, sym, ap, subst, arith, length, with_items_is, capacities, value_of}
 use Rattle.std.specs.Vec.{with_items}
-use Rattle.gu_flow.specs.Ends.{capacities}
-use Rattle.gu_flow.specs.Flows.{value_of}
 use Rattle.gu_flow.proofs.LeastSides.{least_side}
 use Rattle.gu_flow.proofs.PushLemmas.{left_less}
 use Rattle.gu_flow.proofs.maximum.maximize.Goals as goal

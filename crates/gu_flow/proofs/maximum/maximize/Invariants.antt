@@ -1,8 +1,4 @@
-use Rattle.std.proofs.Common.{◌≡◌, ◌-◌, length}
-use Rattle.gu_flow.specs.Ends.{capacities}
-use Rattle.gu_flow.specs.Flows.{value_of}
-use Rattle.gu_flow.specs.Rounds.{IsFree}
-use Rattle.gu_flow.specs.Searches.{IsReady}
+use Rattle.gu_flow.proofs.Words.{◌≡◌, ◌-◌, length, capacities, value_of, IsFree, IsReady}
 use Rattle.gu_flow.proofs.maximum.maximize.Given as goal
 
 abbrev pub invariant-searches : goal.invariant-searches

@@ -1,5 +1,4 @@
-use Rattle.std.proofs.Common.{◌∙◌}
-use Rattle.gu_flow.specs.Rounds.{room_inside}
+use Rattle.gu_flow.proofs.Words.{◌∙◌, room_inside}
 use Rattle.gu_flow.proofs.LeastSides.{over_flow}
 use Rattle.gu_flow.proofs.maximum.seek.Goals as goal
 

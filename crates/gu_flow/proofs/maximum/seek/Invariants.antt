@@ -1,6 +1,4 @@
-use Rattle.std.proofs.Common.{length}
-use Rattle.gu_flow.specs.Rounds.{room_inside}
-use Rattle.gu_flow.specs.Searches.{turns_left, IsSourceSearch}
+use Rattle.gu_flow.proofs.Words.{length, room_inside, turns_left, IsSourceSearch}
 use Rattle.gu_flow.proofs.maximum.seek.Given as goal
 
 abbrev pub invariant-looks : goal.invariant-looks

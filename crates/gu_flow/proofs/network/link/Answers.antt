@@ -1,5 +1,4 @@
-use Rattle.std.proofs.Common.{◌<◌, ◌∙◌, refl, ap, arith, length, subst, sym}
-use Rattle.gu_flow.specs.Ends.{near, last_before, JoinsNodes}
+use Rattle.gu_flow.proofs.Words.{◌<◌, ◌∙◌, refl, ap, arith, length, subst, sym, near, last_before, JoinsNodes}
 use Rattle.gu_flow.proofs.EndLemmas.{near-other_end, near_in}
 use Rattle.gu_flow.proofs.Linking.{link_one}
 use Rattle.gu_flow.proofs.network.link.Goals as goal

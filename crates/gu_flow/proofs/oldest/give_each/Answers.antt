@@ -1,8 +1,4 @@
-use Rattle.std.proofs.Common.{◌≡◌, ◌<◌, ◌+◌, ◌*◌, ◌/◌, ◌∙◌, ap, arith, min, length, get_or, get_or-set_same}
-use Rattle.std.proofs.lemmas.List.{get_or_default}
-use Rattle.gu_view.specs.declared.view.ViewOffer.{ViewOffer}
-use Rattle.gu_flow.specs.Ends.{arc_at}
-use Rattle.gu_flow.specs.Networks.{no_offer, offer_at}
+use Rattle.gu_flow.proofs.Words.{◌≡◌, ◌<◌, ◌+◌, ◌*◌, ◌/◌, ◌∙◌, ap, arith, min, length, get_or, get_or-set_same, get_or_default, ViewOffer, arc_at, no_offer, offer_at}
 use Rattle.gu_flow.proofs.Giving.{floor_within, lots_small, goal_is, gives_one}
 use Rattle.gu_flow.proofs.RoomPlaces.{agreement_read}
 use Rattle.gu_flow.proofs.oldest.give_each.Goals as goal

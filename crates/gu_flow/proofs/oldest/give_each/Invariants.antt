@@ -1,5 +1,4 @@
-use Rattle.std.proofs.Common.{length}
-use Rattle.gu_flow.specs.Rounds.{AreReady}
+use Rattle.gu_flow.proofs.Words.{length, AreReady}
 use Rattle.gu_flow.proofs.Giving.{Giving}
 use Rattle.gu_flow.proofs.oldest.give_each.Given as goal
 

@@ -1,7 +1,4 @@
-use Rattle.std.proofs.Common.{◌≡◌, ◌<◌, ◌∙◌, ap, sym, refl, arith, length, get_or, get_or-set_same, get_or-set_other}
-use Rattle.std.proofs.Math.ListN.{length-set}
-use Rattle.std.proofs.lemmas.List.{get_or_default}
-use Rattle.gu_flow.specs.Ends.{arc_at}
+use Rattle.gu_flow.proofs.Words.{◌≡◌, ◌<◌, ◌∙◌, ap, sym, refl, arith, length, get_or, get_or-set_same, get_or-set_other, length-set, get_or_default, arc_at}
 use Rattle.gu_flow.proofs.Borders.{most_apart}
 use Rattle.gu_flow.proofs.Raising.{head_of, level, raise_begins, raised_most, raises, tail_of}
 use Rattle.gu_flow.proofs.oldest.raise_arc.Goals as goal

@@ -1,5 +1,4 @@
-use Rattle.std.proofs.Common.{◌-◌, length, slice_index}
-use Rattle.gu_flow.specs.Rounds.{AreReady}
+use Rattle.gu_flow.proofs.Words.{◌-◌, length, slice_index, AreReady}
 use Rattle.gu_flow.proofs.Raising.{Raising}
 use Rattle.gu_flow.proofs.oldest.raise_arc.Given as goal
 

@@ -1,6 +1,4 @@
-use Rattle.std.proofs.Common.{◌≤◌, sum}
-use Rattle.gu_flow.specs.Flows.{value_of}
-use Rattle.gu_flow.specs.Preflows.{IsPreflow}
+use Rattle.gu_flow.proofs.Words.{◌≤◌, sum, value_of, IsPreflow}
 use Rattle.gu_flow.proofs.preflow.give_back.Given as goal
 
 abbrev pub invariant-turns : goal.invariant-turns

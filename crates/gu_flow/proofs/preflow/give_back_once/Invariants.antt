@@ -1,6 +1,4 @@
-use Rattle.std.proofs.Common.{◌≡◌, ◌<◌, ◌≤◌, true, false, sum}
-use Rattle.gu_flow.specs.Flows.{value_of}
-use Rattle.gu_flow.specs.Preflows.{IsPreflow, AreSettled}
+use Rattle.gu_flow.proofs.Words.{◌≡◌, ◌<◌, ◌≤◌, true, false, sum, value_of, IsPreflow, AreSettled}
 use Rattle.gu_flow.proofs.preflow.give_back_once.Given as goal
 
 abbrev pub invariant-loop-place : goal.invariant-loop-place

@@ -1,5 +1,4 @@
-use Rattle.std.proofs.Common.{◌≢◌, ◌≤◌, arith, get_or}
-use Rattle.gu_flow.specs.Ends.{near, far}
+use Rattle.gu_flow.proofs.Words.{◌≢◌, ◌≤◌, arith, get_or, near, far}
 use Rattle.gu_flow.proofs.PreflowLemmas.{pushed_fits, pushed_preflow}
 use Rattle.gu_flow.proofs.preflow.push_excess.Goals as goal
 

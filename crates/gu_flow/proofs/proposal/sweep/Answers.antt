@@ -1,8 +1,4 @@
-use Rattle.std.proofs.Common.{arith, ap, sym, subst, ◌∙◌, sum_by, length}
-use Rattle.gu_terms.specs.Takes.{lots_of}
-use Rattle.gu_terms.specs.declared.takes.Take.{Take}
-use Rattle.gu_flow.specs.Networks.{AreArcs}
-use Rattle.gu_flow.specs.Searches.{is_reached}
+use Rattle.gu_flow.proofs.Words.{arith, ap, sym, subst, ◌∙◌, sum_by, length, lots_of, Take, AreArcs, is_reached}
 use Rattle.gu_flow.proofs.Borders.{closed_stays}
 use Rattle.gu_flow.proofs.Certifying.{certified, flow_is_taken, greatest, right}
 use Rattle.gu_flow.proofs.NearestSides.{nearest_cut}

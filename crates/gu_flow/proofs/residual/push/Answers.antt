@@ -1,5 +1,4 @@
-use Rattle.std.proofs.Common.{refl, ◌%◌}
-use Rattle.std.proofs.lemmas.Bool.{eq-eqb, ne_eqb}
+use Rattle.gu_flow.proofs.Words.{refl, ◌%◌, eq-eqb, ne_eqb}
 use Rattle.gu_flow.proofs.PushLemmas.{pushes_along, pushes_against}
 use Rattle.gu_flow.proofs.residual.push.Goals as goal
 

@@ -1,11 +1,4 @@
-use Rattle.std.proofs.Common.{◌≡◌, ◌*◌, ◌<◌, true, ◌/◌, ◌%◌, ◌∙◌, ap, sym, subst, arith, length, get_or, get_or-set_same, get_or-set_other}
-use Rattle.std.proofs.Math.ListN.{length-set}
-use Rattle.std.proofs.lemmas.Bool.{eq-eqb}
-use Rattle.std.proofs.lemmas.List.{get_or_default}
-use Rattle.gu_flow.specs.declared.searching.Mark.{Mark}
-use Rattle.gu_flow.specs.Ends.{is_tail, far}
-use Rattle.gu_flow.specs.Floors.{KeepsFloors}
-use Rattle.gu_flow.specs.Searches.{no_mark, level_at, mark_at}
+use Rattle.gu_flow.proofs.Words.{◌≡◌, ◌*◌, ◌<◌, true, ◌/◌, ◌%◌, ◌∙◌, ap, sym, subst, arith, length, get_or, get_or-set_same, get_or-set_other, length-set, eq-eqb, get_or_default, Mark, is_tail, far, KeepsFloors, no_mark, level_at, mark_at}
 use Rattle.gu_flow.proofs.Raising.{head_of, round_ends, round_is_flow, tail_of}
 use Rattle.gu_flow.proofs.rounds.bring_round.Goals as goal
 

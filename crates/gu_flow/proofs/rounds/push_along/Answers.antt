@@ -1,10 +1,4 @@
-use Rattle.std.proofs.Common.{◌≡◌, ◌≤◌, ◌∙◌, ap, sym, subst, arith}
-use Rattle.std.proofs.lemmas.List.{get_or_default}
-use Rattle.gu_flow.specs.declared.searching.Mark.{Mark}
-use Rattle.gu_flow.specs.Ends.{near}
-use Rattle.gu_flow.specs.Floors.{room_out}
-use Rattle.gu_flow.specs.Flows.{Pushes}
-use Rattle.gu_flow.specs.Searches.{no_mark, mark_at}
+use Rattle.gu_flow.proofs.Words.{◌≡◌, ◌≤◌, ◌∙◌, ap, sym, subst, arith, get_or_default, Mark, near, room_out, Pushes, no_mark, mark_at}
 use Rattle.gu_flow.proofs.RoundPushing.{entry_room, pushes_on}
 use Rattle.gu_flow.proofs.rounds.push_along.Goals as goal
 

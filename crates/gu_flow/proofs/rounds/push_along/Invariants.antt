@@ -1,5 +1,4 @@
-use Rattle.std.proofs.Common.{◌<◌, length}
-use Rattle.gu_flow.specs.Searches.{level_at}
+use Rattle.gu_flow.proofs.Words.{◌<◌, length, level_at}
 use Rattle.gu_flow.proofs.RoundPushing.{RoundPushing}
 use Rattle.gu_flow.proofs.rounds.push_along.Given as goal
 

@@ -1,12 +1,5 @@
-use Rattle.std.proofs.Common.{◌≡◌, ◌<◌, ◌∙◌, ◌++◌, ◌∷◌, [], ap, arith, subst, sym, length, min, get_or}
-use Rattle.std.specs.Prelude.{nat_lt}
-use Rattle.std.proofs.lemmas.List.Elements.{filter-append}
-use Rattle.gu_terms.specs.declared.takes.Take.{Take}
+use Rattle.gu_flow.proofs.Words.{◌≡◌, ◌<◌, ◌∙◌, ◌++◌, ◌∷◌, [], ap, arith, subst, sym, length, min, get_or, nat_lt, filter-append, Take, get_or_default, ViewOffer, no_offer, offer_at, above_zero, AreSharesBefore}
 use Rattle.gu_flow.proofs.SomeLots.{above_zero-ascend}
-use Rattle.std.proofs.lemmas.List.{get_or_default}
-use Rattle.gu_view.specs.declared.view.ViewOffer.{ViewOffer}
-use Rattle.gu_flow.specs.Networks.{no_offer, offer_at}
-use Rattle.gu_flow.specs.Shares.{above_zero, AreSharesBefore}
 use Rattle.gu_flow.proofs.RoomPlaces.{agreement_read}
 use Rattle.gu_flow.proofs.ShareLemmas.{shares_ascend, one_more_share}
 use Rattle.gu_flow.proofs.sharing.share_out.Goals as goal

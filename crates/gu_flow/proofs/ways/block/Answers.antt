@@ -1,5 +1,4 @@
-use Rattle.std.proofs.Common.{arith}
-use Rattle.std.proofs.lemmas.List.{length-take-le}
+use Rattle.gu_flow.proofs.Words.{arith, length-take-le}
 use Rattle.gu_flow.proofs.Descents.{front_whole, block_begins, block_goes_on}
 use Rattle.gu_flow.proofs.ways.block.Goals as goal
 

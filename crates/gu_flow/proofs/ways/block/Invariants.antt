@@ -1,6 +1,4 @@
-use Rattle.std.proofs.Common.{◌-◌}
-use Rattle.gu_flow.specs.Ends.{capacities}
-use Rattle.gu_flow.specs.Flows.{value_of}
+use Rattle.gu_flow.proofs.Words.{◌-◌, capacities, value_of}
 use Rattle.gu_flow.proofs.Descents.{Blocking}
 use Rattle.gu_flow.proofs.ways.block.Given as goal
 

@@ -1,5 +1,4 @@
-use Rattle.std.proofs.Common.{◌≤◌, arith, get_or, below_more}
-use Rattle.gu_flow.specs.Ends.{residual_in}
+use Rattle.gu_flow.proofs.Words.{◌≤◌, arith, get_or, below_more, residual_in}
 use Rattle.gu_flow.proofs.ways.clear_steps.Goals as goal
 
 pub loop-step-preserved : goal.loop-step-preserved

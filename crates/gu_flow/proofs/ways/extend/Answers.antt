@@ -1,5 +1,4 @@
-use Rattle.std.proofs.Common.{◌≤◌, arith, length}
-use Rattle.gu_flow.specs.Searches.{level_at}
+use Rattle.gu_flow.proofs.Words.{◌≤◌, arith, length, level_at}
 use Rattle.gu_flow.proofs.Descents.{descent_within, goes_down, goes_back, falls_back, passes, sum_set_less}
 use Rattle.gu_flow.proofs.ways.extend.Goals as goal
 

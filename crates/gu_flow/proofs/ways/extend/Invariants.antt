@@ -1,5 +1,4 @@
-use Rattle.std.proofs.Common.{◌+◌, ◌*◌, sum}
-use Rattle.gu_flow.specs.Searches.{level_at}
+use Rattle.gu_flow.proofs.Words.{◌+◌, ◌*◌, sum, level_at}
 use Rattle.gu_flow.proofs.Descents.{Descending}
 use Rattle.gu_flow.proofs.ways.extend.Given as goal
 

@@ -1,5 +1,4 @@
-use Rattle.std.proofs.Common.{◌<◌, ◌-◌, ◌*◌, ◌∙◌, arith, length, get_or, get_or-set_other}
-use Rattle.gu_flow.specs.Ends.{near, last_before}
+use Rattle.gu_flow.proofs.Words.{◌<◌, ◌-◌, ◌*◌, ◌∙◌, arith, length, get_or, get_or-set_other, near, last_before}
 use Rattle.gu_flow.proofs.Linking.{last_is_before}
 use Rattle.gu_flow.proofs.Descents.{next_current, sum_set_less}
 use Rattle.gu_flow.proofs.ways.next_down.Goals as goal

@@ -1,5 +1,4 @@
-use Rattle.std.proofs.Common.{◌≡◌, ◌≢◌, ◌≤◌, ℕ, slice_index, sum}
-use Rattle.gu_flow.specs.Ends.{IsCurrent}
+use Rattle.gu_flow.proofs.Words.{◌≡◌, ◌≢◌, ◌≤◌, ℕ, slice_index, sum, IsCurrent}
 use Rattle.gu_flow.proofs.ways.next_down.Given as goal
 
 abbrev pub invariant-ends : goal.invariant-ends

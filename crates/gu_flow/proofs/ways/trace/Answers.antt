@@ -1,5 +1,4 @@
-use Rattle.std.proofs.Common.{◌≤◌, arith, length}
-use Rattle.gu_flow.specs.Searches.{level_at}
+use Rattle.gu_flow.proofs.Words.{◌≤◌, arith, length, level_at}
 use Rattle.gu_flow.proofs.Descents.{trace_within, traces}
 use Rattle.gu_flow.proofs.ways.trace.Goals as goal
 

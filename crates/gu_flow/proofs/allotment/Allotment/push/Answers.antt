@@ -1,6 +1,4 @@
-use Rattle.std.proofs.Common.{◌+◌, ◌-◌, ◌/◌, ◌%◌, ◌∙◌, ap, arith}
-use Rattle.std.proofs.lemmas.Bool.{eq-eqb, ne_eqb}
-use Rattle.std.proofs.lemmas.List.{get_or_default}
+use Rattle.gu_flow.proofs.Words.{◌+◌, ◌-◌, ◌/◌, ◌%◌, ◌∙◌, ap, arith, eq-eqb, ne_eqb, get_or_default}
 use Rattle.gu_flow.proofs.PushLemmas.{pushes_along, pushes_against}
 use Rattle.gu_flow.proofs.allotment.Allotment.push.Goals as goal
 

@@ -1,9 +1,4 @@
-use Rattle.std.proofs.Common.{◌≡◌, ◌<◌, ◌∙◌, ap, sym, inl, inr, arith, length, get_or, get_or-set_same, get_or-set_other, nat_lt, set}
-use Rattle.std.proofs.Math.ListN.{length-set}
-use Rattle.std.proofs.lemmas.Bool.{cases_eq}
-use Rattle.std.proofs.lemmas.List.{get_or_default}
-use Rattle.std.proofs.lemmas.List.Sums.{count_by-le-length}
-use Rattle.gu_flow.specs.declared.searching.Mark.{Mark}
+use Rattle.gu_flow.proofs.Words.{◌≡◌, ◌<◌, ◌∙◌, ap, sym, inl, inr, arith, length, get_or, get_or-set_same, get_or-set_other, nat_lt, set, length-set, cases_eq, get_or_default, count_by-le-length, Mark}
 use Rattle.gu_flow.proofs.allotment.Allotment.set_apart.Goals as goal
 
 pub index_mut-requires : goal.index_mut-requires

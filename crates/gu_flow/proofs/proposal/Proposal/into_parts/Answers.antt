@@ -1,5 +1,4 @@
-use Rattle.std.proofs.Common.{ap}
-use Rattle.gu_flow.specs.Proposals.{ProposedSweep}
+use Rattle.gu_flow.proofs.Words.{ap, ProposedSweep}
 use Rattle.gu_view.proofs.Checked.{ok_from_right}
 use Rattle.gu_flow.proofs.proposal.Proposal.into_parts.Goals as goal
 

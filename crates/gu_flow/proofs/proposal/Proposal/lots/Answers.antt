@@ -1,6 +1,5 @@
-use Rattle.std.proofs.Common.{subst}
+use Rattle.gu_flow.proofs.Words.{subst, IsSound}
 use Rattle.gu_view.proofs.Checked.{ok_from_right}
-use Rattle.gu_flow.specs.Proposals.{IsSound}
 use Rattle.gu_flow.proofs.proposal.Proposal.lots.Goals as goal
 
 pub returns-clause-checked : goal.returns-clause-checked

@@ -1,5 +1,4 @@
-use Rattle.std.proofs.Common.{◌∙◌}
-use Rattle.gu_flow.specs.Rounds.{room_inside}
+use Rattle.gu_flow.proofs.Words.{◌∙◌, room_inside}
 use Rattle.gu_flow.proofs.rounds.TwoWay.go_round.Goals as goal
 
 pub settle-found-requires-clause-under_way : goal.settle-found-requires-clause-under_way

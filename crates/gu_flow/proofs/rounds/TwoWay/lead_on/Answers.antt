@@ -1,10 +1,4 @@
-use Rattle.std.proofs.Common.{◌≡◌, ◌<◌, ◌∙◌, false, ap, sym, subst, arith}
-use Rattle.std.proofs.lemmas.List.{get_or_default}
-use Rattle.gu_flow.specs.declared.searching.Mark.{Mark}
-use Rattle.gu_flow.specs.declared.searching.Search.{Search}
-use Rattle.gu_flow.specs.Ends.{near, far, other_end}
-use Rattle.gu_flow.specs.Rounds.{room_inside}
-use Rattle.gu_flow.specs.Searches.{no_mark, level_at, mark_at}
+use Rattle.gu_flow.proofs.Words.{◌≡◌, ◌<◌, ◌∙◌, false, ap, sym, subst, arith, get_or_default, Mark, Search, near, far, other_end, room_inside, no_mark, level_at, mark_at}
 use Rattle.gu_flow.proofs.RoundPushing.{keeps_on, leads_on, LeadsOn}
 use Rattle.gu_flow.proofs.rounds.TwoWay.lead_on.Goals as goal
 

@@ -1,6 +1,4 @@
-use Rattle.std.proofs.Common.{◌≡◌, ◌<◌, length}
-use Rattle.gu_flow.specs.Rounds.{room_inside, AreSearches}
-use Rattle.gu_flow.specs.Searches.{level_at, IsQueue, IsTree, KeepsReached}
+use Rattle.gu_flow.proofs.Words.{◌≡◌, ◌<◌, length, room_inside, AreSearches, level_at, IsQueue, IsTree, KeepsReached}
 use Rattle.gu_flow.proofs.rounds.TwoWay.lead_on.Given as goal
 
 abbrev pub invariant-loop-node : goal.invariant-loop-node

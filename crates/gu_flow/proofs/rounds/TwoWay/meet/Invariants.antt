@@ -1,6 +1,4 @@
-use Rattle.std.proofs.Common.{◌+◌, length}
-use Rattle.gu_flow.specs.Rounds.{AreUnderWay}
-use Rattle.gu_flow.specs.Searches.{turns_left, KeepsReached}
+use Rattle.gu_flow.proofs.Words.{◌+◌, length, AreUnderWay, turns_left, KeepsReached}
 use Rattle.gu_flow.proofs.rounds.TwoWay.meet.Given as goal
 
 abbrev pub invariant-turns : goal.invariant-turns

@@ -1,7 +1,4 @@
-use Rattle.std.proofs.Common.{◌≤◌, true, false, not, nat_lt, ◌∙◌, ap, sym, subst, arith, length, inl, inr}
-use Rattle.gu_flow.specs.Rounds.{room_inside}
-use Rattle.gu_flow.specs.Flows.{IsShut}
-use Rattle.gu_flow.specs.Searches.{level_at, is_reached}
+use Rattle.gu_flow.proofs.Words.{◌≤◌, true, false, not, nat_lt, ◌∙◌, ap, sym, subst, arith, length, inl, inr, room_inside, IsShut, level_at, is_reached}
 use Rattle.gu_flow.proofs.Looking.{search_done}
 use Rattle.gu_flow.proofs.Raising.{closed_ahead, closed_back, not_same, parts, parts_most, set_apart_agrees}
 use Rattle.gu_flow.proofs.rounds.TwoWay.part.Goals as goal

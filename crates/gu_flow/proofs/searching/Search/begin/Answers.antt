@@ -1,7 +1,4 @@
-use Rattle.std.proofs.Common.{◌<◌, ◌∙◌, ap, refl, arith, length, get_or-set_same, get_or-set_other}
-use Rattle.std.proofs.Math.ListN.{length-set}
-use Rattle.gu_flow.specs.declared.searching.Mark.{Mark}
-use Rattle.gu_flow.specs.Searches.{no_mark}
+use Rattle.gu_flow.proofs.Words.{◌<◌, ◌∙◌, ap, refl, arith, length, get_or-set_same, get_or-set_other, length-set, Mark, no_mark}
 use Rattle.gu_flow.proofs.Looking.{search_begins}
 use Rattle.gu_flow.proofs.searching.Search.begin.Goals as goal
 

@@ -1,5 +1,4 @@
-use Rattle.std.proofs.Common.{◌≡◌, ◌<◌, ◌≤◌, ℕ, length, slice_index}
-use Rattle.gu_flow.specs.Searches.{level_at}
+use Rattle.gu_flow.proofs.Words.{◌≡◌, ◌<◌, ◌≤◌, ℕ, length, slice_index, level_at}
 use Rattle.gu_flow.proofs.searching.Search.clear.Given as goal
 
 abbrev pub invariant-loop-self : goal.invariant-loop-self

@@ -1,8 +1,4 @@
-use Rattle.std.proofs.Common.{◌≡◌, ◌+◌, ◌<◌, ◌∙◌, ap, arith, length, subst}
-use Rattle.std.proofs.lemmas.List.{get_or_default}
-use Rattle.gu_flow.specs.declared.searching.Mark.{Mark}
-use Rattle.gu_flow.specs.Ends.{near, far}
-use Rattle.gu_flow.specs.Searches.{no_mark, level_at, mark_at}
+use Rattle.gu_flow.proofs.Words.{◌≡◌, ◌+◌, ◌<◌, ◌∙◌, ap, arith, length, subst, get_or_default, Mark, near, far, no_mark, level_at, mark_at}
 use Rattle.gu_flow.proofs.Looking.{reached_in}
 use Rattle.gu_flow.proofs.Marks.{reached_fewer, tree_reaches, queue_reaches}
 use Rattle.gu_flow.proofs.searching.Search.enter.Goals as goal

@@ -1,9 +1,4 @@
-use Rattle.std.proofs.Common.{◌≡◌, ◌+◌, ◌*◌, ◌<◌, ◌∙◌, refl, ap, sym, arith, length, get_or, subst}
-use Rattle.std.proofs.lemmas.List.{get_or_default}
-use Rattle.gu_flow.specs.Ends.{last_before}
-use Rattle.gu_flow.specs.declared.searching.Search.{Search}
-use Rattle.gu_flow.specs.Rounds.{room_inside}
-use Rattle.gu_flow.specs.Searches.{level_at, IsSearch}
+use Rattle.gu_flow.proofs.Words.{◌≡◌, ◌+◌, ◌*◌, ◌<◌, ◌∙◌, refl, ap, sym, arith, length, get_or, subst, get_or_default, last_before, Search, room_inside, level_at, IsSearch}
 use Rattle.gu_flow.proofs.Looking.{place_in, search_goes_on, search_skips, search_turns, some_lots}
 use Rattle.gu_flow.proofs.searching.Search.look.Goals as goal
 

@@ -1,6 +1,4 @@
-use Rattle.std.proofs.Common.{sym, subst, arith}
-use Rattle.gu_flow.specs.Rounds.{room_inside}
-use Rattle.gu_flow.specs.Searches.{IsTree}
+use Rattle.gu_flow.proofs.Words.{sym, subst, arith, room_inside, IsTree}
 use Rattle.gu_flow.proofs.searching.Search.reach.Goals as goal
 
 pub returns-then-room-gt0-clause-tree : goal.returns-then-room-gt0-clause-tree

@@ -1,9 +1,4 @@
-use Rattle.std.proofs.Common.{◌≡◌, ◌-◌, ◌<◌, ◌∙◌, ap, sym, arith, inl, inr, length, get_or}
-use Rattle.std.proofs.lemmas.Bool.{cases_eq}
-use Rattle.std.proofs.lemmas.List.{get_or_default}
-use Rattle.gu_flow.specs.Ends.{far}
-use Rattle.gu_flow.specs.Rounds.{room_inside}
-use Rattle.gu_flow.specs.Searches.{level_at}
+use Rattle.gu_flow.proofs.Words.{◌≡◌, ◌-◌, ◌<◌, ◌∙◌, ap, sym, arith, inl, inr, length, get_or, cases_eq, get_or_default, far, room_inside, level_at}
 use Rattle.gu_flow.proofs.Looking.{place_in, skips_one}
 use Rattle.gu_flow.proofs.searching.Search.skip.Goals as goal
 

@@ -1,6 +1,4 @@
-use Rattle.std.proofs.Common.{◌+◌, ◌≤◌}
-use Rattle.gu_flow.specs.Rounds.{room_inside}
-use Rattle.gu_flow.specs.Searches.{GoesOn}
+use Rattle.gu_flow.proofs.Words.{◌+◌, ◌≤◌, room_inside, GoesOn}
 use Rattle.gu_flow.proofs.searching.Search.skip.Given as goal
 
 abbrev pub invariant-loop-looked : goal.invariant-loop-looked
