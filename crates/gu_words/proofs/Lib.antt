@@ -1,4 +1,3 @@
 pub mod ServeLemmas
 pub mod ValueLemmas
 pub mod WordLemmas
-pub mod Words

@@ -1,12 +1,17 @@
 -- The numbers of the options of `serve`: if its words have no fault, each is within its range.
-use Rattle.gu_words.proofs.Words.{◌≡◌, ◌∙◌, ℕ, Bool, true, false, refl, sym, ap, subst, List, [], Option, Some, None, arith, codes, unwrap_or, true≢false, IfSome, drop, find, slice_get, take, option_map, option_map_or, bytes_eq, Shape, argument_words, built, entered, label_of, names_of, new_rule, rows_at, most_connections, program, serve_shape, HasCounts, word_in}
+use Rattle.std.proofs.Common.{◌≡◌, ◌∙◌, ℕ, Bool, true, false, refl, sym, ap, subst, List, [], Option, Some, None, arith, codes, unwrap_or, true≢false}
+use Rattle.std.specs.Prelude.{IfSome, drop, find, slice_get, take}
+use Rattle.std.specs.Option.{option_map, option_map_or}
+use Rattle.std.specs.Str.{bytes_eq}
 use Rattle.clap.specs.Faults.{entered_fault, fault_of, level_fault, walk_fault}
-use Rattle.clap.specs.Simple.{App, subcommand_of}
+use Rattle.clap.specs.Simple.{App, Shape, argument_words, built, entered, label_of, names_of, new_rule, rows_at, subcommand_of}
 use Rattle.clap.specs.ValueTests.{is_unsigned_in}
 use Rattle.clap.specs.Values.{IsUnsignedIn}
 use Rattle.clap.specs.Walk.{Row, Rule, Text, answers_to, first_of, nothing_held, rows_after, settled, stop_after, walk, walk_from}
 use Rattle.clap.specs.declared.builder.value_parser.ValueParser.TheVariants.{Unsigned}
 use Rattle.clap.proofs.ValueTestLemmas.{accepts-Accepts}
+use Rattle.gu_words.specs.CommandLine.{most_connections, program, serve_shape}
+use Rattle.gu_words.specs.ProgramWords.{HasCounts, word_in}
 use Rattle.gu_words.proofs.ValueLemmas.{Each, Sound, default_row, find_each, first_passes, given_passes, or_nil, words_sound}
 
 -- a number of workers that passes

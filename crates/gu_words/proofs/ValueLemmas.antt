@@ -1,11 +1,17 @@
 -- If a parse of a command's words finds no fault, each value of a name passed that name's test.
-use Rattle.gu_words.proofs.Words.{◌≡◌, ◌+◌, ◌&&◌, ◌||◌, ◌++◌, ℕ, Bool, cond, true, false, not, zero, suc, refl, sym, ◌∙◌, subst, List, [], ◌∷◌, Option, Some, None, fold, is_some, unwrap_or, true≢false, ⊤, IfSome, drop, min, encode_utf8, find, length, slice_get, option_and_then, option_map_or, bytes_eq, chars, both, Kinds, or_else, range_kinds, Shape}
+use Rattle.std.proofs.Common.{◌≡◌, ◌+◌, ◌&&◌, ◌||◌, ◌++◌, ℕ, Bool, cond, true, false, not, zero, suc, refl, sym, ◌∙◌, subst, List, [], ◌∷◌, Option, Some, None, fold, is_some, unwrap_or, true≢false}
+use Rattle.std.specs.Prelude.{⊤, IfSome, drop, min, encode_utf8, find, length, slice_get}
 use Rattle.std.specs.List.{list_all}
+use Rattle.std.specs.Option.{option_and_then, option_map_or}
+use Rattle.std.specs.Str.{bytes_eq, chars}
 use Rattle.clap.specs.Facts.{parser_of_value, unwrap_or_range}
 use Rattle.std.proofs.lemmas.Bool.{not-true}
+use Rattle.clap.proofs.WalkLemmas.{both}
 use Rattle.clap.specs.Matches.{count_text}
 use Rattle.clap.specs.Lexer.{long_of, short_of}
 use Rattle.clap.specs.Faults.{action_fault, bundle_fault, bundle_step_fault, flag_word_fault, flags_fault, level_fault, long_fault, option_fault, other_fault, positional_fault, react_fault, settle_fault, short_fault, step_fault, stray_fault, turn_fault, use_fault, walk_fault, word_fault}
+use Rattle.clap.specs.Kinds.{Kinds, or_else, range_kinds}
+use Rattle.clap.specs.Simple.{Shape}
 use Rattle.clap.specs.Takes.{value_passes}
 use Rattle.clap.specs.Values.{refused_kind}
 use Rattle.clap.specs.declared.builder.range.ValueRange.{ValueRange}

@@ -1,10 +1,12 @@
 -- The words that ask for a task.
-use Rattle.gu_words.proofs.Words.{arith, ◌≡◌, ◌<◌, ◌≤◌, ◌^◌, ◌&&◌, not, cond, is_some, nat_lt, unwrap_or, subst, ℕ, Bool, List, [], ◌∷◌, codes, true, false, Option, Some, None, Result, Ok, Err, inl, inr, refl, sym, ap, ◌∙◌, option_map, option_map_or, IfOk, IfSome, AddsArg, AddsSubcommand, App, IsUnsignedIn, Row, Rule, Text, app_of, all_of, first_of, is_simple_and_free, rule_of, shape_of, takes, with_rule, with_subcommand, FailsBy, Kinds, or_else, bare_program, check_shape, fix_shape, program, replay_shape, secret_shape, serve_shape, tell_shape, has, has_bad_port, is_port, kinds_of, misfit_in, misfit_of, port_of, refusals_of, Captures, Checks, Counts, Fixes, GoesOn, HasCounts, HasNumbers, IsCounted, IsWithin, Issues, Keeping, Lasting, Reads, Replays, Serves, Tells, Wanted, command_in, is_set, is_until_closed, keeping_by, lasting_by, number_of, port_word, served_by, text_of, told_by, wanted_by, wanted_in, wanted_of, wanted_of_command, word_in}
-use Rattle.clap.specs.Words.{Shape}
+use Rattle.std.proofs.Common.{arith, ◌≡◌, ◌<◌, ◌≤◌, ◌^◌, ◌&&◌, not, cond, is_some, nat_lt, unwrap_or, subst, ℕ, Bool, List, [], ◌∷◌, codes, true, false, Option, Some, None, Result, Ok, Err, inl, inr, refl, sym, ap, ◌∙◌}
+use Rattle.std.specs.Option.{option_map, option_map_or}
+use Rattle.std.specs.Prelude.{IfOk, IfSome}
+use Rattle.clap.specs.Words.{AddsArg, AddsSubcommand, App, IsUnsignedIn, Row, Rule, Shape, Text, app_of, all_of, first_of, is_simple_and_free, rule_of, shape_of, takes, with_rule, with_subcommand}
 use Rattle.clap.specs.declared.builder.arg.Arg.{Arg}
 use Rattle.clap.specs.declared.builder.command.Command.{Command}
 use Rattle.std.specs.Borrow.{Bor}
-use Rattle.clap.specs.Kinds.{HasKind}
+use Rattle.clap.specs.Kinds.{FailsBy, HasKind, Kinds, or_else}
 use Rattle.clap.specs.declared.builder.value_parser.ValueParser.TheVariants.{Unsigned}
 use Rattle.clap.specs.declared.error.Error.{Error}
 use Rattle.clap.proofs.OnLiterals.{clap_on_literals}
@@ -12,10 +14,13 @@ use Rattle.clap.proofs.ValueTestLemmas.{Accepts-accepts, accepts-Accepts}
 use Rattle.std.proofs.Math.Nat.{lt_of_le_of_lt}
 use Rattle.std.proofs.lemmas.Bool.{ltb-false, not-false}
 use Rattle.std.specs.Str.Parse.{IsNumeral, digits_value, without_leading_plus}
+use Rattle.gu_words.specs.CommandLine.{bare_program, check_shape, fix_shape, program, replay_shape, secret_shape, serve_shape, tell_shape}
+use Rattle.gu_words.specs.Misfits.{has, has_bad_port, is_port, kinds_of, misfit_in, misfit_of, port_of, refusals_of}
 use Rattle.gu_words.specs.declared.words.Task.{Task}
 use Rattle.gu_words.specs.declared.misfit.Misfit.{Misfit}
 use Rattle.gu_words.specs.declared.misfit.Misfit.TheVariants.{ManyConnections, NotAPort, NotUntilClosed}
 use Rattle.gu_words.proofs.ValueLemmas.{or_nil}
+use Rattle.gu_words.specs.ProgramWords.{Captures, Checks, Counts, Fixes, GoesOn, HasCounts, HasNumbers, IsCounted, IsWithin, Issues, Keeping, Lasting, Reads, Replays, Serves, Tells, Wanted, command_in, is_set, is_until_closed, keeping_by, lasting_by, number_of, port_word, served_by, text_of, told_by, wanted_by, wanted_in, wanted_of, wanted_of_command, word_in}
 
 -- the program is one whose words clap describes in full
 pub simple-program : (is_until_closed : Bool) → is_simple_and_free (program is_until_closed) ≡ true

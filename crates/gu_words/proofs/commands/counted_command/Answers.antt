@@ -1,4 +1,7 @@
-use Rattle.gu_words.proofs.Words.{rules, ◌≡◌, ◌∙◌, ap, codes, App, app_of, new_app, rule_of, with_rule, app_of_fields, connections_rule, every_rule, flag_rule, needed, path_rule}
+use Rattle.std.proofs.Common.{rules, ◌≡◌, ◌∙◌, ap, codes}
+use Rattle.clap.specs.Words.{App, app_of, new_app, rule_of, with_rule}
+use Rattle.clap.specs.Simple.{app_of_fields}
+use Rattle.gu_words.specs.CommandLine.{connections_rule, every_rule, flag_rule, needed, path_rule}
 use Rattle.gu_words.proofs.WordLemmas.{last_rule_added, word_added}
 use Rattle.gu_words.proofs.commands.counted_command.Goals as goal
 

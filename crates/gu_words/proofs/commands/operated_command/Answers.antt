@@ -1,4 +1,6 @@
-use Rattle.gu_words.proofs.Words.{rules, ◌≡◌, ◌∙◌, ap, codes, App, app_of, rule_of, with_rule, counted_app, flag_rule, most_connections, path_rule, workers_rule}
+use Rattle.std.proofs.Common.{rules, ◌≡◌, ◌∙◌, ap, codes}
+use Rattle.clap.specs.Words.{App, app_of, rule_of, with_rule}
+use Rattle.gu_words.specs.CommandLine.{counted_app, flag_rule, most_connections, path_rule, workers_rule}
 use Rattle.gu_words.proofs.WordLemmas.{last_rule_added, word_added}
 use Rattle.gu_words.proofs.commands.operated_command.Goals as goal
 

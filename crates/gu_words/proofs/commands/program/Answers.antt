@@ -1,4 +1,6 @@
-use Rattle.gu_words.proofs.Words.{rules, ◌≡◌, refl, app_of, bare_program, fix_shape, replay_shape, secret_shape, serve_shape, tell_shape}
+use Rattle.std.proofs.Common.{rules, ◌≡◌, refl}
+use Rattle.clap.specs.Words.{app_of}
+use Rattle.gu_words.specs.CommandLine.{bare_program, fix_shape, replay_shape, secret_shape, serve_shape, tell_shape}
 use Rattle.gu_words.proofs.WordLemmas.{six_commands}
 use Rattle.gu_words.proofs.commands.program.Goals as goal
 

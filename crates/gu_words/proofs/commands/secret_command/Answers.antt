@@ -1,4 +1,6 @@
-use Rattle.gu_words.proofs.Words.{rules, ◌≡◌, codes, app_of, new_app, rule_of, needed}
+use Rattle.std.proofs.Common.{rules, ◌≡◌, codes}
+use Rattle.clap.specs.Words.{app_of, new_app, rule_of}
+use Rattle.gu_words.specs.CommandLine.{needed}
 use Rattle.gu_words.proofs.WordLemmas.{last_word_added}
 use Rattle.gu_words.proofs.commands.secret_command.Goals as goal
 

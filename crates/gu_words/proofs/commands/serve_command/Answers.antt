@@ -1,4 +1,6 @@
-use Rattle.gu_words.proofs.Words.{rules, ◌≡◌, codes, App, app_of, rule_of, with_rule, flag_rule, operated_app, path_rule, share_rule}
+use Rattle.std.proofs.Common.{rules, ◌≡◌, codes}
+use Rattle.clap.specs.Words.{App, app_of, rule_of, with_rule}
+use Rattle.gu_words.specs.CommandLine.{flag_rule, operated_app, path_rule, share_rule}
 use Rattle.gu_words.proofs.WordLemmas.{last_word_added, word_added}
 use Rattle.gu_words.proofs.commands.serve_command.Goals as goal
 

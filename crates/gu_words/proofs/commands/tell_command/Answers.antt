@@ -1,4 +1,6 @@
-use Rattle.gu_words.proofs.Words.{rules, ◌≡◌, codes, App, app_of, new_app, rule_of, with_rule, lines_rule, needed}
+use Rattle.std.proofs.Common.{rules, ◌≡◌, codes}
+use Rattle.clap.specs.Words.{App, app_of, new_app, rule_of, with_rule}
+use Rattle.gu_words.specs.CommandLine.{lines_rule, needed}
 use Rattle.gu_words.proofs.WordLemmas.{last_word_added, word_added}
 use Rattle.gu_words.proofs.commands.tell_command.Goals as goal
 

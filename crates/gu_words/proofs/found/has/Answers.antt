@@ -1,4 +1,6 @@
-use Rattle.gu_words.proofs.Words.{◌∙◌, ap, is_some, found_of, first_value-rows}
+use Rattle.std.proofs.Common.{◌∙◌, ap, is_some}
+use Rattle.clap.specs.Words.{found_of}
+use Rattle.clap.proofs.WalkLemmas.{first_value-rows}
 use Rattle.gu_words.proofs.WordLemmas.{is_some-text}
 use Rattle.gu_words.proofs.found.has.Goals as goal
 

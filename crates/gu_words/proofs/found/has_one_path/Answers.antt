@@ -1,4 +1,7 @@
-use Rattle.gu_words.proofs.Words.{◌∙◌, codes, found_of, first_value-rows, is_one_path}
+use Rattle.std.proofs.Common.{◌∙◌, codes}
+use Rattle.clap.specs.Words.{found_of}
+use Rattle.clap.proofs.WalkLemmas.{first_value-rows}
+use Rattle.gu_words.specs.Misfits.{is_one_path}
 use Rattle.gu_words.proofs.found.has_one_path.Goals as goal
 
 pub returns-in-Some-Some : goal.returns-in-Some-Some

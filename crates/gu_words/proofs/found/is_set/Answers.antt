@@ -1,4 +1,8 @@
-use Rattle.gu_words.proofs.Words.{◌∙◌, ap, Bool, false, codes, Option, option_map_or, bytes_eq, Text, found_of, first_value-rows}
+use Rattle.std.proofs.Common.{◌∙◌, ap, Bool, false, codes, Option}
+use Rattle.std.specs.Option.{option_map_or}
+use Rattle.std.specs.Str.{bytes_eq}
+use Rattle.clap.specs.Words.{Text, found_of}
+use Rattle.clap.proofs.WalkLemmas.{first_value-rows}
 use Rattle.gu_words.proofs.found.is_set.Goals as goal
 
 abbrev is_true : Option Text → Bool

@@ -1,4 +1,8 @@
-use Rattle.gu_words.proofs.Words.{◌∙◌, ap, codes, Option, Some, Bool, option_map, Text, found_of, rows_of, first_value-rows, Keeping, is_set}
+use Rattle.std.proofs.Common.{◌∙◌, ap, codes, Option, Some, Bool}
+use Rattle.std.specs.Option.{option_map}
+use Rattle.clap.specs.Words.{Text, found_of, rows_of}
+use Rattle.clap.proofs.WalkLemmas.{first_value-rows}
+use Rattle.gu_words.specs.ProgramWords.{Keeping, is_set}
 use Rattle.gu_words.proofs.found.journal_in.Goals as goal
 
 abbrev kept_at : Bool → Bool → Option Text → Option Keeping

@@ -1,6 +1,8 @@
-use Rattle.gu_words.proofs.Words.{◌∙◌, ap, List, [], codes, map, unwrap_or, Option, Text, found_of, raw_values-rows}
+use Rattle.std.proofs.Common.{◌∙◌, ap, List, [], codes, map, unwrap_or, Option}
 use Rattle.std.specs.Borrow.{Bor}
 use Rattle.std.proofs.lemmas.Result.{IfOk-weaker}
+use Rattle.clap.specs.Words.{Text, found_of}
+use Rattle.clap.proofs.WalkLemmas.{raw_values-rows}
 use Rattle.gu_words.proofs.found.lines_in.Goals as goal
 
 abbrev texts_of : List (Bor Text) → List Text

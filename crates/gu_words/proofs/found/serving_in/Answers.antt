@@ -1,4 +1,6 @@
-use Rattle.gu_words.proofs.Words.{◌∙◌, codes, found_of, rows_of, first_value-rows}
+use Rattle.std.proofs.Common.{◌∙◌, codes}
+use Rattle.clap.specs.Words.{found_of, rows_of}
+use Rattle.clap.proofs.WalkLemmas.{first_value-rows}
 use Rattle.gu_words.proofs.WordLemmas.{asks_to_serve, numbered}
 use Rattle.gu_words.proofs.found.serving_in.Goals as goal
 

@@ -1,4 +1,7 @@
-use Rattle.gu_words.proofs.Words.{◌∙◌, sym, codes, found_of, rows_of, first_value-rows, text_of}
+use Rattle.std.proofs.Common.{◌∙◌, sym, codes}
+use Rattle.clap.specs.Words.{found_of, rows_of}
+use Rattle.clap.proofs.WalkLemmas.{first_value-rows}
+use Rattle.gu_words.specs.ProgramWords.{text_of}
 use Rattle.gu_words.proofs.WordLemmas.{counts, few_connections, numbered}
 use Rattle.gu_words.proofs.found.span_in.Goals as goal
 

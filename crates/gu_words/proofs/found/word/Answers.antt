@@ -1,4 +1,6 @@
-use Rattle.gu_words.proofs.Words.{◌∙◌, ap, [], unwrap_or, Option, Text, found_of, first_value-rows}
+use Rattle.std.proofs.Common.{◌∙◌, ap, [], unwrap_or, Option}
+use Rattle.clap.specs.Words.{Text, found_of}
+use Rattle.clap.proofs.WalkLemmas.{first_value-rows}
 use Rattle.gu_words.proofs.WordLemmas.{unwrap_or-text}
 use Rattle.gu_words.proofs.found.word.Goals as goal
 

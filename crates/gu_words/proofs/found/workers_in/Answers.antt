@@ -1,4 +1,8 @@
-use Rattle.gu_words.proofs.Words.{◌≡◌, ◌∙◌, ap, sym, subst, codes, IfSome, Option, Some, option_map, IsUnsignedIn, Text, first_of, found_of, rows_of, first_value-rows, number_of}
+use Rattle.std.proofs.Common.{◌≡◌, ◌∙◌, ap, sym, subst, codes, IfSome, Option, Some}
+use Rattle.std.specs.Option.{option_map}
+use Rattle.clap.specs.Words.{IsUnsignedIn, Text, first_of, found_of, rows_of}
+use Rattle.clap.proofs.WalkLemmas.{first_value-rows}
+use Rattle.gu_words.specs.ProgramWords.{number_of}
 use Rattle.gu_words.proofs.found.workers_in.Goals as goal
 
 pub returns-in-Some-clause-number : goal.returns-in-Some-clause-number

@@ -1,4 +1,7 @@
-use Rattle.gu_words.proofs.Words.{◌≡◌, ◌∙◌, ◌<◌, ◌||◌, ℕ, Bool, List, ◌∷◌, codes, true, false, sym, ap, map, drop, length, suc, get_or, add-one, drop-cons, bytes_eq, Text, has_until_closed}
+use Rattle.std.proofs.Common.{◌≡◌, ◌∙◌, ◌<◌, ◌||◌, ℕ, Bool, List, ◌∷◌, codes, true, false, sym, ap, map, drop, length, suc, get_or, add-one, drop-cons}
+use Rattle.std.specs.Str.{bytes_eq}
+use Rattle.clap.specs.Words.{Text}
+use Rattle.gu_words.specs.CommandLine.{has_until_closed}
 use Rattle.gu_words.proofs.words.has_until_closed.Goals as goal
 
 -- what is left begins with one word

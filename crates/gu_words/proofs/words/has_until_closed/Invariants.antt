@@ -1,4 +1,5 @@
-use Rattle.gu_words.proofs.Words.{◌≡◌, drop, map, has_until_closed}
+use Rattle.std.proofs.Common.{◌≡◌, drop, map}
+use Rattle.gu_words.specs.CommandLine.{has_until_closed}
 use Rattle.gu_words.proofs.words.has_until_closed.Given as goal
 
 -- what is left has it if all words have it

@@ -1,5 +1,7 @@
-use Rattle.gu_words.proofs.Words.{arith, ◌≡◌, codes, List, Some, sym, option_map, Row, Text, found_of, rows_of, subcommand_rows_of}
+use Rattle.std.proofs.Common.{arith, ◌≡◌, codes, List, Some, sym}
 use Rattle.std.proofs.lemmas.Grind.{common_steps}
+use Rattle.std.specs.Option.{option_map}
+use Rattle.clap.specs.Words.{Row, Text, found_of, rows_of, subcommand_rows_of}
 use Rattle.gu_words.proofs.WordLemmas.{misfit_read}
 use Rattle.gu_words.proofs.words.misfit_of.Goals as goal
 

@@ -1,5 +1,11 @@
-use Rattle.gu_words.proofs.Words.{◌≡◌, ap, ◌∙◌, sym, subst, [], List, Option, map, FailsBy, Kinds, or_else, App, HasKind, Row, Text, fault_of, is_simple, is_simple_and_free, subcommand_of, subcommand_rows_of, takes, both, program, says_until_closed, kinds_of, misfit_of, refusals_of, Captures, Checks, IsCounted, command_in, wanted_by, wanted_in}
+use Rattle.std.proofs.Common.{◌≡◌, ap, ◌∙◌, sym, subst, [], List, Option, map}
 use Rattle.std.proofs.lemmas.Result.{IfOk-weaker, err_from_is_err_and}
+use Rattle.clap.specs.Kinds.{FailsBy, Kinds, or_else}
+use Rattle.clap.specs.Words.{App, HasKind, Row, Text, fault_of, is_simple, is_simple_and_free, subcommand_of, subcommand_rows_of, takes}
+use Rattle.clap.proofs.WalkLemmas.{both}
+use Rattle.gu_words.specs.CommandLine.{program, says_until_closed}
+use Rattle.gu_words.specs.Misfits.{kinds_of, misfit_of, refusals_of}
+use Rattle.gu_words.specs.ProgramWords.{Captures, Checks, IsCounted, command_in, wanted_by, wanted_in}
 use Rattle.gu_words.proofs.ServeLemmas.{numbers_read}
 use Rattle.gu_words.proofs.WordLemmas.{first_kinds, no_refusals-check, no_refusals-name, read_unless_memory, simple-program, takes-name, takes-check, wanted_by-check, wanted_by-name, within_where_read}
 use Rattle.gu_words.proofs.words.read.Goals as goal

@@ -1,5 +1,9 @@
-use Rattle.gu_words.proofs.Words.{arith, ◌≡◌, codes, Some, sym, ◌∙◌, List, option_map, Row, Text, first_of, found_of, rows_of, subcommand_rows_of, first_value-rows, wanted_of}
+use Rattle.std.proofs.Common.{arith, ◌≡◌, codes, Some, sym, ◌∙◌, List}
 use Rattle.std.proofs.lemmas.Grind.{common_steps}
+use Rattle.std.specs.Option.{option_map}
+use Rattle.clap.specs.Words.{Row, Text, first_of, found_of, rows_of, subcommand_rows_of}
+use Rattle.clap.proofs.WalkLemmas.{first_value-rows}
+use Rattle.gu_words.specs.ProgramWords.{wanted_of}
 use Rattle.gu_words.specs.declared.words.Task.TheVariants.{Serve}
 use Rattle.gu_words.proofs.WordLemmas.{fixes, issues, replays, serves}
 use Rattle.gu_words.proofs.words.task_of.Goals as goal
