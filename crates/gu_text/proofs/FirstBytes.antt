@@ -1,8 +1,11 @@
 -- The first byte that passes a test, found by a loop or a search.
-use Rattle.gu_text.proofs.Words.{◌≡◌, ◌<◌, ℕ, Bool, true, false, List, Option, None, Some, length, position, slice_index_or, refl, sym, ap, ◌∙◌, arith, nat_lt, nat_eq, cond, not, map, replicate, ◌≤◌, ◌%◌, ◌^◌, w8, w64, position_or_len, prefix_len, cond-true, cond-false, le-ltb, lt-ltb, position_or_len_is}
+use Rattle.std.proofs.Common.{◌≡◌, ◌<◌, ℕ, Bool, true, false, List, Option, None, Some, length, position, slice_index_or, refl, sym, ap, ◌∙◌, arith, nat_lt, nat_eq, cond, not, map, replicate, ◌≤◌, ◌%◌, ◌^◌, w8, w64}
 use lib.Lanes.{chunk, zip2, mask_l, top}
 use Rattle.std.specs.Int.{trailing_zeros}
+use Rattle.std.specs.List.{position_or_len, prefix_len}
 use Rattle.std.proofs.lemmas.Simd.{bitmask_splat, first_set_mask_l, length-chunk}
+use Rattle.std.proofs.lemmas.Bool.{cond-true, cond-false, le-ltb, lt-ltb}
+use Rattle.std.proofs.lemmas.List.Sums.{position_or_len_is}
 use Rattle.memchr.specs.Find.{IsFirstByte}
 
 -- the index of the lowest set bit, or 8

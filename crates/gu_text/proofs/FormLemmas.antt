@@ -1,8 +1,29 @@
 -- Script lines, form by form.
-use Rattle.gu_text.proofs.Words.{◌≡◌, ◌≢◌, ◌⊎◌, ◌++◌, ◌∷◌, [], ◌∙◌, ◌↔◌, ℕ, Bool, true, false, cond, List, Option, None, Some, IsTrue, IsSome, IfSome, MatchOption, refl, sym, ap, subst, inl, inr, append_assoc, codes, ℤ, find, AllByRecursion, option_and_then, bytes_eq, WritesDay, key_of, keys_named, kind_of, name_of_key, IsId, is_name, MeansLots, MeansPrice, AccountId, ReportSide, SetLimit, Day, FirmId, Group, LimitKey, Line as GiveUpLine, Side, Symbol, Enter, ReadsLines, WriteNone, WritesLine, WritesNoLine, WriteLines, Writes, side_word, key_said, name_of, number_of}
+use Rattle.std.proofs.Common.{◌≡◌, ◌≢◌, ◌⊎◌, ◌++◌, ◌∷◌, [], ◌∙◌, ◌↔◌, ℕ, Bool, true, false, cond, List, Option, None, Some, IsTrue, IsSome, IfSome, MatchOption, refl, sym, ap, subst, inl, inr, append_assoc}
+use Rattle.std.specs.Prelude.{codes, ℤ}
+use Rattle.std.specs.List.{find, AllByRecursion}
+use Rattle.std.specs.Option.{option_and_then}
+use Rattle.std.specs.Str.{bytes_eq}
 use Rattle.std.proofs.lemmas.List.{append-nil}
 use Rattle.std.proofs.lemmas.Slice.Eq.{bytes_eq-Decides}
+use Rattle.gu_terms.specs.Days.{WritesDay}
+use Rattle.gu_terms.specs.LimitKeys.{key_of, keys_named, kind_of, name_of_key}
 use Rattle.gu_terms.specs.Lines.{AreLines}
+use Rattle.gu_terms.specs.Names.{IsId, is_name}
+use Rattle.gu_terms.specs.NumberText.{MeansLots, MeansPrice}
+use Rattle.gu_terms.specs.declared.account.AccountId.{AccountId}
+use Rattle.gu_terms.specs.declared.command.Command.TheVariants.{ReportSide, SetLimit}
+use Rattle.gu_terms.specs.declared.day.Day.{Day}
+use Rattle.gu_terms.specs.declared.firm.FirmId.{FirmId}
+use Rattle.gu_terms.specs.declared.group.Group.{Group}
+use Rattle.gu_terms.specs.declared.limit_key.LimitKey.{LimitKey}
+use Rattle.gu_terms.specs.declared.lines.Line.{Line as GiveUpLine}
+use Rattle.gu_terms.specs.declared.side.Side.{Side}
+use Rattle.gu_terms.specs.declared.symbol.Symbol.{Symbol}
+use Rattle.gu_world.specs.declared.step.Step.TheVariants.{Enter}
+use Rattle.gu_text.specs.ScriptForms.{ReadsLines, WriteNone, WritesLine, WritesNoLine}
+use Rattle.gu_text.specs.Scripts.{WriteLines, Writes, side_word}
+use Rattle.gu_text.specs.SheetLines.{key_said, name_of, number_of}
 use Rattle.gu_text.specs.declared.script_forms.Form.TheVariants as form
 use Rattle.gu_text.specs.declared.script_line.Line.TheVariants as line
 use Rattle.gu_text.proofs.OneMeaning.{one_account, one_lots}

@@ -1,10 +1,13 @@
 -- Words as a line, with the first word first.
-use Rattle.gu_text.proofs.Words.{◌≡◌, ◌≤◌, ◌++◌, ◌∷◌, [], ℕ, List, length, refl, arith, LimitKey, path_words, word, line_of}
+use Rattle.std.proofs.Common.{◌≡◌, ◌≤◌, ◌++◌, ◌∷◌, [], ℕ, List, length, refl, arith}
+use Rattle.gu_terms.specs.declared.limit_key.LimitKey.{LimitKey}
 use Rattle.gu_terms.specs.declared.reply.Reply.{Reply}
 use Rattle.gu_terms.specs.declared.reply.Reply.TheVariants.{Accepted, Denied}
 use Rattle.gu_view.specs.declared.error.Unknown.{Unknown}
 use Rattle.gu_view.specs.declared.error.Unknown.TheVariants.{Key, Offer}
 use Rattle.gu_text.specs.Replies.{reply_words}
+use Rattle.gu_text.specs.SheetText.{path_words}
+use Rattle.gu_text.specs.Texts.{word, line_of}
 use Rattle.gu_text.specs.Verdicts.{lacking_words}
 
 -- a reply has words

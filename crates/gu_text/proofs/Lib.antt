@@ -23,4 +23,3 @@ mod WordLemmas
 pub mod Writable
 pub mod WrittenCommandLemmas
 pub mod WrittenTakes
-pub mod Words

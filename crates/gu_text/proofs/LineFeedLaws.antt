@@ -1,6 +1,16 @@
 -- Laws of the lines of a text that is still arriving, for the crates above: an ended line stays, whatever follows.
-use Rattle.gu_text.proofs.Words.{◌≡◌, ◌≢◌, ◌<◌, ◌≤◌, ◌+◌, ◌-◌, ◌∷◌, [], ◌++◌, ◌∙◌, ◌==◌, ◌⊎◌, ℕ, Bool, true, false, List, None, Some, length, take, drop, position, nat_lt, get_or, refl, sym, ap, subst, arith, append_assoc, append-nil, length-append, inl, inr, cond, All, slice_index, slice_split, position_or_len, lines, lines_of_parts, strip_carriage_return, ne_eqb, eqb-true, length-take-le, get_or-take, fails_before_first, passes_at_first, split_at_first, cond_some, All-append, All-cons, All-nil, slice_split_none, slice_split_at, length-slice_split, longest_line, HasNoLineFeed, IsParted, IsTooLong, LeavesOpen, ended_lines, ended_parts}
-use Rattle.std.proofs.lemmas.List.{length-take}
+use Rattle.std.proofs.Common.{◌≡◌, ◌≢◌, ◌<◌, ◌≤◌, ◌+◌, ◌-◌, ◌∷◌, [], ◌++◌, ◌∙◌, ◌==◌, ◌⊎◌, ℕ, Bool, true, false, List, None, Some, length, take, drop, position, nat_lt, get_or, refl, sym, ap, subst, arith, append_assoc, append-nil, length-append, inl, inr, cond}
+use Rattle.std.specs.Prelude.{All, slice_index}
+use Rattle.std.specs.List.{slice_split, position_or_len}
+use Rattle.std.specs.Str.Lines.{lines, lines_of_parts, strip_carriage_return}
+use Rattle.std.proofs.lemmas.Bool.{ne_eqb, eqb-true}
+use Rattle.std.proofs.lemmas.List.{length-take, length-take-le, get_or-take}
+use Rattle.std.proofs.lemmas.List.Sums.{fails_before_first, passes_at_first, split_at_first}
+use Rattle.std.proofs.lemmas.Option.{cond_some}
+use Rattle.std.proofs.lemmas.List.Elements.{All-append, All-cons, All-nil}
+use Rattle.std.proofs.lemmas.List.Splits.{slice_split_none, slice_split_at, length-slice_split}
+use Rattle.gu_text.specs.Lines.{longest_line}
+use Rattle.gu_text.specs.LineFeeds.{HasNoLineFeed, IsParted, IsTooLong, LeavesOpen, ended_lines, ended_parts}
 use Rattle.gu_text.proofs.LineLemmas.{first_of_parts, last_part}
 
 -- ---- parts between LFs

@@ -1,5 +1,7 @@
 -- The lines of a text, one after another.
-use Rattle.gu_text.proofs.Words.{◌≡◌, ◌≢◌, ◌<◌, ◌∷◌, [], ◌==◌, ℕ, List, length, refl, arith, ne_eqb, cond-false, lines_of_parts, strip_carriage_return}
+use Rattle.std.proofs.Common.{◌≡◌, ◌≢◌, ◌<◌, ◌∷◌, [], ◌==◌, ℕ, List, length, refl, arith}
+use Rattle.std.proofs.lemmas.Bool.{ne_eqb, cond-false}
+use Rattle.std.specs.Str.Lines.{lines_of_parts, strip_carriage_return}
 
 -- the first of some parts is a line without its CR
 pub first_of_parts : (part : List ℕ) (parts : List (List ℕ)) → 0 < length parts → lines_of_parts (part ∷ parts) ≡ strip_carriage_return part ∷ lines_of_parts parts

@@ -1,6 +1,12 @@
 -- Words of digits.
-use Rattle.gu_text.proofs.Words.{◌≡◌, ◌<◌, ◌≤◌, ◌&&◌, ◌∷◌, [], ◌∙◌, ℕ, Bool, true, false, List, Option, None, Some, length, MatchOption, nat_le, cond, IsTrue, ◌↔◌, inl, inr, refl, sym, ap, arith, is_digit, list_all, AllDigits, digits_value, and_parts, cases_Bool, pow-le-pow_right, is_number, number_of}
+use Rattle.std.proofs.Common.{◌≡◌, ◌<◌, ◌≤◌, ◌&&◌, ◌∷◌, [], ◌∙◌, ℕ, Bool, true, false, List, Option, None, Some, length, MatchOption, nat_le, cond, IsTrue, ◌↔◌, inl, inr, refl, sym, ap, arith}
+use Rattle.std.specs.Char.{is_digit}
+use Rattle.std.specs.List.{list_all}
+use Rattle.std.specs.Str.Parse.{AllDigits, digits_value}
 use Rattle.std.proofs.lemmas.Int.Digits.{digits_value-lt}
+use Rattle.std.proofs.lemmas.Bool.{and_parts, cases_Bool}
+use Rattle.std.proofs.Math.Nat.{pow-le-pow_right}
+use Rattle.gu_text.specs.SheetLines.{is_number, number_of}
 
 -- bytes that pass the test are digits
 pub digits_from_test : (word : List ℕ) → list_all (λ byte. is_digit byte 10) word ≡ true → AllDigits 10 word

@@ -1,10 +1,19 @@
 -- A set of offers, with one bit for each.
-use Rattle.gu_text.proofs.Words.{◌≡◌, ◌≢◌, ◌<◌, ◌*◌, ◌/◌, ◌%◌, ◌^◌, ◌==◌, ◌||◌, ◌∙◌, ◌∷◌, ◌++◌, [], ℕ, Bool, true, false, List, length, get_or, map, nat_eq, bit_or, refl, sym, ap, inl, inr, arith, w64, IsDistinct, list_any, IsDistinct-push, eq-eqb, ne_eqb, eqb_tells, get_or-set_other, map-append, get_or-set_at, has_number, Take, is_marked, MarksOffers}
+use Rattle.std.proofs.Common.{◌≡◌, ◌≢◌, ◌<◌, ◌*◌, ◌/◌, ◌%◌, ◌^◌, ◌==◌, ◌||◌, ◌∙◌, ◌∷◌, ◌++◌, [], ℕ, Bool, true, false, List, length, get_or, map, nat_eq, bit_or, refl, sym, ap, inl, inr, arith, w64}
 use Rattle.std.proofs.Math.ListN.{set}
 use Rattle.std.specs.Int.{bit_at}
+use Rattle.std.specs.List.{IsDistinct, list_any}
 use Rattle.std.proofs.lemmas.Cmp.{nat_eq_equiv}
 use Rattle.std.proofs.lemmas.List.Folds.{list_any-append}
+use Rattle.std.proofs.lemmas.Map.Keys.{IsDistinct-push}
+use Rattle.std.proofs.lemmas.Bool.{eq-eqb, ne_eqb}
+use Rattle.std.proofs.lemmas.Bool.Decides.{eqb_tells}
+use Rattle.std.proofs.lemmas.List.{get_or-set_other, map-append}
+use Rattle.std.proofs.lemmas.Grind.{get_or-set_at}
 use Rattle.std.proofs.lemmas.Nat.Bits.{bit_at_set_same, bit_at_set_other}
+use Rattle.gu_terms.specs.Cuts.{has_number}
+use Rattle.gu_terms.specs.declared.takes.Take.{Take}
+use Rattle.gu_text.specs.OfferSets.{is_marked, MarksOffers}
 
 or_false : (b : Bool) → (b || false) ≡ b
 or_false true = refl

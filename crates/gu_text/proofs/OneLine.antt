@@ -1,5 +1,9 @@
 -- A script line says at most one thing.
-use Rattle.gu_text.proofs.Words.{◌≡◌, ◌∷◌, [], ◌∙◌, ℕ, List, Some, refl, sym, ap, subst, WritesDay, kind_of, name_of_key, MeansLots, MeansPrice, OpenDay, SetLimit, ReportSide, GiveUp, Claim, Refuse, Reverse, AccountId, Group, Line as GiveUpLine, Symbol, Enter, See, Propose, Commit, form_begun, form_of, form_word, Says, WriteLines, Writes, side_word, number_of, offer_no_of}
+use Rattle.std.proofs.Common.{◌≡◌, ◌∷◌, [], ◌∙◌, ℕ, List, Some, refl, sym, ap, subst}
+use Rattle.gu_terms.specs.Days.{WritesDay}
+use Rattle.gu_terms.specs.LimitKeys.{kind_of, name_of_key}
+use Rattle.gu_terms.specs.NumberText.{MeansLots, MeansPrice}
+use Rattle.gu_terms.specs.declared.command.Command.TheVariants.{OpenDay, SetLimit, ReportSide, GiveUp, Claim, Refuse, Reverse}
 use Rattle.gu_terms.specs.declared.command.Reverse.{Reverse as ReverseOf}
 use Rattle.gu_terms.specs.declared.command.Refuse.{Refuse as RefuseOf}
 use Rattle.gu_terms.specs.declared.command.Claim.{Claim as ClaimOf}
@@ -7,6 +11,14 @@ use Rattle.gu_terms.specs.declared.command.GiveUp.{GiveUp as GiveUpOf}
 use Rattle.gu_terms.specs.declared.command.ReportSide.{ReportSide as ReportSideOf}
 use Rattle.gu_terms.specs.declared.command.SetLimit.{SetLimit as SetLimitOf}
 use Rattle.gu_terms.specs.declared.command.OpenDay.{OpenDay as OpenDayOf}
+use Rattle.gu_terms.specs.declared.account.AccountId.{AccountId}
+use Rattle.gu_terms.specs.declared.group.Group.{Group}
+use Rattle.gu_terms.specs.declared.lines.Line.{Line as GiveUpLine}
+use Rattle.gu_terms.specs.declared.symbol.Symbol.{Symbol}
+use Rattle.gu_world.specs.declared.step.Step.TheVariants.{Enter, See, Propose, Commit}
+use Rattle.gu_text.specs.ScriptForms.{form_begun, form_of, form_word}
+use Rattle.gu_text.specs.Scripts.{Says, WriteLines, Writes, side_word}
+use Rattle.gu_text.specs.SheetLines.{number_of, offer_no_of}
 use Rattle.gu_text.specs.declared.script_forms.Form.{Form}
 use Rattle.gu_text.specs.declared.script_forms.Form.TheVariants as form
 use Rattle.gu_text.specs.declared.script_line.Line.{Line}

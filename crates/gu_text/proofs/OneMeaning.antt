@@ -1,11 +1,26 @@
 -- A word means at most one thing.
-use Rattle.gu_text.proofs.Words.{◌≡◌, ◌∙◌, ◌<◌, ◌/◌, ◌^◌, ℕ, ℤ, pos, zero, suc, true, List, Some, length, refl, sym, ap, arith, bytes_eq, mul-div_cancel, pow-succ', WritesDay, kind_of, name_of_key, Means, MeansLots, MeansPrice, with_sign, fraction_digits, AccountId, Day, FirmId, Group, LimitKey, Exec, Agr, Acct, Carry, Guar, Side, Symbol, side_word, number_of}
+use Rattle.std.proofs.Common.{◌≡◌, ◌∙◌, ◌<◌, ◌/◌, ◌^◌, ℕ, ℤ, pos, zero, suc, true, List, Some, length, refl, sym, ap, arith}
+use Rattle.std.specs.Str.{bytes_eq}
 use Rattle.std.proofs.lemmas.Slice.Eq.{bytes_eq-Decides}
+use Rattle.std.proofs.Math.Nat.{mul-div_cancel, pow-succ'}
 use Rattle.gu_terms.proofs.SameValues.{same_date}
 use Rattle.gu_terms.specs.AllocRejects.{reject_number}
+use Rattle.gu_terms.specs.Days.{WritesDay}
+use Rattle.gu_terms.specs.LimitKeys.{kind_of, name_of_key}
+use Rattle.gu_terms.specs.NumberText.{Means, MeansLots, MeansPrice, with_sign, fraction_digits}
+use Rattle.gu_terms.specs.declared.account.AccountId.{AccountId}
 use Rattle.gu_terms.specs.declared.alloc_reject.AllocReject.{AllocReject}
 use Rattle.gu_terms.specs.declared.alloc_reject.AllocReject.TheVariants.{BlockLevel, AccountLevel, Intermediary}
+use Rattle.gu_terms.specs.declared.day.Day.{Day}
+use Rattle.gu_terms.specs.declared.firm.FirmId.{FirmId}
+use Rattle.gu_terms.specs.declared.group.Group.{Group}
+use Rattle.gu_terms.specs.declared.limit_key.LimitKey.{LimitKey}
+use Rattle.gu_terms.specs.declared.limit_key.LimitKey.TheVariants.{Exec, Agr, Acct, Carry, Guar}
+use Rattle.gu_terms.specs.declared.side.Side.{Side}
 use Rattle.gu_terms.specs.declared.side.Side.TheVariants.{Buy, Sell}
+use Rattle.gu_terms.specs.declared.symbol.Symbol.{Symbol}
+use Rattle.gu_text.specs.Scripts.{side_word}
+use Rattle.gu_text.specs.SheetLines.{number_of}
 
 ten_to_positive : (k : ℕ) → 0 < 10 ^ k
 ten_to_positive zero = omega arith

@@ -1,5 +1,20 @@
 -- Reading a sheet piece by piece.
-use Rattle.gu_text.proofs.Words.{◌≡◌, ◌≢◌, ◌∙◌, ℕ, ◌+◌, ◌<◌, ◌≤◌, Bool, true, false, ◌&&◌, ◌||◌, ◌==◌, nat_le, nat_lt, List, [], ◌∷◌, ◌++◌, None, Some, length, slice_get, take, Result, Ok, Err, IfErr, IfOk, IsErrAnd, refl, sym, ap, subst, append_assoc, append-nil, length-append, arith, inl, inr, lines, strip_carriage_return, cond-false, cond-true, lt-ltb, or_left, All-nil, HasNoLineFeed, IsParted, LeavesOpen, is_silent, longest_line, IsReadTo, said_by, says, spoken, is_ragged, words_of, IsBadHowever, IsReadSoFar, IsReadUpTo, IsReadWhole, SheetPlace, SheetParts, AreRight, IsFirstBad, IsRightAfter, IsSheet, Refuses, said_in, TextError, Memory, BadLine, Sheet, SheetLine}
+use Rattle.std.proofs.Common.{◌≡◌, ◌≢◌, ◌∙◌, ℕ, ◌+◌, ◌<◌, ◌≤◌, Bool, true, false, ◌&&◌, ◌||◌, ◌==◌, nat_le, nat_lt, List, [], ◌∷◌, ◌++◌, None, Some, length, slice_get, take, Result, Ok, Err, IfErr, IfOk, IsErrAnd, refl, sym, ap, subst, append_assoc, append-nil, length-append, arith, inl, inr}
+use Rattle.std.specs.Str.Lines.{lines, strip_carriage_return}
+use Rattle.std.proofs.lemmas.Bool.{cond-false, cond-true, lt-ltb, or_left}
+use Rattle.std.proofs.lemmas.List.Elements.{All-nil}
+use Rattle.gu_text.specs.LineFeeds.{HasNoLineFeed, IsParted, LeavesOpen}
+use Rattle.gu_text.specs.Lines.{is_silent, longest_line}
+use Rattle.gu_text.specs.Reading.{IsReadTo}
+use Rattle.gu_text.specs.SheetLines.{said_by, says, spoken}
+use Rattle.gu_text.specs.Words.{is_ragged, words_of}
+use Rattle.gu_text.specs.SheetPieces.{IsBadHowever, IsReadSoFar, IsReadUpTo, IsReadWhole, SheetPlace}
+use Rattle.gu_text.specs.SheetParts.{SheetParts}
+use Rattle.gu_text.specs.Sheets.{AreRight, IsFirstBad, IsRightAfter, IsSheet, Refuses, said_in}
+use Rattle.gu_text.specs.declared.error.TextError.{TextError}
+use Rattle.gu_text.specs.declared.error.TextError.TheVariants.{Memory, BadLine}
+use Rattle.gu_text.specs.declared.sheet.Sheet.{Sheet}
+use Rattle.gu_text.specs.declared.sheet_line.SheetLine.{SheetLine}
 use Rattle.gu_text.specs.declared.sheet_so_far.SheetSoFar.{SheetSoFar}
 use Rattle.gu_text.specs.declared.sheet_so_far.SheetSoFar.TheVariants.{Open, Ended}
 use Rattle.gu_text.proofs.LineFeedLaws.{leaves_all, leaves_after, leaves_on, leaves_with, lines-alone, lines-left, no_feed-append, parted_after, too_long}

@@ -1,5 +1,16 @@
 -- Written lines are read back.
-use Rattle.gu_text.proofs.Words.{◌≡◌, ◌≢◌, ◌≤◌, ◌+◌, ◌-◌, ◌++◌, ◌∷◌, [], ◌∙◌, ◌||◌, ◌==◌, ℕ, Bool, true, false, not, zero, suc, List, Option, length, filter, get_or, slice_get, take, refl, sym, ap, append_assoc, length-append, arith, All, AllByRecursion, flat_map, slice_split, option_map_or, lines, lines_of_parts, cond-false, get_or-append-add, All-append, All-tail, recursion_from_All, slice_split_at, slice_split_none, length-slice_split, joined, AreWords, HasLines, IsReadBack, IsWord, word, line_of, is_blank, is_blank_at, is_empty, words_of}
+use Rattle.std.proofs.Common.{◌≡◌, ◌≢◌, ◌≤◌, ◌+◌, ◌-◌, ◌++◌, ◌∷◌, [], ◌∙◌, ◌||◌, ◌==◌, ℕ, Bool, true, false, not, zero, suc, List, Option, length, filter, get_or, slice_get, take, refl, sym, ap, append_assoc, length-append, arith}
+use Rattle.std.specs.Prelude.{All}
+use Rattle.std.specs.List.{AllByRecursion, flat_map, slice_split}
+use Rattle.std.specs.Option.{option_map_or}
+use Rattle.std.specs.Str.Lines.{lines, lines_of_parts}
+use Rattle.std.proofs.lemmas.Bool.{cond-false}
+use Rattle.std.proofs.lemmas.List.{get_or-append-add}
+use Rattle.std.proofs.lemmas.List.Elements.{All-append, All-tail, recursion_from_All}
+use Rattle.std.proofs.lemmas.List.Splits.{slice_split_at, slice_split_none, length-slice_split}
+use Rattle.gu_text.specs.ReadBack.{joined, AreWords, HasLines, IsReadBack, IsWord}
+use Rattle.gu_text.specs.Texts.{word, line_of}
+use Rattle.gu_text.specs.Words.{is_blank, is_blank_at, is_empty, words_of}
 use Rattle.gu_text.proofs.LineLemmas.{first_of_parts}
 use Rattle.gu_text.proofs.WordLemmas.{kept}
 

@@ -1,9 +1,37 @@
 -- Written values are read back, and so are the lines of a sheet.
-use Rattle.gu_text.proofs.Words.{◌≡◌, ◌<◌, ◌≤◌, ◌*◌, ◌^◌, ◌∷◌, [], ◌∙◌, ◌||◌, ◌&&◌, ℕ, Bool, true, false, nat_le, nat_lt, List, Option, None, Some, IsTrue, length, map, get_or, refl, sym, ap, subst, inl, inr, length-append, arith, codes, if◌then◌else◌, is_digit, decimal, AllByRecursion, list_all, option_and_then, option_map, bytes_eq, AllDigits, digits_value, and_parts, cases_lt, cond-false, cond-true, le-leb, le-ltb, ne_eqb, All-from_recursion, AllPass-from_list_all, kind_of, name_of_key, is_name, is_name_byte, IsOfferNo, AccountId, FirmId, LimitKey, Exec, Agr, Acct, Carry, Guar, Take, GroupView, IsPath, ViewOffer, Room, is_silent, longest_line, AreWords, IsLineOf, IsWord, is_word_byte, joined, guarantor_said, is_number, key_said, name_of, number_of, offer_no_of, path_said, said_by, spoken, cut_key_words, cut_offer_words, head_words, offer_words, room_words, take_words, word, is_ragged, words_of, SheetLine}
+use Rattle.std.proofs.Common.{◌≡◌, ◌<◌, ◌≤◌, ◌*◌, ◌^◌, ◌∷◌, [], ◌∙◌, ◌||◌, ◌&&◌, ℕ, Bool, true, false, nat_le, nat_lt, List, Option, None, Some, IsTrue, length, map, get_or, refl, sym, ap, subst, inl, inr, length-append, arith}
+use Rattle.std.specs.Prelude.{codes, if◌then◌else◌}
+use Rattle.std.specs.Char.{is_digit}
+use Rattle.std.specs.Fmt.{decimal}
+use Rattle.std.specs.List.{AllByRecursion, list_all}
+use Rattle.std.specs.Option.{option_and_then, option_map}
+use Rattle.std.specs.Str.{bytes_eq}
+use Rattle.std.specs.Str.Parse.{AllDigits, digits_value}
+use Rattle.std.proofs.lemmas.Bool.{and_parts, cases_lt, cond-false, cond-true, le-leb, le-ltb, ne_eqb}
 use Rattle.std.proofs.lemmas.Fmt.{decimal_nonempty, digits_decimal, digits_value-decimal, length-decimal-le}
+use Rattle.std.proofs.lemmas.List.Elements.{All-from_recursion}
+use Rattle.std.proofs.lemmas.List.Sums.{AllPass-from_list_all}
 use Rattle.std.proofs.lemmas.Str.Parse.{IsNumeralModel, digit_from_value}
+use Rattle.gu_terms.specs.LimitKeys.{kind_of, name_of_key}
+use Rattle.gu_terms.specs.Names.{is_name, is_name_byte}
+use Rattle.gu_terms.specs.Numbers.{IsOfferNo}
 use Rattle.gu_terms.specs.Paths.{guarantor_key, path_through}
+use Rattle.gu_terms.specs.declared.account.AccountId.{AccountId}
 use Rattle.gu_terms.specs.declared.agreement.AgreementId.{AgreementId}
+use Rattle.gu_terms.specs.declared.firm.FirmId.{FirmId}
+use Rattle.gu_terms.specs.declared.limit_key.LimitKey.{LimitKey}
+use Rattle.gu_terms.specs.declared.limit_key.LimitKey.TheVariants.{Exec, Agr, Acct, Carry, Guar}
+use Rattle.gu_terms.specs.declared.takes.Take.{Take}
+use Rattle.gu_view.specs.View.{GroupView, IsPath}
+use Rattle.gu_view.specs.declared.view.ViewOffer.{ViewOffer}
+use Rattle.gu_view.specs.declared.view.Room.{Room}
+use Rattle.gu_text.specs.Lines.{is_silent, longest_line}
+use Rattle.gu_text.specs.ReadBack.{AreWords, IsLineOf, IsWord, is_word_byte, joined}
+use Rattle.gu_text.specs.SheetLines.{guarantor_said, is_number, key_said, name_of, number_of, offer_no_of, path_said, said_by, spoken}
+use Rattle.gu_text.specs.SheetText.{cut_key_words, cut_offer_words, head_words, offer_words, room_words, take_words}
+use Rattle.gu_text.specs.Texts.{word}
+use Rattle.gu_text.specs.Words.{is_ragged, words_of}
+use Rattle.gu_text.specs.declared.sheet_line.SheetLine.{SheetLine}
 use Rattle.gu_text.specs.declared.sheet_line.SheetLine.TheVariants as line
 use Rattle.gu_text.proofs.NumberLemmas.{digits_from_test, number_tested, test_from_digits}
 use Rattle.gu_text.proofs.ReadBackLemmas.{read_back}

@@ -1,7 +1,27 @@
 -- The lines of a written sheet are allowed in their order.
-use Rattle.gu_text.proofs.Words.{◌≡◌, ◌≤◌, ◌<◌, ◌||◌, ◌==◌, ◌++◌, ℕ, Bool, true, false, List, [], ◌∷◌, Option, Some, None, filter, map, refl, sym, ap, ◌∙◌, arith, append-nil, append_assoc, subst, inl, inr, AllByRecursion, cons_option, filter_map, lines, cases_Bool, le-leb, lt-ltb, ne_eqb, map-append, filter_map-append, Later, Later-from_AllPairs, CutLists, has_number, has_key, key_eq, lots_of, LimitKey, Take, MakesView, GroupView, IsView, ViewOffer, Room, IsWritable, joined, said_of, SheetParts, key_in, number_in, offer_in, part_of, parts_of, rank_of, room_in, take_in, sheet_text, AreRight, IsRightAfter, MayFollow, comes_after, is_repeated, said_in, SheetLine}
+use Rattle.std.proofs.Common.{◌≡◌, ◌≤◌, ◌<◌, ◌||◌, ◌==◌, ◌++◌, ℕ, Bool, true, false, List, [], ◌∷◌, Option, Some, None, filter, map, refl, sym, ap, ◌∙◌, arith, append-nil, append_assoc, subst, inl, inr}
+use Rattle.std.specs.List.{AllByRecursion, cons_option, filter_map}
+use Rattle.std.specs.Str.Lines.{lines}
+use Rattle.std.proofs.lemmas.Bool.{cases_Bool, le-leb, lt-ltb, ne_eqb}
+use Rattle.std.proofs.lemmas.List.{map-append}
+use Rattle.std.proofs.lemmas.List.Elements.{filter_map-append}
+use Rattle.gu_terms.proofs.Lists.{Later, Later-from_AllPairs}
+use Rattle.gu_terms.specs.Cuts.{CutLists, has_number}
+use Rattle.gu_terms.specs.LimitKeys.{has_key, key_eq}
+use Rattle.gu_terms.specs.Takes.{lots_of}
+use Rattle.gu_terms.specs.declared.limit_key.LimitKey.{LimitKey}
+use Rattle.gu_terms.specs.declared.takes.Take.{Take}
+use Rattle.gu_view.specs.Making.{MakesView}
+use Rattle.gu_view.specs.View.{GroupView, IsView}
+use Rattle.gu_view.specs.declared.view.ViewOffer.{ViewOffer}
+use Rattle.gu_view.specs.declared.view.Room.{Room}
+use Rattle.gu_text.specs.ReadBack.{IsWritable, joined, said_of}
+use Rattle.gu_text.specs.SheetParts.{SheetParts, key_in, number_in, offer_in, part_of, parts_of, rank_of, room_in, take_in}
+use Rattle.gu_text.specs.SheetText.{sheet_text}
+use Rattle.gu_text.specs.Sheets.{AreRight, IsRightAfter, MayFollow, comes_after, is_repeated, said_in}
 use Rattle.gu_text.specs.declared.sheet_line.Part.{Part}
 use Rattle.gu_text.specs.declared.sheet_line.Part.TheVariants as part
+use Rattle.gu_text.specs.declared.sheet_line.SheetLine.{SheetLine}
 use Rattle.gu_text.specs.declared.sheet_line.SheetLine.TheVariants as line
 use Rattle.gu_text.proofs.ReadBackLemmas.{lines_of_rows}
 use Rattle.gu_text.proofs.SheetBack.{Matches, matches_append, rows_are, rows_match, rows_of, said_rows, text_of_rows}

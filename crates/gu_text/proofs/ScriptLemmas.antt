@@ -1,5 +1,13 @@
 -- Reading a script line.
-use Rattle.gu_text.proofs.Words.{◌≡◌, ◌≢◌, ◌∷◌, [], ◌∙◌, ◌<◌, ◌≤◌, ℕ, true, false, List, Option, None, Some, length, MatchOption, IsErrOf, IsTrue, OnErr, Result, Ok, Err, refl, sym, ap, subst, arith, OpenDay, SetLimit, ReportSide, GiveUp, Claim, Refuse, Reverse, Enter, See, Propose, Commit, is_silent, longest_line, IsBegun, ReadsOver, ReadsWords, WriteNone, form_begun, form_of, form_word, IsBad, Says, Writes, is_ragged, words_of, TextError, BadLine, Memory}
+use Rattle.std.proofs.Common.{◌≡◌, ◌≢◌, ◌∷◌, [], ◌∙◌, ◌<◌, ◌≤◌, ℕ, true, false, List, Option, None, Some, length, MatchOption, IsErrOf, IsTrue, OnErr, Result, Ok, Err, refl, sym, ap, subst, arith}
+use Rattle.gu_terms.specs.declared.command.Command.TheVariants.{OpenDay, SetLimit, ReportSide, GiveUp, Claim, Refuse, Reverse}
+use Rattle.gu_world.specs.declared.step.Step.TheVariants.{Enter, See, Propose, Commit}
+use Rattle.gu_text.specs.Lines.{is_silent, longest_line}
+use Rattle.gu_text.specs.ScriptForms.{IsBegun, ReadsOver, ReadsWords, WriteNone, form_begun, form_of, form_word}
+use Rattle.gu_text.specs.Scripts.{IsBad, Says, Writes}
+use Rattle.gu_text.specs.Words.{is_ragged, words_of}
+use Rattle.gu_text.specs.declared.error.TextError.{TextError}
+use Rattle.gu_text.specs.declared.error.TextError.TheVariants.{BadLine, Memory}
 use Rattle.gu_text.specs.declared.script_forms.Form.{Form}
 use Rattle.gu_text.specs.declared.script_forms.Form.TheVariants as form
 use Rattle.gu_text.specs.declared.script_line.Line.{Line}

@@ -1,7 +1,30 @@
 -- A written sheet is read back as what it was made from; and a text is at most one sheet.
-use Rattle.gu_text.proofs.Words.{◌≡◌, ◌<◌, ◌≤◌, ◌==◌, ◌++◌, ℕ, nat_lt, List, [], ◌∷◌, Some, None, cond, filter, map, sum_by, refl, sym, ap, ◌∙◌, arith, append-nil, subst, inl, inr, AllByRecursion, last_or, lines, cases_Bool, eq-eqb, le-ltb, ltb-false, ne_eqb, IsPermutation-refl, sum_by-IsPermutation, sum_by-cons, AllPairs-from_Later, Later, Later-from_AllPairs, along, CutLists, has_number, has_key, lots_of, Take, view_of, GroupView, IsView, ViewOffer, Room, IsWritable, said_of, SheetParts, header_in, key_in, number_in, parts_of, take_in, sheet_text, AreTakes, IsSheet, Refuses, said_in, cut_of, sheet_of, takes_of, TextError, Memory, BadLine, Sheet, SheetLine}
+use Rattle.std.proofs.Common.{◌≡◌, ◌<◌, ◌≤◌, ◌==◌, ◌++◌, ℕ, nat_lt, List, [], ◌∷◌, Some, None, cond, filter, map, sum_by, refl, sym, ap, ◌∙◌, arith, append-nil, subst, inl, inr}
+use Rattle.std.specs.List.{AllByRecursion, last_or}
+use Rattle.std.specs.Str.Lines.{lines}
+use Rattle.std.proofs.lemmas.Bool.{cases_Bool, eq-eqb, le-ltb, ltb-false, ne_eqb}
+use Rattle.std.proofs.lemmas.List.Sorted.{IsPermutation-refl, sum_by-IsPermutation}
+use Rattle.std.proofs.lemmas.List.Sums.{sum_by-cons}
+use Rattle.gu_terms.proofs.Lists.{AllPairs-from_Later, Later, Later-from_AllPairs, along}
+use Rattle.gu_terms.specs.Cuts.{CutLists, has_number}
+use Rattle.gu_terms.specs.LimitKeys.{has_key}
+use Rattle.gu_terms.specs.Takes.{lots_of}
+use Rattle.gu_terms.specs.declared.takes.Take.{Take}
+use Rattle.gu_view.specs.Making.{view_of}
+use Rattle.gu_view.specs.View.{GroupView, IsView}
+use Rattle.gu_view.specs.declared.view.ViewOffer.{ViewOffer}
+use Rattle.gu_view.specs.declared.view.Room.{Room}
+use Rattle.gu_text.specs.ReadBack.{IsWritable, said_of}
+use Rattle.gu_text.specs.SheetParts.{SheetParts, header_in, key_in, number_in, parts_of, take_in}
+use Rattle.gu_text.specs.SheetText.{sheet_text}
+use Rattle.gu_text.specs.Sheets.{AreTakes, IsSheet, Refuses, said_in}
+use Rattle.gu_text.specs.WrittenSheets.{cut_of, sheet_of, takes_of}
+use Rattle.gu_text.specs.declared.error.TextError.{TextError}
+use Rattle.gu_text.specs.declared.error.TextError.TheVariants.{Memory, BadLine}
+use Rattle.gu_text.specs.declared.sheet.Sheet.{Sheet}
 use Rattle.gu_text.specs.declared.sheet_line.Header.{Header}
 use Rattle.gu_text.specs.declared.sheet_line.Part.TheVariants as part
+use Rattle.gu_text.specs.declared.sheet_line.SheetLine.{SheetLine}
 use Rattle.gu_text.specs.declared.sheet_line.SheetLine.TheVariants as line
 use Rattle.gu_text.proofs.RightLines.{given, given_to_numbers, nothing, offers_given, rooms_given, to_numbers, written_right}
 use Rattle.gu_text.proofs.SheetBack.{read_as_written}

@@ -1,5 +1,22 @@
 -- A written sheet is read back line by line.
-use Rattle.gu_text.proofs.Words.{◌≡◌, ◌++◌, ◌∷◌, [], ◌∙◌, ℕ, Bool, true, false, cond, List, Option, filter, map, get_or, refl, sym, ap, append-nil, codes, if◌then◌else◌, AllByRecursion, cons_option, flat_map, lines, flat_map-append, All-filter, recursion_from_All, CutLists, has_number, has_key, lots_of, Take, GroupView, ViewOffer, Room, AreWords, IsLineOf, IsReadAsWritten, IsWritable, joined, said_of, cut_key_line, cut_key_words, cut_offer_line, cut_offer_words, end_line, head_line, head_words, offer_line, offer_words, room_line, room_words, sheet_text, take_line, take_words, said_in, line_of, SheetLine}
+use Rattle.std.proofs.Common.{◌≡◌, ◌++◌, ◌∷◌, [], ◌∙◌, ℕ, Bool, true, false, cond, List, Option, filter, map, get_or, refl, sym, ap, append-nil}
+use Rattle.std.specs.Prelude.{codes, if◌then◌else◌}
+use Rattle.std.specs.List.{AllByRecursion, cons_option, flat_map}
+use Rattle.std.specs.Str.Lines.{lines}
+use Rattle.std.proofs.lemmas.Grind.{flat_map-append}
+use Rattle.std.proofs.lemmas.List.Elements.{All-filter, recursion_from_All}
+use Rattle.gu_terms.specs.Cuts.{CutLists, has_number}
+use Rattle.gu_terms.specs.LimitKeys.{has_key}
+use Rattle.gu_terms.specs.Takes.{lots_of}
+use Rattle.gu_terms.specs.declared.takes.Take.{Take}
+use Rattle.gu_view.specs.View.{GroupView}
+use Rattle.gu_view.specs.declared.view.ViewOffer.{ViewOffer}
+use Rattle.gu_view.specs.declared.view.Room.{Room}
+use Rattle.gu_text.specs.ReadBack.{AreWords, IsLineOf, IsReadAsWritten, IsWritable, joined, said_of}
+use Rattle.gu_text.specs.SheetText.{cut_key_line, cut_key_words, cut_offer_line, cut_offer_words, end_line, head_line, head_words, offer_line, offer_words, room_line, room_words, sheet_text, take_line, take_words}
+use Rattle.gu_text.specs.Sheets.{said_in}
+use Rattle.gu_text.specs.Texts.{line_of}
+use Rattle.gu_text.specs.declared.sheet_line.SheetLine.{SheetLine}
 use Rattle.gu_text.specs.declared.sheet_line.SheetLine.TheVariants as line
 use Rattle.gu_text.proofs.ReadBackLemmas.{lines_of_rows}
 use Rattle.gu_text.proofs.ReadLemmas.{cut_key_back, cut_offer_back, end_back, head_back, offer_back, room_back, take_back}

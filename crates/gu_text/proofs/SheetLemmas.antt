@@ -1,10 +1,28 @@
 -- Reading a sheet line by line.
-use Rattle.gu_text.proofs.Words.{◌≡◌, ◌≢◌, ◌<◌, ◌⊎◌, ◌++◌, ◌∷◌, [], ◌∙◌, ◌&&◌, ◌||◌, not, nat_lt, ℕ, Bool, true, false, cond, List, Option, None, Some, length, map, take, IsTrue, Result, Ok, Err, IsErrAnd, refl, ap, sym, subst, inl, inr, arith, length-append, length-take, filter_map, last_or, IfErr, IsErrOf, OnOk, option_map_or, option_or, option_to_list, cond-true, or_parts, ltb-false, ltb-true, map-append, take_all, take-append-le, same_Some, Take, MakesView, view_of, ViewOffer, Room, is_silent, says, spoken, SheetParts, part_of, header_in, offer_in, room_in, take_in, key_in, number_in, parts_of, MayFollow, IsRightAfter, AreRight, said_in, comes_after, is_repeated, fits_after, IsSheetOf, AreTakes, no_parts, with_line, with_text_line, with_kept, with_kept_line, kept, most_offers, most_rooms, more_offers, more_rooms, line_fits, is_end, is_ended, AreOpen, IsMadeOf, MakesNone, TextError, BadLine, Sheet, SheetLine}
-use Rattle.std.proofs.lemmas.List.{append-nil}
+use Rattle.std.proofs.Common.{◌≡◌, ◌≢◌, ◌<◌, ◌⊎◌, ◌++◌, ◌∷◌, [], ◌∙◌, ◌&&◌, ◌||◌, not, nat_lt, ℕ, Bool, true, false, cond, List, Option, None, Some, length, map, take, IsTrue, Result, Ok, Err, IsErrAnd, refl, ap, sym, subst, inl, inr, arith, length-append, length-take}
+use Rattle.std.specs.List.{filter_map, last_or}
+use Rattle.std.specs.Prelude.{IfErr, IsErrOf, OnOk}
+use Rattle.std.specs.Option.{option_map_or, option_or, option_to_list}
+use Rattle.std.proofs.lemmas.Bool.{cond-true, or_parts, ltb-false, ltb-true}
+use Rattle.std.proofs.lemmas.List.{append-nil, map-append, take_all, take-append-le}
+use Rattle.std.proofs.lemmas.Option.{same_Some}
 use Rattle.gu_terms.proofs.Gathered.{filter_map-last, last_or-given, last_or-last, push_each}
+use Rattle.gu_terms.specs.declared.takes.Take.{Take}
+use Rattle.gu_view.specs.Making.{MakesView, view_of}
+use Rattle.gu_view.specs.declared.view.ViewOffer.{ViewOffer}
+use Rattle.gu_view.specs.declared.view.Room.{Room}
+use Rattle.gu_text.specs.Lines.{is_silent}
+use Rattle.gu_text.specs.SheetLines.{says, spoken}
+use Rattle.gu_text.specs.SheetParts.{SheetParts, part_of, header_in, offer_in, room_in, take_in, key_in, number_in, parts_of}
+use Rattle.gu_text.specs.Sheets.{MayFollow, IsRightAfter, AreRight, said_in, comes_after, is_repeated, fits_after, IsSheetOf, AreTakes}
+use Rattle.gu_text.specs.Reading.{no_parts, with_line, with_text_line, with_kept, with_kept_line, kept, most_offers, most_rooms, more_offers, more_rooms, line_fits, is_end, is_ended, AreOpen, IsMadeOf, MakesNone}
+use Rattle.gu_text.specs.declared.error.TextError.{TextError}
+use Rattle.gu_text.specs.declared.error.TextError.TheVariants.{BadLine}
+use Rattle.gu_text.specs.declared.sheet.Sheet.{Sheet}
 use Rattle.gu_text.specs.declared.sheet_so_far.SheetSoFar.TheVariants.{Open}
 use Rattle.gu_text.specs.declared.sheet_line.Part.{Part}
 use Rattle.gu_text.specs.declared.sheet_line.Part.TheVariants as part
+use Rattle.gu_text.specs.declared.sheet_line.SheetLine.{SheetLine}
 use Rattle.gu_text.specs.declared.sheet_line.SheetLine.TheVariants as line
 use Rattle.gu_text.proofs.ViewBounds.{all_kept, kept_all, offers_few}
 

@@ -1,5 +1,9 @@
 -- A list is split at the first element that passes.
-use Rattle.gu_text.proofs.Words.{◌≡◌, ◌<◌, ◌+◌, ◌∷◌, [], ◌∙◌, ℕ, Bool, true, false, List, None, Some, cond, length, take, drop, position, nat_lt, refl, ap, arith, slice_split, position_or_len, cond_some, slice_split_none, slice_split_first, fails_before_first}
+use Rattle.std.proofs.Common.{◌≡◌, ◌<◌, ◌+◌, ◌∷◌, [], ◌∙◌, ℕ, Bool, true, false, List, None, Some, cond, length, take, drop, position, nat_lt, refl, ap, arith}
+use Rattle.std.specs.List.{slice_split, position_or_len}
+use Rattle.std.proofs.lemmas.Option.{cond_some}
+use Rattle.std.proofs.lemmas.List.Splits.{slice_split_none, slice_split_first}
+use Rattle.std.proofs.lemmas.List.Sums.{fails_before_first}
 
 cond_none : (b : Bool) (n : ℕ) → cond b (Some n) None ≡ None → b ≡ false
 cond_none true n h = cc

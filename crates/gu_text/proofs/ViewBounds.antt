@@ -1,9 +1,34 @@
 -- The most offers and rooms in a view: dropping those beyond doesn't change the verdict.
-use Rattle.gu_text.proofs.Words.{◌≡◌, ◌≢◌, ◌∙◌, ℕ, ◌*◌, ◌≤◌, zero, suc, ◌||◌, ◌&&◌, not, nat_lt, Bool, true, false, cond, List, [], ◌∷◌, Option, Some, None, length, map, take, ap, arith, length-append, length-take, inl, inr, IfSome, IsTrue, codes, filter, AllByRecursion, IsDistinct, cons_option, filter_map, flat_map, list_any, option_and_then, option_map, bytes_eq, cases_Bool, false_from_ne_true, length-map, take_all, recursion_from_All, IsDistinct-cons, key_eq-refl, key_eq-same, key_eq-sym, Later, Later-from_AllPairs, list_any-agree, has_key, key_eq, LimitKey, AreRooms, MakesView, firsts, keys_of, ViewOffer, Room, is_name, FirmId, is_silent, longest_line, is_ragged, words_of, most_offers, most_rooms, cut_said, end_said, guarantor_said, key_said, name_of, number_of, offer_no_of, offer_said, path_said, room_said, said_by, says, sheet_said, spoken, take_said, words_say, offer_in, said_in, SheetLine}
+use Rattle.std.proofs.Common.{◌≡◌, ◌≢◌, ◌∙◌, ℕ, ◌*◌, ◌≤◌, zero, suc, ◌||◌, ◌&&◌, not, nat_lt, Bool, true, false, cond, List, [], ◌∷◌, Option, Some, None, length, map, take, ap, arith, length-append, length-take, inl, inr}
+use Rattle.std.specs.Prelude.{IfSome, IsTrue, codes, filter}
 use Rattle.std.specs.Cmp.{IsEquivalence}
+use Rattle.std.specs.List.{AllByRecursion, IsDistinct, cons_option, filter_map, flat_map, list_any}
+use Rattle.std.specs.Option.{option_and_then, option_map}
+use Rattle.std.specs.Str.{bytes_eq}
+use Rattle.std.proofs.lemmas.Bool.{cases_Bool, false_from_ne_true}
+use Rattle.std.proofs.lemmas.List.{length-map, take_all}
+use Rattle.std.proofs.lemmas.List.Elements.{recursion_from_All}
+use Rattle.std.proofs.lemmas.Map.Keys.{IsDistinct-cons}
 use Rattle.std.proofs.lemmas.Map.Made.{length-le_from_is_member}
+use Rattle.gu_terms.proofs.KeyLemmas.{key_eq-refl, key_eq-same, key_eq-sym}
+use Rattle.gu_terms.proofs.Lists.{Later, Later-from_AllPairs, list_any-agree}
+use Rattle.gu_terms.specs.LimitKeys.{has_key, key_eq}
+use Rattle.gu_terms.specs.declared.limit_key.LimitKey.{LimitKey}
+use Rattle.gu_view.specs.Making.{AreRooms, MakesView}
+use Rattle.gu_view.specs.View.{firsts, keys_of}
+use Rattle.gu_view.specs.declared.view.ViewOffer.{ViewOffer}
+use Rattle.gu_view.specs.declared.view.Room.{Room}
 use Rattle.gu_view.proofs.MakingLemmas.{good_offers}
+use Rattle.gu_terms.specs.Names.{is_name}
 use Rattle.gu_terms.specs.Paths.{path_through}
+use Rattle.gu_terms.specs.declared.firm.FirmId.{FirmId}
+use Rattle.gu_text.specs.Lines.{is_silent, longest_line}
+use Rattle.gu_text.specs.Words.{is_ragged, words_of}
+use Rattle.gu_text.specs.Reading.{most_offers, most_rooms}
+use Rattle.gu_text.specs.SheetLines.{cut_said, end_said, guarantor_said, key_said, name_of, number_of, offer_no_of, offer_said, path_said, room_said, said_by, says, sheet_said, spoken, take_said, words_say}
+use Rattle.gu_text.specs.SheetParts.{offer_in}
+use Rattle.gu_text.specs.Sheets.{said_in}
+use Rattle.gu_text.specs.declared.sheet_line.SheetLine.{SheetLine}
 use Rattle.gu_text.specs.declared.sheet_line.SheetLine.TheVariants as line
 
 -- ---- keys

@@ -1,9 +1,23 @@
 -- The offers and rooms of a view make the same view again.
-use Rattle.gu_text.proofs.Words.{◌≡◌, ◌<◌, ◌&&◌, ◌||◌, ℕ, Bool, true, false, not, nat_lt, List, [], ◌∷◌, Option, Some, None, map, refl, sym, ap, ◌∙◌, arith, subst, All, IsTrue, slice_get, AllByRecursion, find, flat_map, list_any, zip, option_map, option_map_or, le-ltb, lt-leb, ne_eqb, All-from_recursion, recursion_from_All, key_eq-from, key_eq-refl, AllPairs-from_Later, Later, Later-from_AllPairs, along, along2, none_any, none_found, has_key, key_eq, IsLots, IsOfferNo, LimitKey, Agr, AreRooms, MakesView, has_other_path, in_order, is_bad, is_own, lots_given, same_agreement, view_of, GroupView, IsView, keys_of, ViewOffer, Room}
-use Rattle.std.specs.Option.{unwrap_or}
+use Rattle.std.proofs.Common.{◌≡◌, ◌<◌, ◌&&◌, ◌||◌, ℕ, Bool, true, false, not, nat_lt, List, [], ◌∷◌, Option, Some, None, map, refl, sym, ap, ◌∙◌, arith, subst}
+use Rattle.std.specs.Prelude.{All, IsTrue, slice_get}
+use Rattle.std.specs.List.{AllByRecursion, find, flat_map, list_any, zip}
+use Rattle.std.specs.Option.{option_map, option_map_or, unwrap_or}
 use Rattle.std.specs.Cmp.Lexicographic.{pointwise}
+use Rattle.std.proofs.lemmas.Bool.{le-ltb, lt-leb, ne_eqb}
+use Rattle.std.proofs.lemmas.List.Elements.{All-from_recursion, recursion_from_All}
+use Rattle.gu_terms.proofs.KeyLemmas.{key_eq-from, key_eq-refl}
+use Rattle.gu_terms.proofs.Lists.{AllPairs-from_Later, Later, Later-from_AllPairs, along, along2, none_any, none_found}
+use Rattle.gu_terms.specs.LimitKeys.{has_key, key_eq}
+use Rattle.gu_terms.specs.Numbers.{IsLots, IsOfferNo}
+use Rattle.gu_terms.specs.declared.limit_key.LimitKey.{LimitKey}
+use Rattle.gu_terms.specs.declared.limit_key.LimitKey.TheVariants.{Agr}
 use Rattle.gu_view.proofs.MakingLemmas.{agreement_eq-same, bad_of_few, path_eq-refl}
 use Rattle.gu_view.proofs.RoomLemmas.{apart-firsts}
+use Rattle.gu_view.specs.Making.{AreRooms, MakesView, has_other_path, in_order, is_bad, is_own, lots_given, same_agreement, view_of}
+use Rattle.gu_view.specs.View.{GroupView, IsView, keys_of}
+use Rattle.gu_view.specs.declared.view.ViewOffer.{ViewOffer}
+use Rattle.gu_view.specs.declared.view.Room.{Room}
 
 -- ---- offers
 

@@ -1,5 +1,9 @@
 -- The words of a line, one after another.
-use Rattle.gu_text.proofs.Words.{◌≡◌, ◌≢◌, ◌↔◌, ◌+◌, ◌==◌, ◌∷◌, [], ◌∙◌, ℕ, Bool, true, false, not, List, Option, None, Some, IsTrue, zero, suc, nat_lt, length, take, drop, filter, position, refl, ap, arith, slice_split, position_or_len, cond-true, cond_some, is_blank, is_blank_at, is_empty, words_of}
+use Rattle.std.proofs.Common.{◌≡◌, ◌≢◌, ◌↔◌, ◌+◌, ◌==◌, ◌∷◌, [], ◌∙◌, ℕ, Bool, true, false, not, List, Option, None, Some, IsTrue, zero, suc, nat_lt, length, take, drop, filter, position, refl, ap, arith}
+use Rattle.std.specs.List.{slice_split, position_or_len}
+use Rattle.std.proofs.lemmas.Bool.{cond-true}
+use Rattle.std.proofs.lemmas.Option.{cond_some}
+use Rattle.gu_text.specs.Words.{is_blank, is_blank_at, is_empty, words_of}
 use Rattle.gu_text.proofs.Splits.{split_first, split_none}
 
 -- leading spaces are no words

@@ -1,7 +1,25 @@
 -- What is right can be written, and is read back.
-use Rattle.gu_text.proofs.Words.{◌≡◌, ◌<◌, ◌≤◌, ◌^◌, ◌==◌, ◌++◌, ℕ, true, not, List, [], ◌∷◌, map, refl, sym, ap, ◌∙◌, arith, subst, inl, inr, IsTrue, AllByRecursion, flat_map, list_all, cases_Bool, Decides-eqb, All-from_recursion, recursion_from_All, along, along2, CutLists, key_eq, name_of_key, is_name, IsLots, lots_of, LimitKey, Take, GroupView, IsNested, IsView, firsts, ViewOffer, Room, IsWritable, IsNamed}
+use Rattle.std.proofs.Common.{◌≡◌, ◌<◌, ◌≤◌, ◌^◌, ◌==◌, ◌++◌, ℕ, true, not, List, [], ◌∷◌, map, refl, sym, ap, ◌∙◌, arith, subst, inl, inr}
+use Rattle.std.specs.Prelude.{IsTrue}
+use Rattle.std.specs.List.{AllByRecursion, flat_map, list_all}
+use Rattle.std.proofs.lemmas.Bool.{cases_Bool}
+use Rattle.std.proofs.lemmas.Bool.Decides.{Decides-eqb}
+use Rattle.std.proofs.lemmas.List.Elements.{All-from_recursion, recursion_from_All}
+use Rattle.gu_terms.proofs.Lists.{along, along2}
 use Rattle.gu_terms.proofs.SameValues.{both}
+use Rattle.gu_terms.specs.Cuts.{CutLists}
+use Rattle.gu_terms.specs.LimitKeys.{key_eq, name_of_key}
+use Rattle.gu_terms.specs.Names.{is_name}
+use Rattle.gu_terms.specs.Numbers.{IsLots}
+use Rattle.gu_terms.specs.Takes.{lots_of}
+use Rattle.gu_terms.specs.declared.limit_key.LimitKey.{LimitKey}
+use Rattle.gu_terms.specs.declared.takes.Take.{Take}
 use Rattle.gu_view.specs.Check.{IsRight, has_offer}
+use Rattle.gu_view.specs.View.{GroupView, IsNested, IsView, firsts}
+use Rattle.gu_view.specs.declared.view.ViewOffer.{ViewOffer}
+use Rattle.gu_view.specs.declared.view.Room.{Room}
+use Rattle.gu_text.specs.ReadBack.{IsWritable}
+use Rattle.gu_text.specs.WrittenSheets.{IsNamed}
 use Rattle.gu_text.proofs.WrittenTakes.{none_taken, passing}
 
 -- a key has a valid name

@@ -1,18 +1,48 @@
 -- Written commands and sweeps are read back.
-use Rattle.gu_text.proofs.Words.{◌≡◌, ◌==◌, ◌+◌, ◌*◌, ◌^◌, ◌/◌, ◌%◌, ◌<◌, ◌≤◌, ◌++◌, ◌∷◌, [], ◌∙◌, ℕ, ℤ, pos, Bool, true, false, cond, List, Option, None, Some, IsSome, IsTrue, nat_le, length, drop, map, take, suc, get_or, refl, sym, ap, subst, length-append, append_assoc, arith, codes, int_lt, not, unsigned_abs, digit_value, decimal, AllByRecursion, after_first, before_first, flat_map, position_or_len, option_to_list, AllDigits, flat_map-append, and_parts, le-leb, nat_tests, All-from_recursion, IsDay, name_of_key, IsId, is_id_byte, is_name, fraction_digits, whole_digits, IsLots, IsOfferNo, IsPrice, OpenDay, SetLimit, ReportSide, GiveUp, Claim, Refuse, Reverse, Day, Group, LimitKey, Line as GiveUpLine, Side, Take, Enter, is_silent, longest_line, AreWords, IsWord, is_word_byte, joined, WriteLines, Writes, side_word, number_of, cut_key_words, cut_offer_words, take_words, last_word, line_of, word, IsScriptLineOf, IsSilentLineOf, IsWritableCommand, IsWritableSweep, command_words, cut_key_remark, cut_key_remark_text, cut_offer_remark, cut_offer_remark_text, pair_words, remark_words, sweep_remarks, sweep_rows, sweep_words, take_remark, take_remark_text, undated}
+use Rattle.std.proofs.Common.{◌≡◌, ◌==◌, ◌+◌, ◌*◌, ◌^◌, ◌/◌, ◌%◌, ◌<◌, ◌≤◌, ◌++◌, ◌∷◌, [], ◌∙◌, ℕ, ℤ, pos, Bool, true, false, cond, List, Option, None, Some, IsSome, IsTrue, nat_le, length, drop, map, take, suc, get_or, refl, sym, ap, subst, length-append, append_assoc, arith}
+use Rattle.std.specs.Prelude.{codes, int_lt, not, unsigned_abs}
+use Rattle.std.specs.Char.{digit_value}
+use Rattle.std.specs.Fmt.{decimal}
+use Rattle.std.specs.List.{AllByRecursion, after_first, before_first, flat_map, position_or_len}
+use Rattle.std.specs.Option.{option_to_list}
+use Rattle.std.specs.Str.Parse.{AllDigits}
 use Rattle.std.proofs.lemmas.Fmt.{length-decimal-le}
+use Rattle.std.proofs.lemmas.Grind.{flat_map-append}
 use Rattle.std.proofs.lemmas.Int.{ints}
+use Rattle.std.proofs.lemmas.Bool.{and_parts, le-leb}
+use Rattle.std.proofs.lemmas.Bool.Decides.{nat_tests}
 use Rattle.std.proofs.lemmas.List.{append-nil}
+use Rattle.std.proofs.lemmas.List.Elements.{All-from_recursion}
 use Rattle.std.proofs.lemmas.Str.Parse.{digit_from_value}
 use Rattle.gu_terms.specs.AllocRejects.{reject_number}
+use Rattle.gu_terms.specs.Days.{IsDay}
+use Rattle.gu_terms.specs.LimitKeys.{name_of_key}
+use Rattle.gu_terms.specs.Names.{IsId, is_id_byte, is_name}
+use Rattle.gu_terms.specs.NumberText.{fraction_digits, whole_digits}
+use Rattle.gu_terms.specs.Numbers.{IsLots, IsOfferNo, IsPrice}
 use Rattle.gu_terms.specs.WrittenNumbers.{date_text, fraction_text, price_text, six_digits, trimmed_digits}
 use Rattle.gu_terms.specs.declared.alloc_reject.AllocReject.{AllocReject}
 use Rattle.gu_terms.specs.declared.alloc_reject.AllocReject.TheVariants.{BlockLevel, AccountLevel, Intermediary}
 use Rattle.gu_terms.specs.declared.command.Command.{Command}
+use Rattle.gu_terms.specs.declared.command.Command.TheVariants.{OpenDay, SetLimit, ReportSide, GiveUp, Claim, Refuse, Reverse}
+use Rattle.gu_terms.specs.declared.day.Day.{Day}
 use Rattle.gu_terms.specs.declared.entry.SweepEntry.{SweepEntry}
+use Rattle.gu_terms.specs.declared.group.Group.{Group}
+use Rattle.gu_terms.specs.declared.limit_key.LimitKey.{LimitKey}
+use Rattle.gu_terms.specs.declared.lines.Line.{Line as GiveUpLine}
+use Rattle.gu_terms.specs.declared.side.Side.{Side}
+use Rattle.gu_terms.specs.declared.takes.Take.{Take}
 use Rattle.gu_terms.specs.declared.side.Side.TheVariants.{Buy, Sell}
 use Rattle.gu_terms.proofs.WrittenLemmas.{length-trimmed, length-units}
 use Rattle.gu_terms.proofs.WrittenMeanings.{date_text_writes, decimal_means_lots, price_text_means}
+use Rattle.gu_world.specs.declared.step.Step.TheVariants.{Enter}
+use Rattle.gu_text.specs.Lines.{is_silent, longest_line}
+use Rattle.gu_text.specs.ReadBack.{AreWords, IsWord, is_word_byte, joined}
+use Rattle.gu_text.specs.Scripts.{WriteLines, Writes, side_word}
+use Rattle.gu_text.specs.SheetLines.{number_of}
+use Rattle.gu_text.specs.SheetText.{cut_key_words, cut_offer_words, take_words}
+use Rattle.gu_text.specs.Texts.{last_word, line_of, word}
+use Rattle.gu_text.specs.WrittenCommands.{IsScriptLineOf, IsSilentLineOf, IsWritableCommand, IsWritableSweep, command_words, cut_key_remark, cut_key_remark_text, cut_offer_remark, cut_offer_remark_text, pair_words, remark_words, sweep_remarks, sweep_rows, sweep_words, take_remark, take_remark_text, undated}
 use Rattle.gu_text.specs.declared.script_line.Line.{Line}
 use Rattle.gu_text.specs.declared.script_line.Line.TheVariants as line
 use Rattle.gu_text.proofs.ReadBackLemmas.{line_of-joined, read_back}

@@ -1,7 +1,23 @@
 -- The takes and the cut of a written sheet are those that it was made from.
-use Rattle.gu_text.proofs.Words.{◌≡◌, ◌+◌, ◌==◌, ◌&&◌, ◌||◌, ℕ, Bool, true, false, List, [], ◌∷◌, filter, map, sum_by, refl, sym, ap, ◌∙◌, subst, inl, inr, All, IsTrue, if◌then◌else◌, AllByRecursion, list_any, cases_Bool, Decides-eqb, All-from_recursion, recursion_from_All, key_eq-refl, key_eq-same, along, CutLists, has_number, has_key, key_eq, lots_of, LimitKey, Take, GroupView, ViewOffer, Room, cut_of, takes_of}
+use Rattle.std.proofs.Common.{◌≡◌, ◌+◌, ◌==◌, ◌&&◌, ◌||◌, ℕ, Bool, true, false, List, [], ◌∷◌, filter, map, sum_by, refl, sym, ap, ◌∙◌, subst, inl, inr}
+use Rattle.std.specs.Prelude.{All, IsTrue, if◌then◌else◌}
+use Rattle.std.specs.List.{AllByRecursion, list_any}
+use Rattle.std.proofs.lemmas.Bool.{cases_Bool}
+use Rattle.std.proofs.lemmas.Bool.Decides.{Decides-eqb}
+use Rattle.std.proofs.lemmas.List.Elements.{All-from_recursion, recursion_from_All}
+use Rattle.gu_terms.proofs.KeyLemmas.{key_eq-refl, key_eq-same}
+use Rattle.gu_terms.proofs.Lists.{along}
+use Rattle.gu_terms.specs.Cuts.{CutLists, has_number}
+use Rattle.gu_terms.specs.LimitKeys.{has_key, key_eq}
+use Rattle.gu_terms.specs.Takes.{lots_of}
+use Rattle.gu_terms.specs.declared.limit_key.LimitKey.{LimitKey}
+use Rattle.gu_terms.specs.declared.takes.Take.{Take}
 use Rattle.gu_view.specs.Check.{IsRight, has_offer, has_room}
 use Rattle.gu_view.specs.Takes.{IsAdmissible, IsOldestFirst, total}
+use Rattle.gu_view.specs.View.{GroupView}
+use Rattle.gu_view.specs.declared.view.ViewOffer.{ViewOffer}
+use Rattle.gu_view.specs.declared.view.Room.{Room}
+use Rattle.gu_text.specs.WrittenSheets.{cut_of, takes_of}
 
 -- both of two properties, if the second follows from the first
 second_follows : (b c : Bool) → (b ≡ true → c ≡ true) → (b && c) ≡ b

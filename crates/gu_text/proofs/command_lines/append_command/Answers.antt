@@ -1,4 +1,7 @@
-use Rattle.gu_text.proofs.Words.{◌∙◌, ◌<◌, List, ℕ, length, length-append, sym, ap, arith, vec_len, flat_map, word, command_words}
+use Rattle.std.proofs.Common.{◌∙◌, ◌<◌, List, ℕ, length, length-append, sym, ap, arith, vec_len}
+use Rattle.std.specs.List.{flat_map}
+use Rattle.gu_text.specs.Texts.{word}
+use Rattle.gu_text.specs.WrittenCommands.{command_words}
 use Rattle.gu_text.proofs.WrittenCommandLemmas.{line_ended, some_bytes, some_words}
 use Rattle.gu_text.proofs.command_lines.append_command.Goals as goal
 

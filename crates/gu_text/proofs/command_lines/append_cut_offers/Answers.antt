@@ -1,4 +1,7 @@
-use Rattle.gu_text.proofs.Words.{◌≡◌, ◌+◌, ◌++◌, ◌∷◌, [], ◌∙◌, ℕ, List, take, sym, ap, flat_map, flat_map_more, take_more, cut_offer_remark_text}
+use Rattle.std.proofs.Common.{◌≡◌, ◌+◌, ◌++◌, ◌∷◌, [], ◌∙◌, ℕ, List, take, sym, ap}
+use Rattle.std.specs.List.{flat_map}
+use Rattle.std.proofs.lemmas.List.{flat_map_more, take_more}
+use Rattle.gu_text.specs.WrittenCommands.{cut_offer_remark_text}
 use Rattle.gu_text.proofs.command_lines.append_cut_offers.Goals as goal
 
 pub loop-offer-preserved : goal.loop-offer-preserved

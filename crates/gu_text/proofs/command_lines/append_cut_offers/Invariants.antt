@@ -1,4 +1,6 @@
-use Rattle.gu_text.proofs.Words.{◌≡◌, ◌++◌, take, flat_map, cut_offer_remark_text}
+use Rattle.std.proofs.Common.{◌≡◌, ◌++◌, take}
+use Rattle.std.specs.List.{flat_map}
+use Rattle.gu_text.specs.WrittenCommands.{cut_offer_remark_text}
 use Rattle.gu_text.proofs.command_lines.append_cut_offers.Given as goal
 
 abbrev pub invariant-loop-offer : goal.invariant-loop-offer

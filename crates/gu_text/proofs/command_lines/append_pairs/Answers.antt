@@ -1,4 +1,10 @@
-use Rattle.gu_text.proofs.Words.{◌≡◌, ◌+◌, ◌++◌, ◌∷◌, [], ◌∙◌, ℕ, List, take, ap, sym, decimal, flat_map, take_more, Line, word, pair_words}
+use Rattle.std.proofs.Common.{◌≡◌, ◌+◌, ◌++◌, ◌∷◌, [], ◌∙◌, ℕ, List, take, ap, sym}
+use Rattle.std.specs.Fmt.{decimal}
+use Rattle.std.specs.List.{flat_map}
+use Rattle.std.proofs.lemmas.List.{take_more}
+use Rattle.gu_terms.specs.declared.lines.Line.{Line}
+use Rattle.gu_text.specs.Texts.{word}
+use Rattle.gu_text.specs.WrittenCommands.{pair_words}
 use Rattle.gu_text.proofs.WrittenCommandLemmas.{pairs_more}
 use Rattle.gu_text.proofs.command_lines.append_pairs.Goals as goal
 

@@ -1,5 +1,8 @@
-use Rattle.gu_text.proofs.Words.{◌++◌, ◌∙◌, List, ℕ, ap, flat_map, last_word, word, command_words}
+use Rattle.std.proofs.Common.{◌++◌, ◌∙◌, List, ℕ, ap}
+use Rattle.std.specs.List.{flat_map}
 use Rattle.gu_terms.specs.WrittenNumbers.{date_text}
+use Rattle.gu_text.specs.Texts.{last_word, word}
+use Rattle.gu_text.specs.WrittenCommands.{command_words}
 use Rattle.gu_text.proofs.WrittenCommandLemmas.{remark_ended}
 use Rattle.gu_text.proofs.command_lines.append_remark.Goals as goal
 

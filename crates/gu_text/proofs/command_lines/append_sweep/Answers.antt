@@ -1,4 +1,8 @@
-use Rattle.gu_text.proofs.Words.{◌++◌, ◌∙◌, List, ℕ, ap, flat_map, LimitKey, Take, cut_key_remark_text, cut_offer_remark_text, take_remark_text}
+use Rattle.std.proofs.Common.{◌++◌, ◌∙◌, List, ℕ, ap}
+use Rattle.std.specs.List.{flat_map}
+use Rattle.gu_terms.specs.declared.limit_key.LimitKey.{LimitKey}
+use Rattle.gu_terms.specs.declared.takes.Take.{Take}
+use Rattle.gu_text.specs.WrittenCommands.{cut_key_remark_text, cut_offer_remark_text, take_remark_text}
 use Rattle.gu_text.proofs.WrittenCommandLemmas.{sweep_appended}
 use Rattle.gu_text.proofs.command_lines.append_sweep.Goals as goal
 

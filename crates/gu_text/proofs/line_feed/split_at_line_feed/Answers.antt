@@ -1,4 +1,6 @@
-use Rattle.gu_text.proofs.Words.{◌+◌, ◌-◌, ◌∙◌, length, drop, sym, subst, arith, take, List, ℕ, take_all, length-drop, IsParted}
+use Rattle.std.proofs.Common.{◌+◌, ◌-◌, ◌∙◌, length, drop, sym, subst, arith, take, List, ℕ}
+use Rattle.std.proofs.lemmas.List.{take_all, length-drop}
+use Rattle.gu_text.specs.LineFeeds.{IsParted}
 use Rattle.gu_text.proofs.LineFeedLaws.{parted_at, no_feed_at}
 use Rattle.gu_text.proofs.line_feed.split_at_line_feed.Goals as goal
 

@@ -1,4 +1,5 @@
-use Rattle.gu_text.proofs.Words.{◌∷◌, ◌∙◌, ℕ, List, ap, words_of}
+use Rattle.std.proofs.Common.{◌∷◌, ◌∙◌, ℕ, List, ap}
+use Rattle.gu_text.specs.Words.{words_of}
 use Rattle.gu_text.proofs.FormLemmas.{limit_found}
 use Rattle.gu_text.proofs.script_forms.limit_said.Goals as goal
 

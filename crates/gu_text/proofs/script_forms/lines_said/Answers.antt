@@ -1,4 +1,5 @@
-use Rattle.gu_text.proofs.Words.{◌≡◌, ◌++◌, ◌∷◌, [], rules, words_of}
+use Rattle.std.proofs.Common.{◌≡◌, ◌++◌, ◌∷◌, [], rules}
+use Rattle.gu_text.specs.Words.{words_of}
 use Rattle.gu_text.proofs.FormLemmas.{lines_made, lines_whole, none_left, read_on}
 use Rattle.gu_text.proofs.script_forms.lines_said.Goals as goal
 

@@ -1,4 +1,5 @@
-use Rattle.gu_text.proofs.Words.{length, words_of}
+use Rattle.std.proofs.Common.{length}
+use Rattle.gu_text.specs.Words.{words_of}
 use Rattle.gu_text.proofs.FormLemmas.{IsReadTo}
 use Rattle.gu_text.proofs.script_forms.lines_said.Given as goal
 

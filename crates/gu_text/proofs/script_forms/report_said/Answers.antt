@@ -1,4 +1,5 @@
-use Rattle.gu_text.proofs.Words.{refl, words_of}
+use Rattle.std.proofs.Common.{refl}
+use Rattle.gu_text.specs.Words.{words_of}
 use Rattle.gu_text.proofs.FormLemmas.{report_found, report_missed}
 use Rattle.gu_text.proofs.script_forms.report_said.Goals as goal
 

@@ -1,4 +1,6 @@
-use Rattle.gu_text.proofs.Words.{◌≡◌, ◌≤◌, false, length, rules, longest_line, is_ragged, words_of}
+use Rattle.std.proofs.Common.{◌≡◌, ◌≤◌, false, length, rules}
+use Rattle.gu_text.specs.Lines.{longest_line}
+use Rattle.gu_text.specs.Words.{is_ragged, words_of}
 use Rattle.gu_text.proofs.ScriptLemmas.{is_begun, unbegun_bad}
 use Rattle.gu_text.proofs.script_line.begun.Goals as goal
 

@@ -1,4 +1,12 @@
-use Rattle.gu_text.proofs.Words.{◌≡◌, ◌<◌, ◌+◌, ◌++◌, ◌∷◌, [], ◌∙◌, ℕ, List, take, sym, ap, arith, codes, decimal, flat_map, flat_map_more, take_more, lots_of, ViewOffer, take_line, line_of}
+use Rattle.std.proofs.Common.{◌≡◌, ◌<◌, ◌+◌, ◌++◌, ◌∷◌, [], ◌∙◌, ℕ, List, take, sym, ap, arith}
+use Rattle.std.specs.Prelude.{codes}
+use Rattle.std.specs.Fmt.{decimal}
+use Rattle.std.specs.List.{flat_map}
+use Rattle.std.proofs.lemmas.List.{flat_map_more, take_more}
+use Rattle.gu_terms.specs.Takes.{lots_of}
+use Rattle.gu_view.specs.declared.view.ViewOffer.{ViewOffer}
+use Rattle.gu_text.specs.SheetText.{take_line}
+use Rattle.gu_text.specs.Texts.{line_of}
 use Rattle.gu_text.proofs.TakesLemmas.{earlier_related, held_up_to}
 use Rattle.gu_text.proofs.sheet_writing.append_takes.Goals as goal
 

@@ -1,4 +1,8 @@
-use Rattle.gu_text.proofs.Words.{◌≡◌, ◌++◌, ◌<◌, ℕ, take, flat_map, All, IsAscending, lots_of, take_line}
+use Rattle.std.proofs.Common.{◌≡◌, ◌++◌, ◌<◌, ℕ, take}
+use Rattle.std.specs.List.{flat_map}
+use Rattle.std.specs.Prelude.{All}
+use Rattle.gu_terms.specs.Takes.{IsAscending, lots_of}
+use Rattle.gu_text.specs.SheetText.{take_line}
 use Rattle.gu_text.proofs.sheet_writing.append_takes.Given as goal
 
 abbrev pub invariant-loop-offer : goal.invariant-loop-offer

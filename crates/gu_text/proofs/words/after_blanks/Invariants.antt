@@ -1,4 +1,5 @@
-use Rattle.gu_text.proofs.Words.{◌≡◌, ◌≤◌, length, words_of}
+use Rattle.std.proofs.Common.{◌≡◌, ◌≤◌, length}
+use Rattle.gu_text.specs.Words.{words_of}
 use Rattle.gu_text.proofs.words.after_blanks.Given as goal
 
 abbrev pub invariant-blanks : goal.invariant-blanks

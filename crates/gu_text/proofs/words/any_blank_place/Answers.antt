@@ -1,4 +1,5 @@
-use Rattle.gu_text.proofs.Words.{ap, arith, is_blank}
+use Rattle.std.proofs.Common.{ap, arith}
+use Rattle.gu_text.specs.Words.{is_blank}
 use Rattle.gu_text.proofs.FirstBytes.{first_place, no_place}
 use Rattle.gu_text.proofs.words.any_blank_place.Goals as goal
 

@@ -1,4 +1,5 @@
-use Rattle.gu_text.proofs.Words.{◌≡◌, ◌<◌, ℕ, false, slice_index_or, is_blank}
+use Rattle.std.proofs.Common.{◌≡◌, ◌<◌, ℕ, false, slice_index_or}
+use Rattle.gu_text.specs.Words.{is_blank}
 use Rattle.gu_text.proofs.words.any_blank_place.Given as goal
 
 abbrev pub invariant-loop-place : goal.invariant-loop-place

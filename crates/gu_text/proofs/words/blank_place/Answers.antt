@@ -1,4 +1,5 @@
-use Rattle.gu_text.proofs.Words.{arith, is_blank}
+use Rattle.std.proofs.Common.{arith}
+use Rattle.gu_text.specs.Words.{is_blank}
 use Rattle.gu_text.proofs.FirstBytes.{first_place}
 use Rattle.gu_text.proofs.words.blank_place.Goals as goal
 

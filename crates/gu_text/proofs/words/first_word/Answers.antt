@@ -1,4 +1,5 @@
-use Rattle.gu_text.proofs.Words.{◌+◌, ◌-◌, ◌∙◌, length, drop, sym, arith, take_all, length-drop}
+use Rattle.std.proofs.Common.{◌+◌, ◌-◌, ◌∙◌, length, drop, sym, arith}
+use Rattle.std.proofs.lemmas.List.{take_all, length-drop}
 use Rattle.gu_text.proofs.WordLemmas.{word_in_front}
 use Rattle.gu_text.proofs.words.first_word.Goals as goal
 

@@ -1,4 +1,5 @@
-use Rattle.gu_text.proofs.Words.{◌≡◌, true, slice_index_or, subst, arith, is_blank}
+use Rattle.std.proofs.Common.{◌≡◌, true, slice_index_or, subst, arith}
+use Rattle.gu_text.specs.Words.{is_blank}
 use Rattle.gu_text.proofs.FirstBytes.{run_counted}
 use Rattle.std.proofs.lemmas.Simd.{run_in_chunk_fails, run_in_chunk_stops}
 use Rattle.gu_text.proofs.words.run_in_eight.Goals as goal

@@ -1,4 +1,5 @@
-use Rattle.gu_text.proofs.Words.{◌≡◌, ◌∙◌, ◌==◌, ◌||◌, ap, false, rules, is_marked}
+use Rattle.std.proofs.Common.{◌≡◌, ◌∙◌, ◌==◌, ◌||◌, ap, false, rules}
+use Rattle.gu_text.specs.OfferSets.{is_marked}
 use Rattle.gu_text.proofs.OfferSetLemmas.{marks_more}
 use Rattle.gu_text.proofs.listed_offers.ListedOffers.add.Goals as goal
 

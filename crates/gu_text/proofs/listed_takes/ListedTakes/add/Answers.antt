@@ -1,4 +1,6 @@
-use Rattle.gu_text.proofs.Words.{◌≡◌, ◌∙◌, ◌==◌, ◌||◌, ap, map, subst, sym, false, rules, Take, is_marked, MarksOffers}
+use Rattle.std.proofs.Common.{◌≡◌, ◌∙◌, ◌==◌, ◌||◌, ap, map, subst, sym, false, rules}
+use Rattle.gu_terms.specs.declared.takes.Take.{Take}
+use Rattle.gu_text.specs.OfferSets.{is_marked, MarksOffers}
 use Rattle.gu_text.proofs.OfferSetLemmas.{marks_more, offers_of_more}
 use Rattle.gu_text.proofs.listed_takes.ListedTakes.add.Goals as goal
 

@@ -1,4 +1,5 @@
-use Rattle.gu_text.proofs.Words.{◌≡◌, ◌∙◌, ◌/◌, get_or, get_or_default}
+use Rattle.std.proofs.Common.{◌≡◌, ◌∙◌, ◌/◌, get_or}
+use Rattle.std.proofs.lemmas.List.{get_or_default}
 use Rattle.gu_text.proofs.OfferSetLemmas.{is_marked-set}
 use Rattle.gu_text.proofs.offer_set.OfferSet.add.Goals as goal
 

@@ -1,4 +1,5 @@
-use Rattle.gu_text.proofs.Words.{sym, subst, IsReadWhole}
+use Rattle.std.proofs.Common.{sym, subst}
+use Rattle.gu_text.specs.SheetPieces.{IsReadWhole}
 use Rattle.gu_text.specs.declared.sheet_so_far.SheetSoFar.{SheetSoFar}
 use Rattle.gu_text.proofs.PieceLemmas.{given_error, given_sheet}
 use Rattle.gu_text.proofs.sheet_reading.SheetReading.end.Goals as goal

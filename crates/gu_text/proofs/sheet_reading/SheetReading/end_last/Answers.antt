@@ -1,4 +1,9 @@
-use Rattle.gu_text.proofs.Words.{◌≡◌, ◌≢◌, ◌∙◌, ◌+◌, ◌==◌, ◌++◌, ◌∷◌, ℕ, List, [], Err, true, false, length, sym, ap, subst, arith, rules, nil_from_length, HasNoLineFeed, IsReadTo, IsReadWhole, SheetPlace, IsRightAfter, said_in}
+use Rattle.std.proofs.Common.{◌≡◌, ◌≢◌, ◌∙◌, ◌+◌, ◌==◌, ◌++◌, ◌∷◌, ℕ, List, [], Err, true, false, length, sym, ap, subst, arith, rules}
+use Rattle.std.proofs.lemmas.List.{nil_from_length}
+use Rattle.gu_text.specs.LineFeeds.{HasNoLineFeed}
+use Rattle.gu_text.specs.Reading.{IsReadTo}
+use Rattle.gu_text.specs.SheetPieces.{IsReadWhole, SheetPlace}
+use Rattle.gu_text.specs.Sheets.{IsRightAfter, said_in}
 use Rattle.gu_text.proofs.PieceLemmas.{last_refused, some_bytes, whole_ended, whole_last}
 use Rattle.gu_text.proofs.sheet_reading.SheetReading.end_last.Goals as goal
 

@@ -1,4 +1,10 @@
-use Rattle.gu_text.proofs.Words.{◌≡◌, ◌∙◌, ◌<◌, ◌+◌, ◌++◌, ◌∷◌, [], ℕ, List, Err, length, length-append, sym, ap, subst, arith, rules, strip_carriage_return, longest_line, IsReadTo, SheetPlace, IsRightAfter, said_in, BadLine}
+use Rattle.std.proofs.Common.{◌≡◌, ◌∙◌, ◌<◌, ◌+◌, ◌++◌, ◌∷◌, [], ℕ, List, Err, length, length-append, sym, ap, subst, arith, rules}
+use Rattle.std.specs.Str.Lines.{strip_carriage_return}
+use Rattle.gu_text.specs.Lines.{longest_line}
+use Rattle.gu_text.specs.Reading.{IsReadTo}
+use Rattle.gu_text.specs.SheetPieces.{SheetPlace}
+use Rattle.gu_text.specs.Sheets.{IsRightAfter, said_in}
+use Rattle.gu_text.specs.declared.error.TextError.TheVariants.{BadLine}
 use Rattle.gu_text.proofs.LineFeedLaws.{length-stripped}
 use Rattle.gu_text.proofs.PieceLemmas.{long_is_wrong}
 use Rattle.gu_text.proofs.SheetLemmas.{passed}

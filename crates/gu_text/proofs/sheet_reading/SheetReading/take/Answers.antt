@@ -1,4 +1,7 @@
-use Rattle.gu_text.proofs.Words.{Err, ap, subst, HasNoLineFeed, SheetPlace, BadLine}
+use Rattle.std.proofs.Common.{Err, ap, subst}
+use Rattle.gu_text.specs.LineFeeds.{HasNoLineFeed}
+use Rattle.gu_text.specs.SheetPieces.{SheetPlace}
+use Rattle.gu_text.specs.declared.error.TextError.TheVariants.{BadLine}
 use Rattle.gu_text.proofs.PieceLemmas.{taking_bad, taking_kept, taking_line, taking_long, taking_none}
 use Rattle.gu_text.proofs.SheetLemmas.{on_ok_then, passed}
 use Rattle.gu_text.proofs.sheet_reading.SheetReading.take.Goals as goal

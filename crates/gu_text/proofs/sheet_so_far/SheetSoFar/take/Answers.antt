@@ -1,4 +1,6 @@
-use Rattle.gu_text.proofs.Words.{◌≡◌, ◌∙◌, ◌++◌, ◌∷◌, [], Err, true, false, refl, sym, ap, subst, rules, is_ended, IsReadTo, BadLine}
+use Rattle.std.proofs.Common.{◌≡◌, ◌∙◌, ◌++◌, ◌∷◌, [], Err, true, false, refl, sym, ap, subst, rules}
+use Rattle.gu_text.specs.Reading.{is_ended, IsReadTo}
+use Rattle.gu_text.specs.declared.error.TextError.TheVariants.{BadLine}
 use Rattle.gu_text.proofs.SheetLemmas.{none_made, on_ok_then, open_more, passed, sheet_made, silent_more, wrong_end}
 use Rattle.gu_text.proofs.sheet_so_far.SheetSoFar.take.Goals as goal
 
