@@ -1,10 +1,9 @@
 //! Days over a model of etcd: the product's own appender, with lost requests and answers, doubled requests, and two desks.
-use crate::etcd::{Etcd, Fate, Way};
-use gu_etcd::{
-    AppendError, Appender, Gateway, LAST_NUMBER, MAX_ENTRY, Name, NodeError, TRIES, entry_of,
-};
+use crate::etcd::{Etcd, Fate, Way, gateway_of};
+use gu_etcd::{AppendError, Appender, Gateway, LAST_NUMBER, MAX_ENTRY, NodeError, TRIES, entry_of};
 use gu_journal::MAX_BATCH;
-use std::alloc::{AllocError, Global};
+use std::alloc::Global;
+use std::process::Abort;
 use std::test::Fail;
 
 /// A desk: its name for the leadership, and how many batches are kept as it knows.
@@ -12,11 +11,6 @@ use std::test::Fail;
 struct Desk<'a> {
     leader: &'a str,
     count: u64,
-}
-
-/// Returns a text as a name, if it is one.
-fn name_of(alloc: Global, text: &str) -> Result<Option<Name>, AllocError> {
-    Ok(Name::new(Vec::from_slice(alloc, text.as_bytes())?))
 }
 
 /// Has a desk append a batch to the log DAY of an etcd with three endpoints, and returns how many batches it knows to be kept.
@@ -30,20 +24,15 @@ fn append(
     if desk.count > LAST_NUMBER {
         return Err(AppendError::Full);
     }
-    let (Ok(name), Ok(leader), Ok(entry)) = (
-        name_of(alloc, "DAY"),
-        name_of(alloc, desk.leader),
-        entry_of(alloc, desk.leader.as_bytes(), batch),
-    ) else {
+    let Ok(entry) = entry_of(alloc, desk.leader.as_bytes(), batch) else {
         return Err(AppendError::Memory);
-    };
-    let (Some(name), Some(leader)) = (name, leader) else {
-        return Err(AppendError::Fenced);
     };
     if entry.len() > MAX_ENTRY {
         return Err(AppendError::Full);
     }
-    let gateway = Gateway::new(Way { etcd, fates }, 3, name, leader);
+    let Ok(gateway) = gateway_of(alloc, etcd, fates, desk.leader) else {
+        return Err(AppendError::Memory);
+    };
     match Appender::new(gateway, desk.count).append(alloc, &entry) {
         Ok(appender) => Ok(appender.count()),
         Err(stopped) => Err(stopped.error()),
@@ -76,22 +65,26 @@ const FATES: &[(&str, &[Fate], Result<u64, AppendError>, usize)] = &[
     ),
 ];
 
+/// Returns the key and the value of an etcd's only batch, in base64.
+fn only_pair(etcd: &Etcd) -> Option<(&str, &str)> {
+    match etcd.pairs.as_slice() {
+        [pair] => Some((pair.key.as_str(), pair.value.as_str())),
+        _ => None,
+    }
+}
+
 #[test]
 fn a_batch_is_there_once_whatever_got_lost(rt: HostRuntime) -> Result<(), Fail> {
     for (what, fates, said, asked) in FATES {
         let mut etcd = Etcd::new(rt.alloc(), b"desk-A")?;
         let result = append(rt.alloc(), &mut etcd, DESK_A, fates, b"DAY 20260105\n");
-        assert_eq!(rt; result, *said, "{what}");
-        assert_eq!(rt; etcd.asked, *asked, "{what}");
-        assert_eq!(rt; etcd.pairs.len(), 1, "{what}");
+        assert_eq!(rt; (result, etcd.asked), (*said, *asked), "{what}");
         assert_eq!(rt;
-            etcd.pairs[0].key.as_str(),
-            "REFZLzAwMDAwMDAwMDE=",
-            "{what}"
-        );
-        assert_eq!(rt;
-            etcd.pairs[0].value.as_str(),
-            "IyBkZXNrIGRlc2stQQpEQVkgMjAyNjAxMDUK",
+            only_pair(&etcd),
+            Some((
+                "REFZLzAwMDAwMDAwMDE=",
+                "IyBkZXNrIGRlc2stQQpEQVkgMjAyNjAxMDUK"
+            )),
             "{what}"
         );
     }
@@ -189,37 +182,51 @@ fn a_batch_of_512_kib_is_appended(rt: HostRuntime) -> Result<(), Fail> {
     Ok(())
 }
 
-#[test]
-fn a_log_is_read_page_by_page(rt: HostRuntime) -> Result<(), Fail> {
-    let mut etcd = Etcd::new(rt.alloc(), b"desk-A")?;
-    for count in 0..18 {
+/// Has desk A append this many batches.
+fn append_many(alloc: Global, etcd: &mut Etcd, most: u64) -> Result<(), AppendError> {
+    for count in 0..most {
         let desk = Desk {
             leader: "desk-A",
             count,
         };
-        let _ = append(rt.alloc(), &mut etcd, desk, &[], b"DAY 20260105\n")?;
+        let _ = append(alloc, etcd, desk, &[], b"DAY 20260105\n")?;
     }
-    let name = name_of(rt.alloc(), "DAY")?.ok_or("a name")?;
-    let leader = name_of(rt.alloc(), "desk-B")?.ok_or("a name")?;
-    let way = Way {
-        etcd: &mut etcd,
-        fates: &[Fate::RequestLost],
-    };
-    let mut gateway = Gateway::new(way, 3, name, leader);
-    assert!(rt; matches!(gateway.page(rt.alloc(), 1), Err(NodeError::Unanswered)));
-    let first = gateway.page(rt.alloc(), 1)?;
-    assert_eq!(rt; first.entries.len(), 16);
-    assert_eq!(rt;
-        first.entries[0].as_slice(),
-        b"# desk desk-A\nDAY 20260105\n".as_slice()
-    );
-    assert!(rt; first.has_more);
-    let second = gateway.page(rt.alloc(), 17)?;
-    assert_eq!(rt; second.entries.len(), 2);
-    assert!(rt; !second.has_more);
-    assert!(rt; gateway.page(rt.alloc(), 19)?.entries.is_empty());
-    let endpoints = gateway.exchange().etcd.endpoints.as_slice();
-    assert!(rt; endpoints.ends_with([0, 1, 1, 1].as_slice()));
+    Ok(())
+}
+
+/// The numbers that pages begin with, how many entries each has, and whether there are more.
+const PAGES: &[(u64, usize, bool)] = &[(1, 16, true), (17, 2, false), (19, 0, false)];
+
+/// Returns how many entries a page has, if they are the batches of desk A, and whether there are more.
+fn page_of(
+    alloc: Global,
+    gateway: &mut Gateway<Way<'_>>,
+    number: u64,
+) -> Result<Option<(usize, bool)>, NodeError> {
+    let page = gateway.page(alloc, number.min(LAST_NUMBER))?;
+    let text = b"# desk desk-A\nDAY 20260105\n".as_slice();
+    let is_ours = page.entries.iter().all(|entry| entry.as_slice() == text);
+    Ok(is_ours.then_some((page.entries.len(), page.has_more)))
+}
+
+/// Asks for the first page, which gets lost, and then for each page.
+fn read_pages(rt: &impl Abort, alloc: Global, gateway: &mut Gateway<Way<'_>>) {
+    let lost = page_of(alloc, gateway, 1);
+    assert_eq!(rt; lost, Err(NodeError::Unanswered));
+    for &(number, count, has_more) in PAGES {
+        let page = page_of(alloc, gateway, number);
+        assert_eq!(rt; page, Ok(Some((count, has_more))), "from {number} on");
+    }
+}
+
+#[test]
+fn a_log_is_read_page_by_page(rt: HostRuntime) -> Result<(), Fail> {
+    let mut etcd = Etcd::new(rt.alloc(), b"desk-A")?;
+    append_many(rt.alloc(), &mut etcd, 18)?;
+    let mut gateway = gateway_of(rt.alloc(), &mut etcd, &[Fate::RequestLost], "desk-B")?;
+    read_pages(&rt, rt.alloc(), &mut gateway);
+    drop(gateway);
+    assert!(rt; etcd.endpoints.as_slice().ends_with([0, 1, 1, 1].as_slice()));
     Ok(())
 }
 

@@ -1,7 +1,7 @@
 //! A model of etcd at the end of an exchange: it reads the texts of requests, and its answers are texts too. Its failures are
 //! scripted.
 use base64::engine::general_purpose::STANDARD;
-use gu_etcd::{Exchange, NodeError};
+use gu_etcd::{Exchange, Gateway, Name, NodeError};
 use serde_json::Value;
 use std::alloc::{AllocError, Global};
 
@@ -28,7 +28,6 @@ pub struct Pair {
 }
 
 /// An etcd with one log.
-#[derive(Drop)]
 pub struct Etcd {
     /// The name of the desk that leads, in base64.
     pub leader: String,
@@ -37,6 +36,21 @@ pub struct Etcd {
     pub asked: usize,
     /// The endpoints that were asked, in order.
     pub endpoints: Vec<usize>,
+}
+
+// By hand, so that each exit of a caller drops an etcd by one call.
+impl Drop for Etcd {
+    fn drop(self) {
+        let Etcd {
+            leader,
+            pairs,
+            asked: _,
+            endpoints,
+        } = self;
+        drop(leader);
+        drop(pairs);
+        drop(endpoints);
+    }
 }
 
 impl Etcd {
@@ -100,14 +114,21 @@ struct RangeRequest {
     limit: usize,
 }
 
+/// Returns the request for pairs that a value says.
+fn range_request_in(alloc: Global, request: &Value) -> Option<RangeRequest> {
+    let limit = request.pointer("/limit")?.as_str()?;
+    Some(RangeRequest {
+        limit: limit.parse::<usize>().ok()?,
+        key: text_at(alloc, request, "/key")?,
+    })
+}
+
 /// Returns the request for pairs that a text is.
 fn range_request_of(alloc: Global, body: &str) -> Option<RangeRequest> {
     let request = Value::from_str(alloc, body).ok()?;
-    let limit = text_at(alloc, &request, "/limit")?;
-    Some(RangeRequest {
-        key: text_at(alloc, &request, "/key")?,
-        limit: limit.as_str().parse::<usize>().ok()?,
-    })
+    let read = range_request_in(alloc, &request);
+    drop(request);
+    read
 }
 
 /// Returns the answer that a value is at a key.
@@ -131,21 +152,33 @@ fn text_at(alloc: Global, request: &Value, place: &str) -> Option<String> {
     String::from_str(alloc, text).ok()
 }
 
-/// Returns the transaction that a text asks for. All its keys have to be one.
-fn request_of(alloc: Global, body: &str) -> Option<Request> {
-    let request = Value::from_str(alloc, body).ok()?;
-    let key = text_at(alloc, &request, "/compare/0/key")?;
-    let put = text_at(alloc, &request, "/success/0/request_put/key")?;
-    let ranged = text_at(alloc, &request, "/failure/0/request_range/key")?;
-    let version = text_at(alloc, &request, "/compare/0/version")?;
-    if put.as_str() != key.as_str() || ranged.as_str() != key.as_str() || version.as_str() != "0" {
+/// Returns whether all keys of a transaction are one, whose version has to be 0.
+fn is_of_one_key(request: &Value) -> Option<bool> {
+    let key = request.pointer("/compare/0/key")?.as_str()?;
+    let put = request.pointer("/success/0/request_put/key")?.as_str()?;
+    let ranged = request.pointer("/failure/0/request_range/key")?.as_str()?;
+    let version = request.pointer("/compare/0/version")?.as_str()?;
+    Some(put == key && ranged == key && version == "0")
+}
+
+/// Returns the transaction that a value says.
+fn request_in(alloc: Global, request: &Value) -> Option<Request> {
+    if is_of_one_key(request) != Some(true) {
         return None;
     }
     Some(Request {
-        key,
-        leader: text_at(alloc, &request, "/compare/1/value")?,
-        value: text_at(alloc, &request, "/success/0/request_put/value")?,
+        key: text_at(alloc, request, "/compare/0/key")?,
+        leader: text_at(alloc, request, "/compare/1/value")?,
+        value: text_at(alloc, request, "/success/0/request_put/value")?,
     })
+}
+
+/// Returns the transaction that a text asks for.
+fn request_of(alloc: Global, body: &str) -> Option<Request> {
+    let request = Value::from_str(alloc, body).ok()?;
+    let read = request_in(alloc, &request);
+    drop(request);
+    read
 }
 
 /// A desk's way to an etcd that others use too, with the fates of its next requests.
@@ -188,6 +221,17 @@ impl Way<'_> {
 }
 
 impl Way<'_> {
+    /// Answers a transaction, unless it or its answer gets lost.
+    fn post_put(&mut self, alloc: Global, body: &str) -> Result<Vec<u8>, NodeError> {
+        let Some(request) = request_of(alloc, body) else {
+            return Err(NodeError::Unanswered);
+        };
+        match self.play(alloc, &request)? {
+            Some(answer) => Ok(answer.into_bytes()),
+            None => Err(NodeError::Unanswered),
+        }
+    }
+
     /// Answers a request for pairs, or loses it.
     fn post_range(&mut self, alloc: Global, body: &str) -> Result<Vec<u8>, NodeError> {
         let Some(request) = range_request_of(alloc, body) else {
@@ -212,18 +256,28 @@ impl Exchange for Way<'_> {
         if self.etcd.endpoints.push(endpoint).is_err() {
             return Err(NodeError::Memory);
         }
-        if path == "/v3/kv/range" {
-            return self.post_range(alloc, body);
-        }
-        let Some(request) = request_of(alloc, body) else {
-            return Err(NodeError::Unanswered);
-        };
-        if path != "/v3/kv/txn" {
-            return Err(NodeError::Unanswered);
-        }
-        match self.play(alloc, &request)? {
-            Some(answer) => Ok(answer.into_bytes()),
-            None => Err(NodeError::Unanswered),
+        match path {
+            "/v3/kv/range" => self.post_range(alloc, body),
+            "/v3/kv/txn" => self.post_put(alloc, body),
+            _ => Err(NodeError::Unanswered),
         }
     }
+}
+
+/// Returns a text as a name.
+pub fn name_of(alloc: Global, text: &str) -> Result<Name, NodeError> {
+    let bytes = Vec::from_slice(alloc, text.as_bytes())?;
+    Name::new(bytes).ok_or(NodeError::Unanswered)
+}
+
+/// Returns a desk's gateway to the log DAY of an etcd with three endpoints, whose next requests have these fates.
+pub fn gateway_of<'a>(
+    alloc: Global,
+    etcd: &'a mut Etcd,
+    fates: &'a [Fate],
+    desk: &str,
+) -> Result<Gateway<Way<'a>>, NodeError> {
+    let log = name_of(alloc, "DAY")?;
+    let desk = name_of(alloc, desk)?;
+    Ok(Gateway::new(Way { etcd, fates }, 3, log, desk))
 }

@@ -1,7 +1,10 @@
 //! The sink of the journal over a log: what is in the log after its batches, and why it stops.
-use crate::etcd::{Etcd, Way};
+ghost use Rattle.std.specs.Prelude.{◌≤◌};
+ghost use Rattle.gu_etcd.specs.declared.node.TheConstants.{LAST_NUMBER};
+
+use crate::etcd::{Etcd, Way, gateway_of, name_of};
 use crate::memory::node_of;
-use gu_etcd::{Appender, Fate, Gateway, LAST_NUMBER, LogSink, MemoryNode, Name};
+use gu_etcd::{Appender, Fate, Gateway, LAST_NUMBER, LogSink, MemoryNode, Name, NodeError};
 use gu_journal::{MAX_BATCH, Sink, SinkError, is_batch};
 use std::alloc::{AllocError, Global};
 use std::test::Fail;
@@ -65,11 +68,6 @@ fn append_all(sink: LogSink<MemoryNode>) -> Outcome {
         error: None,
         found: found_in(sink.node()),
     }
-}
-
-/// Returns a text as a name.
-fn name_of(alloc: Global, text: &str) -> Result<Option<Name>, AllocError> {
-    Ok(Name::new(Vec::from_slice(alloc, text.as_bytes())?))
 }
 
 /// Has desk A-2 append the batches over an etcd in memory, whose calls have these fates, the last one first.
@@ -160,6 +158,20 @@ fn a_sink_that_gets_no_memory_leaves_the_log_as_it_was(rt: HostRuntime) {
     }
 }
 
+/// Returns the sink of a desk that knows a number of entries, over the log DAY.
+fn sink_of<'a>(
+    alloc: Global,
+    etcd: &'a mut Etcd,
+    desk: &str,
+    count: u64,
+) -> Result<LogSink<Gateway<Way<'a>>>, NodeError>
+    requires { count ≤ LAST_NUMBER }
+{
+    let gateway = gateway_of(alloc, etcd, &[], desk)?;
+    let name = name_of(alloc, desk)?;
+    Ok(LogSink::new(alloc, Appender::new(gateway, count), name))
+}
+
 /// Has a desk that knows a number of entries append a batch to the log DAY, and returns how many it knows then.
 fn append(
     alloc: Global,
@@ -171,15 +183,10 @@ fn append(
     if count > LAST_NUMBER || !is_batch(batch) {
         return Err(SinkError::Failed);
     }
-    let (Ok(Some(log)), Ok(Some(leader)), Ok(Some(name))) = (
-        name_of(alloc, "DAY"),
-        name_of(alloc, desk),
-        name_of(alloc, desk),
-    ) else {
+    let Ok(sink) = sink_of(alloc, etcd, desk, count) else {
         return Err(SinkError::Memory);
     };
-    let gateway = Gateway::new(Way { etcd, fates: &[] }, 3, log, leader);
-    match LogSink::new(alloc, Appender::new(gateway, count), name).append(batch) {
+    match sink.append(batch) {
         Ok(sink) => Ok(sink.count()),
         Err(stopped) => Err(stopped.error()),
     }
