@@ -55,12 +55,7 @@ fn recovered(alloc: Global, image: &[u8]) -> Result<Memory, SinkError> {
 }
 
 /// Returns what one of a call's tears leaves.
-fn torn_image(
-    alloc: Global,
-    olds: &[u8],
-    call: &Call,
-    tear: usize,
-) -> Result<Vec<u8>, SinkError> {
+fn torn_image(alloc: Global, olds: &[u8], call: &Call, tear: usize) -> Result<Vec<u8>, SinkError> {
     torn(alloc, olds, call, tear).map_err(|_| SinkError::Memory)
 }
 
