@@ -14,8 +14,6 @@ mod conversations;
 #[cfg(test)]
 mod cuts;
 #[cfg(test)]
-mod desks;
-#[cfg(test)]
 mod exchanges;
 #[cfg(test)]
 mod faults;
