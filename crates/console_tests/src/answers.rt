@@ -1,11 +1,6 @@
 //! Lines of operators, and their answers.
 
-use crate::house::book_of;
-use crate::opening::annals_of;
-use crate::transcript::play;
-use std::marker::Brand;
-use std::sync::ledger::Blank;
-use trials::meant;
+use crate::transcript::heard_of;
 
 /// The day of docs/rules/script.md, its first sweep made at the console.
 const A_DAY: &str = "\
@@ -133,21 +128,8 @@ CONNECTION 5 - PORT 50515 SINCE 7 HEARD 0 IN 0 OUT 0 EXPECTS 1 SENDS 1 HELD 18
 
 #[test]
 fn lines_are_answered_as_a_script_is(rt: HostRuntime) {
-    let alloc = rt.alloc();
-    let book = book_of(alloc).expect(&rt, "a book");
-    let annals = annals_of(&rt, alloc, &book);
-    let transcript = meant(alloc, A_DAY).expect(&rt, "memory");
-    let heard = play::<Brand, Brand, HostRuntime>(
-        &rt,
-        alloc,
-        book,
-        annals,
-        Blank::new(4),
-        Blank::new(4),
-        &transcript,
-    );
     // Others receive each of the 16 entries, including the last.
-    assert_eq!(rt; heard, (16, 16));
+    assert_eq!(rt; heard_of(&rt, rt.alloc(), A_DAY), (16, 16));
 }
 
 /// Lines that are none, or not an operator's.
@@ -211,20 +193,7 @@ BAD LINE
 
 #[test]
 fn what_is_no_line_is_bad_and_the_connection_goes_on(rt: HostRuntime) {
-    let alloc = rt.alloc();
-    let book = book_of(alloc).expect(&rt, "a book");
-    let annals = annals_of(&rt, alloc, &book);
-    let transcript = meant(alloc, BAD).expect(&rt, "memory");
-    let heard = play::<Brand, Brand, HostRuntime>(
-        &rt,
-        alloc,
-        book,
-        annals,
-        Blank::new(4),
-        Blank::new(4),
-        &transcript,
-    );
-    assert_eq!(rt; heard, (1, 1));
+    assert_eq!(rt; heard_of(&rt, rt.alloc(), BAD), (1, 1));
 }
 
 /// Connections are cut, the lead is asked for, and the day is closed once.
@@ -271,20 +240,7 @@ CONNECTION 5 - PORT 50515 SINCE 7 HEARD 0 IN 0 OUT 0 EXPECTS 1 SENDS 1 HELD 18
 
 #[test]
 fn an_operator_cuts_connections_and_closes_the_day_once(rt: HostRuntime) {
-    let alloc = rt.alloc();
-    let book = book_of(alloc).expect(&rt, "a book");
-    let annals = annals_of(&rt, alloc, &book);
-    let transcript = meant(alloc, CLOSING).expect(&rt, "memory");
-    let heard = play::<Brand, Brand, HostRuntime>(
-        &rt,
-        alloc,
-        book,
-        annals,
-        Blank::new(4),
-        Blank::new(4),
-        &transcript,
-    );
-    assert_eq!(rt; heard, (1, 1));
+    assert_eq!(rt; heard_of(&rt, rt.alloc(), CLOSING), (1, 1));
 }
 
 /// Lines of who only watches.
@@ -344,20 +300,7 @@ CONNECTION 5 - PORT 50515 SINCE 7 HEARD 0 IN 0 OUT 0 EXPECTS 1 SENDS 1 HELD 18
 
 #[test]
 fn who_watches_changes_nothing(rt: HostRuntime) {
-    let alloc = rt.alloc();
-    let book = book_of(alloc).expect(&rt, "a book");
-    let annals = annals_of(&rt, alloc, &book);
-    let transcript = meant(alloc, WATCHED).expect(&rt, "memory");
-    let heard = play::<Brand, Brand, HostRuntime>(
-        &rt,
-        alloc,
-        book,
-        annals,
-        Blank::new(4),
-        Blank::new(4),
-        &transcript,
-    );
-    assert_eq!(rt; heard, (1, 1));
+    assert_eq!(rt; heard_of(&rt, rt.alloc(), WATCHED), (1, 1));
 }
 
 /// The journal of the day of docs/rules/script.md, as two operators follow it.
@@ -449,18 +392,5 @@ SWEEP G1
 
 #[test]
 fn a_journal_is_followed_from_entry_to_entry(rt: HostRuntime) {
-    let alloc = rt.alloc();
-    let book = book_of(alloc).expect(&rt, "a book");
-    let annals = annals_of(&rt, alloc, &book);
-    let transcript = meant(alloc, FOLLOWED).expect(&rt, "memory");
-    let heard = play::<Brand, Brand, HostRuntime>(
-        &rt,
-        alloc,
-        book,
-        annals,
-        Blank::new(4),
-        Blank::new(4),
-        &transcript,
-    );
-    assert_eq!(rt; heard, (11, 11));
+    assert_eq!(rt; heard_of(&rt, rt.alloc(), FOLLOWED), (11, 11));
 }

@@ -1,10 +1,6 @@
 //! How much of a journal is shown at once.
 
-use crate::house::book_of;
-use crate::opening::annals_of;
-use crate::transcript::play;
-use std::marker::Brand;
-use std::sync::ledger::Blank;
+use crate::transcript::heard_of;
 use trials::meant;
 
 /// Six hundred entries.
@@ -37,20 +33,7 @@ const ENTRIES: &str = "\
 
 #[test]
 fn at_most_256_entries_are_shown_at_once(rt: HostRuntime) {
-    let alloc = rt.alloc();
-    let transcript = meant(alloc, ENTRIES).expect(&rt, "memory");
-    let book = book_of(alloc).expect(&rt, "a book");
-    let annals = annals_of(&rt, alloc, &book);
-    let heard = play::<Brand, Brand, HostRuntime>(
-        &rt,
-        alloc,
-        book,
-        annals,
-        Blank::new(4),
-        Blank::new(4),
-        &transcript,
-    );
-    assert_eq!(rt; heard, (601, 601));
+    assert_eq!(rt; heard_of(&rt, rt.alloc(), ENTRIES), (601, 601));
 }
 
 /// Entries of 352 to 354 bytes, `@` for sixteen pairs of 21: the lines of the first 185 have 65,382 bytes, and a 186th doesn't fit.
@@ -74,19 +57,7 @@ fn at_most_65536_bytes_are_shown_at_once(rt: HostRuntime) {
     let alloc = rt.alloc();
     let pairs = meant(alloc, "( AAAAAAAAAAAA 1000000*16)").expect(&rt, "memory");
     let transcript = BYTES.replace(alloc, "@", &pairs).expect(&rt, "memory");
-    let transcript = meant(alloc, &transcript).expect(&rt, "memory");
-    let book = book_of(alloc).expect(&rt, "a book");
-    let annals = annals_of(&rt, alloc, &book);
-    let heard = play::<Brand, Brand, HostRuntime>(
-        &rt,
-        alloc,
-        book,
-        annals,
-        Blank::new(4),
-        Blank::new(4),
-        &transcript,
-    );
-    assert_eq!(rt; heard, (400, 400));
+    assert_eq!(rt; heard_of(&rt, rt.alloc(), &transcript), (400, 400));
 }
 
 /// A sweep of 4,096 offers, whose takes and cut have more than 65,536 bytes.
@@ -128,18 +99,5 @@ DAY 20260106
 
 #[test]
 fn an_entry_that_is_longer_is_shown_alone(rt: HostRuntime) {
-    let alloc = rt.alloc();
-    let transcript = meant(alloc, SWEEP).expect(&rt, "memory");
-    let book = book_of(alloc).expect(&rt, "a book");
-    let annals = annals_of(&rt, alloc, &book);
-    let heard = play::<Brand, Brand, HostRuntime>(
-        &rt,
-        alloc,
-        book,
-        annals,
-        Blank::new(4),
-        Blank::new(4),
-        &transcript,
-    );
-    assert_eq!(rt; heard, (265, 265));
+    assert_eq!(rt; heard_of(&rt, rt.alloc(), SWEEP), (265, 265));
 }

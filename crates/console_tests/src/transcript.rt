@@ -5,16 +5,18 @@
 ghost use Rattle.std.specs.Prelude.{◌≡◌};
 ghost use Rattle.gu_terms.specs.Histories.{lots_swept};
 
-use crate::house::{Heard, TestOffice};
-use crate::opening::desk_of;
+use crate::house::{Heard, TestOffice, book_of};
+use crate::opening::{annals_of, desk_of};
 use gu_book::Book;
 use gu_console::{Console, Operator, Said};
 use gu_desk::{BlankAnnals, Desk, EntryLedger, LotLedger};
 use gu_houses::{SeatReceipts, Tally};
 use std::alloc::Global;
+use std::marker::Brand;
 use std::process::Abort;
 use std::sync::Wait;
 use std::sync::ledger::Blank;
+use trials::meant;
 
 /// What operators at one desk share.
 #[derive(Drop)]
@@ -111,55 +113,83 @@ fn check_seen<E: EntryLedger, S: LotLedger, R: Wait + Abort>(
     }
 }
 
-/// Sends the lines of a transcript, and compares their answers.
-fn follow<E: EntryLedger, S: LotLedger, R: Wait + Abort>(
-    rt: &R,
-    alloc: Global,
-    room: &Room<'_, E, S, R>,
-    mut seats: Vec<SeatReceipts<E, S>>,
-    transcript: &str,
-) {
-    let mut first = operator_of(room, seats.pop().expect(rt, "a seat"), false);
-    let mut second = operator_of(room, seats.pop().expect(rt, "a seat"), false);
-    let mut watch = operator_of(room, seats.pop().expect(rt, "a seat"), true);
-    let lines = lines_of(alloc, transcript).expect(rt, "memory");
-    for place in 0..lines.len() {
-        let line = lines[place];
-        if !begins_told(line) {
-            continue;
-        }
-        let expected = expected_of(alloc, &lines[place + 1..]).expect(rt, "memory");
-        let expected = expected.as_str();
-        if let Some(line) = line.strip_prefix("> ") {
-            check_line(rt, alloc, &mut first, line, expected);
-        } else if let Some(line) = line.strip_prefix("+ ") {
-            check_line(rt, alloc, &mut second, line, expected);
-        } else if let Some(line) = line.strip_prefix("? ") {
-            check_line(rt, alloc, &mut watch, line, expected);
-        } else if let Some(line) = line.strip_prefix("- ") {
-            let mut output = Vec::new(alloc);
-            let said = second.answer(line.as_bytes(), &mut output);
-            assert_eq!(rt; said, Ok(Said::GoesOn), "{line}");
-        } else if line.starts_with("! ") {
-            first.begin();
-        } else if line.starts_with("@ ") {
-            room.office.put_in_log();
+/// Three operators, of whom the third only watches.
+struct Operators<'a, E: EntryLedger, S: LotLedger, R: Wait> {
+    first: Operator<'a, E, S, R, TestOffice, Heard>,
+    second: Operator<'a, E, S, R, TestOffice, Heard>,
+    watch: Operator<'a, E, S, R, TestOffice, Heard>,
+}
+
+impl<'a, E: EntryLedger, S: LotLedger, R: Wait + Abort> Operators<'a, E, S, R> {
+    /// Returns the operators from these seats.
+    fn new(room: &Room<'a, E, S, R>, mut seats: Vec<SeatReceipts<E, S>>) -> Self {
+        let rt = room.rt;
+        Operators {
+            first: operator_of(room, seats.pop().expect(rt, "a seat"), false),
+            second: operator_of(room, seats.pop().expect(rt, "a seat"), false),
+            watch: operator_of(room, seats.pop().expect(rt, "a seat"), true),
         }
     }
-    drop(first.into_seat());
-    drop(second.into_seat());
-    drop(watch.into_seat());
+
+    /// Sends a line of the second operator whose answer isn't compared.
+    fn send(&mut self, room: &Room<'a, E, S, R>, line: &str) {
+        let rt = room.rt;
+        let mut output = Vec::new(room.alloc);
+        let said = self.second.answer(line.as_bytes(), &mut output);
+        assert_eq!(rt; said, Ok(Said::GoesOn), "{line}");
+    }
+
+    /// Sends a line of a transcript, and compares its answer.
+    fn say(&mut self, room: &Room<'a, E, S, R>, line: &str, expected: &str) {
+        let (sign, line) = line.split_once(' ').unwrap_or((line, ""));
+        match sign {
+            ">" => check_line(room.rt, room.alloc, &mut self.first, line, expected),
+            "+" => check_line(room.rt, room.alloc, &mut self.second, line, expected),
+            "?" => check_line(room.rt, room.alloc, &mut self.watch, line, expected),
+            "-" => self.send(room, line),
+            "!" => self.first.begin(),
+            "@" => room.office.put_in_log(),
+            _ => {}
+        }
+    }
+
+    /// Gives the seats back.
+    fn leave(self) {
+        let Operators {
+            first,
+            second,
+            watch,
+        } = self;
+        drop(first.into_seat());
+        drop(second.into_seat());
+        drop(watch.into_seat());
+    }
+}
+
+/// Sends the lines of a transcript, and compares their answers.
+fn follow<'a, E: EntryLedger, S: LotLedger, R: Wait + Abort>(
+    room: &Room<'a, E, S, R>,
+    operators: &mut Operators<'a, E, S, R>,
+    lines: &[&str],
+) {
+    for place in 0..lines.len() {
+        let line = lines[place];
+        if begins_told(line) {
+            let expected = expected_of(room.alloc, &lines[place + 1..]).expect(room.rt, "memory");
+            operators.say(room, line, &expected);
+        }
+    }
 }
 
 /// Plays a transcript at a desk over a book, and returns how many entries others received, and the number of the last.
-pub fn play<E: EntryLedger, S: LotLedger, R: Wait + Abort>(
+fn play<E: EntryLedger, S: LotLedger, R: Wait + Abort>(
     rt: &R,
     alloc: Global,
     book: Book,
     annals: BlankAnnals,
     entries: Blank,
     swept: Blank,
-    transcript: &String,
+    transcript: &str,
 ) -> (u64, u64)
     requires reference { book.reference ≡ E.reference }
     requires opening { (book.history ≡ E.opening) × (lots_swept book.history ≡ S.opening) }
@@ -179,8 +209,27 @@ pub fn play<E: EntryLedger, S: LotLedger, R: Wait + Abort>(
         tally: &tally,
         heard: &heard,
     };
-    follow(rt, alloc, &room, seats, transcript);
+    let mut operators = Operators::new(&room, seats);
+    let lines = lines_of(alloc, transcript).expect(rt, "memory");
+    follow(&room, &mut operators, &lines);
+    operators.leave();
     assert_eq!(rt; tally.counts().entries, heard.counts().0);
     assert_eq!(rt; heard.own(), heard.counts().0);
     heard.counts()
+}
+
+/// Plays a transcript, whose signs are replaced, at a desk over a book of the sample, and returns the same.
+pub fn heard_of<R: Wait + Abort>(rt: &R, alloc: Global, transcript: &str) -> (u64, u64) {
+    let book = book_of(alloc).expect(rt, "a book");
+    let annals = annals_of(rt, alloc, &book);
+    let transcript = meant(alloc, transcript).expect(rt, "memory");
+    play::<Brand, Brand, R>(
+        rt,
+        alloc,
+        book,
+        annals,
+        Blank::new(4),
+        Blank::new(4),
+        &transcript,
+    )
 }

@@ -1,18 +1,14 @@
 //! Desks over books that have room for one entry.
 
-ghost use Rattle.std.specs.Prelude.{◌≡◌};
-ghost use Rattle.gu_terms.specs.Histories.{lots_swept};
-
-use crate::opening::{annals_of, opened};
+use crate::opening::{DeskDay, closed, open_and_spend};
 use crate::sample::{book_of, command_of};
 use crate::transcript::follow;
 use gu_book::Book;
-use gu_desk::{AuditFault, BlankAnnals, EntryLedger, LotLedger, audit};
+use gu_desk::{AuditFault, Desk, EntryLedger, LotLedger, Seat, audit};
 use std::alloc::Global;
-use std::marker::Brand;
 use std::process::Abort;
 use std::sync::Wait;
-use std::sync::ledger::Blank;
+use std::thread::Threads;
 
 /// A command is the last entry. Then nothing is entered, and queries are answered as before.
 const A_COMMAND_IS_LAST: &str = "\
@@ -76,50 +72,29 @@ fn almost_full(rt: &impl Abort, alloc: Global) -> Book {
     book
 }
 
-/// Sends lines to a desk over a book, and closes it with a million entries.
-fn fill_book<E: EntryLedger, S: LotLedger, R: Wait + Abort>(
-    rt: &R,
-    alloc: Global,
-    book: Book,
-    annals: BlankAnnals,
-    entries: Blank,
-    swept: Blank,
-    last: Last,
-)
-    requires reference { book.reference ≡ E.reference }
-    requires opening { (book.history ≡ E.opening) × (lots_swept book.history ≡ S.opening) }
-    requires history { (annals.name ≡ E.history) × (annals.entries ≡ E.opening) }
-    requires entries { (entries.name ≡ E.name) × (entries.parts ≡ E.parts) × (entries.parts ≡ 3) }
-    requires swept { (swept.name ≡ S.name) × (swept.parts ≡ S.parts) × (swept.parts ≡ 3) }
-{
-    let (desk, mut seats) = opened::<E, S, R>(rt, alloc, book, annals, 2, entries, swept);
-    let mut seat = seats.pop().expect(rt, "a seat");
-    let mut other = seats.pop().expect(rt, "another seat");
-    follow(rt, alloc, &desk, &mut seat, last.lines());
-    assert_eq!(rt; (seat.seen(), other.seen()), (1_000_000, 999_999));
-    follow(rt, alloc, &desk, &mut other, last.refused());
-    assert_eq!(rt; other.seen(), 1_000_000);
-    assert!(rt; seats.push(seat).is_ok());
-    assert!(rt; seats.push(other).is_ok());
-    let book = desk.close(seats).ok().expect(rt, "all seats");
-    assert_eq!(rt; book.history().len(), 1_000_000);
-    assert_eq!(rt; audit(alloc, &book, &[]), Err(AuditFault::Unclaimed(1)));
+impl DeskDay for Last {
+    fn spend<
+        E: EntryLedger + Send + Sync,
+        S: LotLedger + Send + Sync,
+        R: Threads + Wait + Abort + Sync,
+    >(self, rt: &R, alloc: Global, desk: Desk<E, S>, mut seats: Vec<Seat<E, S>>) {
+        let mut seat = seats.pop().expect(rt, "a seat");
+        let mut other = seats.pop().expect(rt, "another seat");
+        follow(rt, alloc, &desk, &mut seat, self.lines());
+        assert_eq!(rt; (seat.seen(), other.seen()), (1_000_000, 999_999));
+        follow(rt, alloc, &desk, &mut other, self.refused());
+        assert_eq!(rt; other.seen(), 1_000_000);
+        assert!(rt; seats.push(other).is_ok());
+        let book = closed(rt, desk, seats, seat);
+        assert_eq!(rt; book.history().len(), 1_000_000);
+        assert_eq!(rt; audit(alloc, &book, &[]), Err(AuditFault::Unclaimed(1)));
+    }
 }
 
 #[test]
 fn a_desk_over_a_full_book_enters_nothing(rt: HostRuntime) {
-    let alloc = rt.alloc();
     for last in [Last::Command, Last::Sweep] {
-        let book = almost_full(&rt, alloc);
-        let annals = annals_of(&rt, alloc, &book);
-        fill_book::<Brand, Brand, HostRuntime>(
-            &rt,
-            alloc,
-            book,
-            annals,
-            Blank::new(3),
-            Blank::new(3),
-            last,
-        );
+        let book = almost_full(&rt, rt.alloc());
+        open_and_spend(&rt, rt.alloc(), book, 2, last);
     }
 }

@@ -1,19 +1,15 @@
 //! A desk of 64 seats over a book with 4,096 open offers, looked at and swept thousands of times.
 
-ghost use Rattle.std.specs.Prelude.{◌≡◌};
-ghost use Rattle.gu_terms.specs.Histories.{lots_swept};
-
-use crate::opening::{annals_of, opened};
+use crate::opening::{DeskDay, closed, open_and_spend};
 use crate::sample::{A_TRADE, book_of, command_of, group_of};
 use crate::transcript::follow;
 use gu_book::Book;
-use gu_desk::{BlankAnnals, Desk, Direct, EntryLedger, LotLedger, Seat};
+use gu_desk::{Desk, Direct, EntryLedger, LotLedger, Seat};
 use gu_terms::FirmId;
 use std::alloc::{AllocError, Global};
-use std::marker::Brand;
 use std::process::Abort;
 use std::sync::Wait;
-use std::sync::ledger::Blank;
+use std::thread::Threads;
 
 /// Trades of more lots, in the place of that of ten.
 const MORE_LOTS: &str = "\
@@ -80,41 +76,26 @@ fn look_and_sweep<E: EntryLedger, S: LotLedger, R: Wait + Abort>(
     }
 }
 
-/// Sweeps the offers from one seat of 64, and a group without offers again and again.
-fn sweep_all<E: EntryLedger, S: LotLedger, R: Wait + Abort>(
-    rt: &R,
-    alloc: Global,
-    book: Book,
-    annals: BlankAnnals,
-    entries: Blank,
-    swept: Blank,
-)
-    requires reference { book.reference ≡ E.reference }
-    requires opening { (book.history ≡ E.opening) × (lots_swept book.history ≡ S.opening) }
-    requires history { (annals.name ≡ E.history) × (annals.entries ≡ E.opening) }
-    requires entries { (entries.name ≡ E.name) × (entries.parts ≡ E.parts) × (entries.parts ≡ 65) }
-    requires swept { (swept.name ≡ S.name) × (swept.parts ≡ S.parts) × (swept.parts ≡ 65) }
-{
-    let (desk, mut seats) = opened::<E, S, R>(rt, alloc, book, annals, 64, entries, swept);
-    let mut seat = seats.pop().expect(rt, "a seat");
-    follow(rt, alloc, &desk, &mut seat, SWEPT);
-    look_and_sweep(rt, &desk, &mut seat);
-    assert!(rt; seats.push(seat).is_ok());
-    let book = desk.close(seats).ok().expect(rt, "all seats");
-    assert_eq!(rt; (book.history().len(), book.lots_swept()), (1_767, 100));
+/// Sweeps of the offers from one seat, and of a group without offers again and again.
+#[derive(Drop)]
+struct SweptDay;
+
+impl DeskDay for SweptDay {
+    fn spend<
+        E: EntryLedger + Send + Sync,
+        S: LotLedger + Send + Sync,
+        R: Threads + Wait + Abort + Sync,
+    >(self, rt: &R, alloc: Global, desk: Desk<E, S>, mut seats: Vec<Seat<E, S>>) {
+        let mut seat = seats.pop().expect(rt, "a seat");
+        follow(rt, alloc, &desk, &mut seat, SWEPT);
+        look_and_sweep(rt, &desk, &mut seat);
+        let book = closed(rt, desk, seats, seat);
+        assert_eq!(rt; (book.history().len(), book.lots_swept()), (1_767, 100));
+    }
 }
 
 #[test]
 fn a_desk_of_64_seats_sweeps_4096_offers(rt: HostRuntime) {
-    let alloc = rt.alloc();
-    let book = book_with_offers(&rt, alloc);
-    let annals = annals_of(&rt, alloc, &book);
-    sweep_all::<Brand, Brand, HostRuntime>(
-        &rt,
-        alloc,
-        book,
-        annals,
-        Blank::new(65),
-        Blank::new(65),
-    );
+    let book = book_with_offers(&rt, rt.alloc());
+    open_and_spend(&rt, rt.alloc(), book, 64, SweptDay);
 }

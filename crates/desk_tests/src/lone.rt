@@ -1,19 +1,15 @@
 //! One seat after another: what a lone sweep takes, what is known after it, and how a desk is closed.
 
-ghost use Rattle.std.specs.Prelude.{◌≡◌};
-ghost use Rattle.gu_terms.specs.Histories.{lots_swept};
-
-use crate::opening::{annals_of, opened};
+use crate::opening::{DeskDay, closed, open_and_spend};
 use crate::sample::{book_of, command_of, group_of};
 use crate::transcript::{follow, stretch_text, view_text};
 use gu_book::Book;
-use gu_desk::{BlankAnnals, CloseFault, Desk, Entered, EntryLedger, LotLedger, Seat, SweepOrder};
+use gu_desk::{CloseFault, Desk, Entered, EntryLedger, LotLedger, Seat, SweepOrder};
 use gu_terms::{FirmId, Group};
 use std::alloc::{AllocError, Global};
-use std::marker::Brand;
 use std::process::Abort;
 use std::sync::Wait;
-use std::sync::ledger::Blank;
+use std::thread::Threads;
 
 /// A trade of seven lots, all of which are given up.
 const OFFERED: &str = "\
@@ -114,47 +110,39 @@ fn close<E: EntryLedger, S: LotLedger, R: Abort>(
     seats: Vec<Seat<E, S>>,
     seat: Seat<E, S>,
 ) -> Book {
-    let Err((fault, desk, mut seats)) = desk.close(seats) else {
+    let Err((fault, desk, seats)) = desk.close(seats) else {
         panic!(rt; "a seat is missing");
     };
     assert_eq!(rt; (fault, seats.len()), (CloseFault::SeatMissing, 1));
-    assert!(rt; seats.push(seat).is_ok());
-    desk.close(seats).ok().expect(rt, "all seats")
+    closed(rt, desk, seats, seat)
 }
 
-/// Enters a trade and its give-up from one of two seats, sweeps, asks from the other, and closes the desk.
-fn lone<E: EntryLedger, S: LotLedger, R: Wait + Abort>(
-    rt: &R,
-    alloc: Global,
-    book: Book,
-    annals: BlankAnnals,
-    entries: Blank,
-    swept: Blank,
-)
-    requires reference { book.reference ≡ E.reference }
-    requires opening { (book.history ≡ E.opening) × (lots_swept book.history ≡ S.opening) }
-    requires history { (annals.name ≡ E.history) × (annals.entries ≡ E.opening) }
-    requires entries { (entries.name ≡ E.name) × (entries.parts ≡ E.parts) × (entries.parts ≡ 3) }
-    requires swept { (swept.name ≡ S.name) × (swept.parts ≡ S.parts) × (swept.parts ≡ 3) }
-{
-    let (desk, mut seats) = opened::<E, S, R>(rt, alloc, book, annals, 2, entries, swept);
-    let mut seat = seats.pop().expect(rt, "a seat");
-    let mut other = seats.pop().expect(rt, "another seat");
-    follow(rt, alloc, &desk, &mut seat, OFFERED);
-    sweep_seen(rt, alloc, &desk, &mut seat);
-    follow(rt, alloc, &desk, &mut other, FROM_ANOTHER_SEAT);
-    offer_told(rt, alloc, &desk, &mut other);
-    assert!(rt; seats.push(other).is_ok());
-    let book = close(rt, desk, seats, seat);
-    assert_eq!(rt; (book.history().len(), book.lots_swept()), (16, 7));
+/// A trade and its give-up from one of two seats, a sweep, and questions from the other.
+#[derive(Drop)]
+struct LoneDay;
+
+impl DeskDay for LoneDay {
+    fn spend<
+        E: EntryLedger + Send + Sync,
+        S: LotLedger + Send + Sync,
+        R: Threads + Wait + Abort + Sync,
+    >(self, rt: &R, alloc: Global, desk: Desk<E, S>, mut seats: Vec<Seat<E, S>>) {
+        let mut seat = seats.pop().expect(rt, "a seat");
+        let mut other = seats.pop().expect(rt, "another seat");
+        follow(rt, alloc, &desk, &mut seat, OFFERED);
+        sweep_seen(rt, alloc, &desk, &mut seat);
+        follow(rt, alloc, &desk, &mut other, FROM_ANOTHER_SEAT);
+        offer_told(rt, alloc, &desk, &mut other);
+        assert!(rt; seats.push(other).is_ok());
+        let book = close(rt, desk, seats, seat);
+        assert_eq!(rt; (book.history().len(), book.lots_swept()), (16, 7));
+    }
 }
 
 #[test]
 fn a_lone_sweep_takes_what_is_there(rt: HostRuntime) {
-    let alloc = rt.alloc();
-    let book = book_of(alloc).expect(&rt, "a book");
-    let annals = annals_of(&rt, alloc, &book);
-    lone::<Brand, Brand, HostRuntime>(&rt, alloc, book, annals, Blank::new(3), Blank::new(3));
+    let book = book_of(rt.alloc()).expect(&rt, "a book");
+    open_and_spend(&rt, rt.alloc(), book, 2, LoneDay);
 }
 
 /// Returns the group that is to be swept after a line, if any.

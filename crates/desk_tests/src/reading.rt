@@ -1,19 +1,15 @@
 //! The desk's one history: seats that see it grow, and its entries read in pieces.
 
-ghost use Rattle.std.specs.Prelude.{◌≡◌};
-ghost use Rattle.gu_terms.specs.Histories.{lots_swept};
-
-use crate::opening::{annals_of, opened};
+use crate::opening::{DeskDay, closed, open_and_spend};
 use crate::reader::Reader;
 use crate::sample::{A_TRADE, book_of, command_of};
 use gu_book::Book;
-use gu_desk::{Answer, BlankAnnals, Desk, Entered, EntryLedger, LotLedger, Seat};
+use gu_desk::{Answer, Desk, Entered, EntryLedger, LotLedger, Seat};
 use gu_terms::{FirmId, Query};
 use std::alloc::Global;
-use std::marker::Brand;
 use std::process::Abort;
 use std::sync::Wait;
-use std::sync::ledger::Blank;
+use std::thread::Threads;
 
 /// Returns the number after the last entry, as a seat sees it.
 fn next_of<E: EntryLedger, S: LotLedger, R: Wait + Abort>(
@@ -68,40 +64,60 @@ const PIECES: &[(&str, usize, usize)] = &[
     ("DAY 20260106", usize::MAX, 1),
 ];
 
-/// Reads in pieces what two seats enter in turn, which see each other's entries.
-fn read_in_pieces<E: EntryLedger, S: LotLedger, R: Wait + Abort>(
+/// Reads at most this many entries and shows them to a seat. Returns how many they are.
+fn read_and_show<E: EntryLedger, S: LotLedger, R: Wait + Abort>(
+    rt: &R,
+    desk: &Desk<E, S>,
+    seat: &mut Seat<E, S>,
+    reader: &mut Reader<E>,
+    most: usize,
+) -> Option<usize> {
+    let before = reader.len();
+    let mut held = desk.hold(rt);
+    assert!(rt; reader.read(&mut *held, most).is_ok());
+    reader.show_to(&mut *held, seat);
+    reader.len().checked_sub(before)
+}
+
+/// Enters a line from the second seat, which both see, and reads what there is from the first.
+fn read_piece<E: EntryLedger, S: LotLedger, R: Wait + Abort>(
     rt: &R,
     alloc: Global,
-    book: Book,
-    annals: BlankAnnals,
-    entries: Blank,
-    swept: Blank,
-)
-    requires reference { book.reference ≡ E.reference }
-    requires opening { (book.history ≡ E.opening) × (lots_swept book.history ≡ S.opening) }
-    requires history { (annals.name ≡ E.history) × (annals.entries ≡ E.opening) }
-    requires entries { (entries.name ≡ E.name) × (entries.parts ≡ E.parts) × (entries.parts ≡ 3) }
-    requires swept { (swept.name ≡ S.name) × (swept.parts ≡ S.parts) × (swept.parts ≡ 3) }
-{
-    let (desk, mut seats) = opened::<E, S, R>(rt, alloc, book, annals, 2, entries, swept);
-    let mut seat = seats.pop().expect(rt, "a seat");
-    let mut other = seats.pop().expect(rt, "another seat");
-    let mut reader = reader_after(rt, alloc, &desk, &mut seat, "DAY 20260105");
-    for &(line, most, count) in PIECES {
-        let next = after(rt, alloc, &desk, &mut other, line);
-        assert_eq!(rt; next_of(rt, &desk, &mut seat), next, "{line}");
-        assert_eq!(rt; next_of(rt, &desk, &mut other), next, "{line}");
-        let before = reader.len();
-        let mut held = desk.hold(rt);
-        assert!(rt; reader.read(&mut *held, most).is_ok());
-        reader.show_to(&mut *held, &mut seat);
-        assert_eq!(rt; reader.len().checked_sub(before), Some(count), "{line}");
+    desk: &Desk<E, S>,
+    seat: &mut Seat<E, S>,
+    other: &mut Seat<E, S>,
+    reader: &mut Reader<E>,
+    piece: (&str, usize, usize),
+) {
+    let (line, most, count) = piece;
+    let next = after(rt, alloc, desk, other, line);
+    assert_eq!(rt; next_of(rt, desk, seat), next, "{line}");
+    assert_eq!(rt; next_of(rt, desk, other), next, "{line}");
+    let read = read_and_show(rt, desk, seat, reader, most);
+    assert_eq!(rt; read, Some(count), "{line}");
+}
+
+/// What two seats enter in turn, read in pieces.
+#[derive(Drop)]
+struct DayInPieces;
+
+impl DeskDay for DayInPieces {
+    fn spend<
+        E: EntryLedger + Send + Sync,
+        S: LotLedger + Send + Sync,
+        R: Threads + Wait + Abort + Sync,
+    >(self, rt: &R, alloc: Global, desk: Desk<E, S>, mut seats: Vec<Seat<E, S>>) {
+        let mut seat = seats.pop().expect(rt, "a seat");
+        let mut other = seats.pop().expect(rt, "another seat");
+        let mut reader = reader_after(rt, alloc, &desk, &mut seat, "DAY 20260105");
+        for &piece in PIECES {
+            read_piece(rt, alloc, &desk, &mut seat, &mut other, &mut reader, piece);
+        }
+        assert!(rt; seats.push(other).is_ok());
+        let book = closed(rt, desk, seats, seat);
+        assert_eq!(rt; reader.len(), 7);
+        reader.compare(rt, &book);
     }
-    assert!(rt; seats.push(seat).is_ok());
-    assert!(rt; seats.push(other).is_ok());
-    let book = desk.close(seats).ok().expect(rt, "all seats");
-    assert_eq!(rt; reader.len(), 7);
-    reader.compare(rt, &book);
 }
 
 /// Returns a book with a day, limits and a trade.
@@ -116,41 +132,29 @@ fn book_with_a_trade(rt: &impl Abort, alloc: Global) -> Book {
 
 #[test]
 fn what_seats_enter_in_turn_is_read_in_pieces(rt: HostRuntime) {
-    let alloc = rt.alloc();
-    let book = book_with_a_trade(&rt, alloc);
-    let annals = annals_of(&rt, alloc, &book);
-    read_in_pieces::<Brand, Brand, HostRuntime>(
-        &rt,
-        alloc,
-        book,
-        annals,
-        Blank::new(3),
-        Blank::new(3),
-    );
+    let book = book_with_a_trade(&rt, rt.alloc());
+    open_and_spend(&rt, rt.alloc(), book, 2, DayInPieces);
 }
 
-/// Fills a book from a seat with a day, again and again, and reads it in pieces of 65,536 entries, of which none is kept.
-fn read_a_million<E: EntryLedger, S: LotLedger, R: Wait + Abort>(
+/// Enters the same day again and again, until the book is full.
+fn fill<E: EntryLedger, S: LotLedger, R: Wait + Abort>(
     rt: &R,
     alloc: Global,
-    book: Book,
-    annals: BlankAnnals,
-    entries: Blank,
-    swept: Blank,
-)
-    requires reference { book.reference ≡ E.reference }
-    requires opening { (book.history ≡ E.opening) × (lots_swept book.history ≡ S.opening) }
-    requires history { (annals.name ≡ E.history) × (annals.entries ≡ E.opening) }
-    requires entries { (entries.name ≡ E.name) × (entries.parts ≡ E.parts) × (entries.parts ≡ 2) }
-    requires swept { (swept.name ≡ S.name) × (swept.parts ≡ S.parts) × (swept.parts ≡ 2) }
-{
-    let (desk, mut seats) = opened::<E, S, R>(rt, alloc, book, annals, 1, entries, swept);
-    let mut seat = seats.pop().expect(rt, "a seat");
-    let mut reader = reader_after(rt, alloc, &desk, &mut seat, "DAY 20260105");
+    desk: &Desk<E, S>,
+    seat: &mut Seat<E, S>,
+) {
     let day = command_of(alloc, "DAY 20260105").expect(rt, "a command");
     for _ in 0..999_999 {
-        assert!(rt; desk.hold(rt).enter(&mut seat, &day, None).is_ok());
+        assert!(rt; desk.hold(rt).enter(seat, &day, None).is_ok());
     }
+}
+
+/// Reads a million entries in pieces of 65,536, of which only the last is kept.
+fn read_million<E: EntryLedger, S: LotLedger, R: Wait + Abort>(
+    rt: &R,
+    desk: &Desk<E, S>,
+    reader: &mut Reader<E>,
+) {
     for _ in 0..15 {
         assert!(rt; reader.read(&mut *desk.hold(rt), 65_536).is_ok());
         assert_eq!(rt; reader.len(), 65_536);
@@ -159,22 +163,29 @@ fn read_a_million<E: EntryLedger, S: LotLedger, R: Wait + Abort>(
     assert!(rt; reader.read(&mut *desk.hold(rt), usize::MAX).is_ok());
     assert_eq!(rt; (reader.len(), reader.number()), (16_959, 1_000_000));
     assert!(rt; reader.read(&mut *desk.hold(rt), usize::MAX).is_ok());
-    assert!(rt; seats.push(seat).is_ok());
-    let book = desk.close(seats).ok().expect(rt, "all seats");
-    reader.compare(rt, &book);
+}
+
+/// A book that is filled from a seat, and read to its end.
+#[derive(Drop)]
+struct FullDay;
+
+impl DeskDay for FullDay {
+    fn spend<
+        E: EntryLedger + Send + Sync,
+        S: LotLedger + Send + Sync,
+        R: Threads + Wait + Abort + Sync,
+    >(self, rt: &R, alloc: Global, desk: Desk<E, S>, mut seats: Vec<Seat<E, S>>) {
+        let mut seat = seats.pop().expect(rt, "a seat");
+        let mut reader = reader_after(rt, alloc, &desk, &mut seat, "DAY 20260105");
+        fill(rt, alloc, &desk, &mut seat);
+        read_million(rt, &desk, &mut reader);
+        let book = closed(rt, desk, seats, seat);
+        reader.compare(rt, &book);
+    }
 }
 
 #[test]
 fn a_full_history_is_read_to_its_end(rt: HostRuntime) {
-    let alloc = rt.alloc();
-    let book = book_of(alloc).expect(&rt, "a book");
-    let annals = annals_of(&rt, alloc, &book);
-    read_a_million::<Brand, Brand, HostRuntime>(
-        &rt,
-        alloc,
-        book,
-        annals,
-        Blank::new(2),
-        Blank::new(2),
-    );
+    let book = book_of(rt.alloc()).expect(&rt, "a book");
+    open_and_spend(&rt, rt.alloc(), book, 1, FullDay);
 }

@@ -1,18 +1,14 @@
 //! How many entries a seat has seen, after each kind of call.
 
-ghost use Rattle.std.specs.Prelude.{◌≡◌};
-ghost use Rattle.gu_terms.specs.Histories.{lots_swept};
-
-use crate::opening::{annals_of, opened};
+use crate::opening::{DeskDay, closed, open_and_spend};
 use crate::sample::{book_of, command_of};
 use crate::transcript::answer_to;
 use gu_book::Book;
-use gu_desk::{BlankAnnals, Desk, EntryLedger, LotLedger, Question, Seat};
+use gu_desk::{Desk, EntryLedger, LotLedger, Question, Seat};
 use std::alloc::{AllocError, Global};
-use std::marker::Brand;
 use std::process::Abort;
 use std::sync::Wait;
-use std::sync::ledger::Blank;
+use std::thread::Threads;
 
 /// Lines from a seat, their answers, and how many entries the seat has seen then. Entries from one seat, the other sees
 /// with its next answer, and not before.
@@ -99,40 +95,54 @@ fn see<E: EntryLedger, S: LotLedger, R: Wait + Abort>(
     assert_eq!(rt; (seat.seen(), front.count()), (14, 13));
 }
 
-/// Says lines from two seats in turn, over a book that has two entries.
-fn say_all<E: EntryLedger, S: LotLedger, R: Wait + Abort>(
+/// Says each line from a seat.
+fn say_each<E: EntryLedger, S: LotLedger, R: Wait + Abort>(
     rt: &R,
     alloc: Global,
-    book: Book,
-    annals: BlankAnnals,
-    entries: Blank,
-    swept: Blank,
-)
-    requires reference { book.reference ≡ E.reference }
-    requires opening { (book.history ≡ E.opening) × (lots_swept book.history ≡ S.opening) }
-    requires history { (annals.name ≡ E.history) × (annals.entries ≡ E.opening) }
-    requires entries { (entries.name ≡ E.name) × (entries.parts ≡ E.parts) × (entries.parts ≡ 3) }
-    requires swept { (swept.name ≡ S.name) × (swept.parts ≡ S.parts) × (swept.parts ≡ 3) }
-{
-    let (desk, mut seats) = opened::<E, S, R>(rt, alloc, book, annals, 2, entries, swept);
-    let mut seat = seats.pop().expect(rt, "a seat");
-    let mut other = seats.pop().expect(rt, "another seat");
-    assert_eq!(rt; (seat.seen(), other.seen()), (2, 2));
-    for &row in FIRST {
-        say(rt, alloc, &desk, &mut seat, row);
+    desk: &Desk<E, S>,
+    seat: &mut Seat<E, S>,
+    rows: &[(&str, &str, u64)],
+) {
+    for &row in rows {
+        say(rt, alloc, desk, seat, row);
     }
-    for &row in SECOND {
-        say(rt, alloc, &desk, &mut other, row);
-    }
-    assert_eq!(rt; seat.seen(), 3);
+}
+
+/// Says each line from a seat, and enters a command from another after it.
+fn say_in_turn<E: EntryLedger, S: LotLedger, R: Wait + Abort>(
+    rt: &R,
+    alloc: Global,
+    desk: &Desk<E, S>,
+    seat: &mut Seat<E, S>,
+    other: &mut Seat<E, S>,
+) {
     for &row in IN_TURN {
-        say(rt, alloc, &desk, &mut seat, row);
-        enter(rt, alloc, &desk, &mut other);
+        say(rt, alloc, desk, seat, row);
+        enter(rt, alloc, desk, other);
     }
-    see(rt, alloc, &desk, &mut seat, &mut other);
-    assert!(rt; seats.push(seat).is_ok());
-    assert!(rt; seats.push(other).is_ok());
-    assert!(rt; desk.close(seats).is_ok());
+}
+
+/// Lines that are said from two seats in turn, over a book that has two entries.
+#[derive(Drop)]
+struct DayInTurn;
+
+impl DeskDay for DayInTurn {
+    fn spend<
+        E: EntryLedger + Send + Sync,
+        S: LotLedger + Send + Sync,
+        R: Threads + Wait + Abort + Sync,
+    >(self, rt: &R, alloc: Global, desk: Desk<E, S>, mut seats: Vec<Seat<E, S>>) {
+        let mut seat = seats.pop().expect(rt, "a seat");
+        let mut other = seats.pop().expect(rt, "another seat");
+        assert_eq!(rt; (seat.seen(), other.seen()), (2, 2));
+        say_each(rt, alloc, &desk, &mut seat, FIRST);
+        say_each(rt, alloc, &desk, &mut other, SECOND);
+        assert_eq!(rt; seat.seen(), 3);
+        say_in_turn(rt, alloc, &desk, &mut seat, &mut other);
+        see(rt, alloc, &desk, &mut seat, &mut other);
+        assert!(rt; seats.push(other).is_ok());
+        drop(closed(rt, desk, seats, seat));
+    }
 }
 
 /// Returns a book with a day and a limit.
@@ -147,8 +157,6 @@ fn book_with_a_limit(rt: &impl Abort, alloc: Global) -> Book {
 
 #[test]
 fn a_seat_says_how_many_entries_it_has_seen(rt: HostRuntime) {
-    let alloc = rt.alloc();
-    let book = book_with_a_limit(&rt, alloc);
-    let annals = annals_of(&rt, alloc, &book);
-    say_all::<Brand, Brand, HostRuntime>(&rt, alloc, book, annals, Blank::new(3), Blank::new(3));
+    let book = book_with_a_limit(&rt, rt.alloc());
+    open_and_spend(&rt, rt.alloc(), book, 2, DayInTurn);
 }

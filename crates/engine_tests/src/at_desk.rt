@@ -1,21 +1,17 @@
 //! A seat at a desk as a house: others learn of each entry that a message asks for, and from which message it is.
 
-ghost use Rattle.std.specs.Prelude.{◌≡◌};
-ghost use Rattle.gu_terms.specs.Histories.{lots_swept};
-
 use crate::books::sample;
+use crate::desks::{Asking, open_and_ask};
 use gu_book::Book;
-use gu_desk::{BlankAnnals, Desk, EntryLedger, FirmFilter, FirmMessage, LotLedger, Origin, Seat};
+use gu_desk::{Desk, EntryLedger, FirmFilter, FirmMessage, LotLedger, Origin};
 use gu_engine::{Ask, House};
 use gu_houses::{AtDesk, Informs, OpenOrders, Orders, SeatReceipts, Tally};
 use gu_msgs::Request;
 use gu_terms::{AccountId, FirmId, Moment, Query};
 use gu_text::Line;
 use gu_world::Step;
-use std::alloc::{AllocError, Global};
-use std::marker::Brand;
+use std::alloc::Global;
 use std::process::Abort;
-use std::sync::ledger::Blank;
 use std::sync::{Mutex, Wait};
 
 /// The last entry that others received: its number, and who made it.
@@ -73,6 +69,39 @@ fn moment_of(rt: &impl Abort, number: u64) -> Moment {
     Moment::new(number).expect(rt, "a moment")
 }
 
+/// Returns the origin of a message.
+fn origin_of(rt: &impl Abort, connection: u64, number: u64, moment: u64) -> Origin {
+    Origin {
+        moment: moment_of(rt, moment),
+        message: Some(FirmMessage {
+            firm: sender(rt),
+            connection,
+            number,
+        }),
+    }
+}
+
+/// Asks a house for a message. Returns whether it enters something.
+fn ask_for<E: EntryLedger, S: LotLedger, R: Wait + Abort>(
+    rt: &R,
+    alloc: Global,
+    house: &mut AtDesk<'_, '_, E, S, R, Heard>,
+    message: (u64, u64, u64, &str),
+) -> bool {
+    let (connection, number, moment, line) = message;
+    let request = request_of(alloc, line).expect(rt, "a request");
+    let enters = matches!(request, Request::Enter(_));
+    house.resume(connection, 0);
+    let ask = Ask {
+        firm: sender(rt),
+        number,
+        now: moment_of(rt, moment),
+        request,
+    };
+    assert!(rt; house.answer(ask, 1).is_ok(), "{line}");
+    enters
+}
+
 /// Asks a house for each message, and compares what others learn with what was asked.
 fn ask_all<E: EntryLedger, S: LotLedger, R: Wait + Abort>(
     rt: &R,
@@ -82,85 +111,47 @@ fn ask_all<E: EntryLedger, S: LotLedger, R: Wait + Abort>(
 ) {
     let mut entries: u64 = 0;
     for &(connection, number, moment, line) in MESSAGES {
-        let request = request_of(alloc, line).expect(rt, "a request");
-        let asks = matches!(request, Request::Ask(_));
-        house.resume(connection, 0);
-        let ask = Ask {
-            firm: sender(rt),
-            number,
-            now: moment_of(rt, moment),
-            request,
-        };
-        assert!(rt; house.answer(ask, 1).is_ok(), "{line}");
-        if asks {
-            assert!(rt; heard.take().is_none(), "{connection} {number}");
-        } else {
+        let mut entered = None;
+        if ask_for(rt, alloc, house, (connection, number, moment, line)) {
             entries = entries.saturating_add(1);
-            let message = Some(FirmMessage {
-                firm: sender(rt),
-                connection,
-                number,
-            });
-            let origin = Origin {
-                moment: moment_of(rt, moment),
-                message,
-            };
-            assert_eq!(rt; heard.take(), Some((entries, origin)), "{line}");
+            entered = Some((entries, origin_of(rt, connection, number, moment)));
         }
+        assert_eq!(rt; heard.take(), entered, "{connection} {number}");
         assert_eq!(rt; house.seen(), entries, "{line}");
     }
 }
 
-/// Asks from the seat of a desk over a book.
-fn ask_at<E: EntryLedger, S: LotLedger, R: Wait + Abort>(
-    rt: &R,
-    alloc: Global,
-    book: Book,
-    annals: BlankAnnals,
-    entries: Blank,
-    swept: Blank,
-)
-    requires reference { book.reference ≡ E.reference }
-    requires opening { (book.history ≡ E.opening) × (lots_swept book.history ≡ S.opening) }
-    requires history { (annals.name ≡ E.history) × (annals.entries ≡ E.opening) }
-    requires entries { (entries.name ≡ E.name) × (entries.parts ≡ E.parts) × (entries.parts ≡ 2) }
-    requires swept { (swept.name ≡ S.name) × (swept.parts ≡ S.parts) × (swept.parts ≡ 2) }
-{
-    let made: Result<(Desk<E, S>, Vec<Seat<E, S>>), (AllocError, Book)> = Desk::new(
-        alloc, book, annals, 1, entries, swept,
-    );
-    let Ok((desk, seats)) = made else {
-        panic!(rt; "no memory for a desk");
-    };
-    let (to, from) = crossbeam_channel::unbounded(alloc)
-        .ok()
-        .expect(rt, "memory");
-    let open = OpenOrders::new(alloc, &[]).ok().expect(rt, "memory");
-    let tally = Tally::new();
-    let heard = Heard {
-        last: Mutex::new(None),
-    };
-    for seat in seats {
-        let seat = SeatReceipts::new(alloc, seat);
+/// The messages, from the seat of a desk.
+#[derive(Drop)]
+struct EachMessage;
+
+impl Asking for EachMessage {
+    fn ask<E: EntryLedger, S: LotLedger, R: Wait + Abort>(
+        self,
+        rt: &R,
+        alloc: Global,
+        desk: &Desk<E, S>,
+        mut seats: Vec<SeatReceipts<E, S>>,
+    ) {
+        let (to, from) = crossbeam_channel::unbounded(alloc)
+            .ok()
+            .expect(rt, "memory");
+        let open = OpenOrders::new(alloc, &[]).ok().expect(rt, "memory");
+        let tally = Tally::new();
+        let heard = Heard {
+            last: Mutex::new(None),
+        };
+        let seat = seats.pop().expect(rt, "a seat");
         let orders = Orders::new(&to, &open, 0);
-        let mut house = AtDesk::new(rt, &desk, &tally, &heard, seat, orders);
+        let mut house = AtDesk::new(rt, desk, &tally, &heard, seat, orders);
         ask_all(rt, alloc, &mut house, &heard);
         assert_eq!(rt; house.into_seat().seen(), 4);
+        drop(from);
     }
-    drop(from);
-}
-
-/// Returns the history of a book, for a desk over it.
-fn annals_of(rt: &impl Abort, alloc: Global, book: &Book) -> BlankAnnals
-    ensures { result.entries ≡ book.now.history }
-{
-    BlankAnnals::of(alloc, book).ok().expect(rt, "memory")
 }
 
 #[test]
 fn others_hear_which_message_made_an_entry(rt: HostRuntime) {
-    let alloc = rt.alloc();
-    let book = Book::new(alloc, sample(alloc).expect(&rt, "the sample"));
-    let annals = annals_of(&rt, alloc, &book);
-    ask_at::<Brand, Brand, HostRuntime>(&rt, alloc, book, annals, Blank::new(2), Blank::new(2));
+    let book = Book::new(rt.alloc(), sample(rt.alloc()).expect(&rt, "the sample"));
+    open_and_ask(&rt, rt.alloc(), book, 1, EachMessage);
 }

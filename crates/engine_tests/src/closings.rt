@@ -2,7 +2,7 @@
 
 use crate::cuts::source;
 use crate::visits::Visit;
-use gu_engine::{Gate, Turned};
+use gu_engine::{Conversation, Gate, Turned};
 use gu_streams::CountedReads;
 use gu_terms::{FirmId, Moment};
 use std::alloc::Global;
@@ -28,18 +28,22 @@ fn logged_on(rt: &impl Abort, alloc: Global, talk: &Talk, gate: Gate) -> Visit {
     visit
 }
 
+/// Asserts how far a conversation is after its Logon and its notices, and has it expect more of them.
+fn check_conversation(rt: &impl Abort, conversation: &mut Conversation) {
+    assert_eq!(rt; conversation.firm(), FirmId::new(b"E1"));
+    assert_eq!(rt; conversation.numbers(), (2, 2_002));
+    assert_eq!(rt; conversation.next(), 2_001);
+    assert_eq!(rt; conversation.due_at(), Moment::new(1_767_603_630_000));
+    conversation.expect_notices();
+}
+
 #[test]
 fn a_house_that_closes_sends_a_firm_a_logout_after_what_is_held(rt: HostRuntime) {
     let alloc = rt.alloc();
     let talk = Talk::of(alloc, "E1", CLOSING).expect(&rt, "memory");
     let mut visit = logged_on(&rt, alloc, &talk, Gate::open());
     let mut reads = CountedReads::patient(b"".as_slice());
-    let conversation = visit.conversation(&rt);
-    assert_eq!(rt; conversation.firm(), FirmId::new(b"E1"));
-    assert_eq!(rt; conversation.numbers(), (2, 2_002));
-    assert_eq!(rt; conversation.next(), 2_001);
-    assert_eq!(rt; conversation.due_at(), Moment::new(1_767_603_630_000));
-    conversation.expect_notices();
+    check_conversation(&rt, visit.conversation(&rt));
     visit.close(&rt);
     assert!(rt; visit.conversation(&rt).is_over());
     assert_eq!(rt; visit.turn(&rt, &mut reads, usize::MAX), Turned::Done);

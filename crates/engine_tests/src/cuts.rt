@@ -75,6 +75,17 @@ fn whatever_a_stream_takes_at_a_time_it_gets_what_a_run_writes(rt: HostRuntime) 
     }
 }
 
+/// Returns a visit whose stream took nothing of what answers these bytes, after which it is read no further.
+fn stopped_at(rt: &impl Abort, alloc: Global, first: &[u8]) -> Visit {
+    let mut visit = Visit::new(rt, alloc, Gate::open());
+    let mut reads = CountedReads::patient(pieces(first, 1));
+    let is_sent = visit.turns(rt, &mut reads, 0, 1_000);
+    assert!(rt; !is_sent);
+    assert!(rt; !reads.has_failed(), "a second read would have failed");
+    assert!(rt; visit.stream.taken.is_empty());
+    visit
+}
+
 #[test]
 fn a_stream_that_takes_nothing_is_read_no_further_and_loses_nothing(rt: HostRuntime) {
     let alloc = rt.alloc();
@@ -83,12 +94,7 @@ fn a_stream_that_takes_nothing_is_read_no_further_and_loses_nothing(rt: HostRunt
     let expected = run_on(&rt, alloc, input.as_bytes(), &talk);
     assert!(rt; input.len() > 200);
     let (first, rest) = input.as_bytes().split_at(200);
-    let mut visit = Visit::new(&rt, alloc, Gate::open());
-    let mut reads = CountedReads::patient(pieces(first, 1));
-    let is_sent = visit.turns(&rt, &mut reads, 0, 1_000);
-    assert!(rt; !is_sent);
-    assert!(rt; !reads.has_failed(), "a second read would have failed");
-    assert!(rt; visit.stream.taken.is_empty());
+    let mut visit = stopped_at(&rt, alloc, first);
     let mut reads = CountedReads::patient(pieces(rest, AMPLE.reads));
     let is_sent = visit.turns(&rt, &mut reads, 1_000, 10_000);
     assert!(rt; is_sent);
@@ -114,6 +120,18 @@ fn the_notices_that_are_due_are_not_held_together(rt: HostRuntime) {
     assert!(rt; visit.stream.longest <= 65_536 + 250 * 200);
 }
 
+/// The room of each turn, what it says of the next one, and whether all was sent then.
+const TURNS: &[(usize, Turned, bool)] = &[
+    (0, Turned::Full, false),
+    (0, Turned::Full, false),
+    (usize::MAX, Turned::Again, true),
+    (usize::MAX, Turned::Waits, true),
+    (usize::MAX, Turned::Again, true),
+    (usize::MAX, Turned::Again, true),
+    (usize::MAX, Turned::Done, true),
+    (usize::MAX, Turned::Done, true),
+];
+
 #[test]
 fn each_turn_says_when_the_next_one_is(rt: HostRuntime) {
     let alloc = rt.alloc();
@@ -121,15 +139,8 @@ fn each_turn_says_when_the_next_one_is(rt: HostRuntime) {
     let input = wire(alloc, &talk.input).expect(&rt, "memory");
     let mut visit = Visit::new(&rt, alloc, Gate::open());
     let mut reads = CountedReads::patient(source(input.as_bytes(), &talk));
-    assert_eq!(rt; visit.turn(&rt, &mut reads, 0), Turned::Full);
-    assert!(rt; !visit.backlog.is_sent());
-    assert_eq!(rt; visit.turn(&rt, &mut reads, 0), Turned::Full);
-    assert_eq!(rt; visit.turn(&rt, &mut reads, usize::MAX), Turned::Again);
-    assert!(rt; visit.backlog.is_sent());
-    assert_eq!(rt; visit.turn(&rt, &mut reads, usize::MAX), Turned::Waits);
-    assert_eq!(rt; visit.turn(&rt, &mut reads, usize::MAX), Turned::Again);
-    assert_eq!(rt; visit.turn(&rt, &mut reads, usize::MAX), Turned::Again);
-    assert_eq!(rt; visit.turn(&rt, &mut reads, usize::MAX), Turned::Done);
-    assert_eq!(rt; visit.turn(&rt, &mut reads, usize::MAX), Turned::Done);
-    assert!(rt; visit.backlog.is_sent());
+    for (place, &(room, turned, is_sent)) in TURNS.iter().enumerate() {
+        assert_eq!(rt; visit.turn(&rt, &mut reads, room), turned, "turn {place}");
+        assert_eq!(rt; visit.backlog.is_sent(), is_sent, "turn {place}");
+    }
 }

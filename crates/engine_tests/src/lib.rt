@@ -14,6 +14,8 @@ mod conversations;
 #[cfg(test)]
 mod cuts;
 #[cfg(test)]
+mod desks;
+#[cfg(test)]
 mod exchanges;
 #[cfg(test)]
 mod faults;

@@ -1,11 +1,9 @@
 //! A seat at a desk whose firms have shares: what goes past a firm's share isn't entered, and fails as at a full book.
 
-ghost use Rattle.std.specs.Prelude.{◌≡◌};
-ghost use Rattle.gu_terms.specs.Histories.{lots_swept};
-
 use crate::books::book_after;
+use crate::desks::{Asking, open_and_ask};
 use gu_book::Book;
-use gu_desk::{BlankAnnals, Desk, Direct, EntryLedger, FirmFilter, LotLedger, Origin, Seat};
+use gu_desk::{Desk, Direct, EntryLedger, FirmFilter, LotLedger, Origin};
 use gu_engine::{Ask, House};
 use gu_houses::{
     AtDesk, Informs, OpenOrders, Orders, Part, Quota, SeatReceipts, Shares, Tally, WithinShares,
@@ -15,11 +13,9 @@ use gu_session::{Failure, Outcome};
 use gu_terms::{AccountId, Done, FirmId, Group, Moment, Query, Reply};
 use gu_text::Line;
 use gu_world::Step;
-use std::alloc::{AllocError, Global};
-use std::marker::Brand;
+use std::alloc::Global;
 use std::process::Abort;
 use std::sync::Wait;
-use std::sync::ledger::Blank;
 
 /// Nobody receives entries.
 #[derive(Drop)]
@@ -111,6 +107,37 @@ fn word_of(outcome: &Outcome, full: Option<Part>) -> &'static str {
     }
 }
 
+/// Asks a house for a line of a firm, and returns what became of it.
+fn asked<E: EntryLedger, S: LotLedger, R: Wait + Abort>(
+    rt: &R,
+    alloc: Global,
+    house: &mut WithinShares<'_, '_, E, S, R, Nobody>,
+    firm: &str,
+    line: &str,
+) -> &'static str {
+    let ask = Ask {
+        firm: FirmId::new(firm.as_bytes()).expect(rt, "a firm"),
+        number: 2,
+        now: Moment::new(0).expect(rt, "a moment"),
+        request: request_of(alloc, line).expect(rt, "a request"),
+    };
+    let answered = house.answer(ask, 1).ok().expect(rt, "an answer");
+    word_of(&answered.outcome, house.take_full())
+}
+
+/// Sweeps G1 at a seat, and compares the lots.
+fn sweep<E: EntryLedger, S: LotLedger, R: Wait + Abort>(
+    rt: &R,
+    desk: &Desk<E, S>,
+    sweeper: &mut SeatReceipts<E, S>,
+    want: &str,
+) {
+    let group = Group::new(b"G1").expect(rt, "a group");
+    let swept = sweeper.sweep(rt, desk, group, &Direct);
+    let lots = swept.ok().expect(rt, "a sweep").lots;
+    assert_eq!(rt; Some(lots), want.parse::<u64>().ok(), "a sweep");
+}
+
 /// Asks a house for each message, and sweeps at another seat.
 fn ask_all<E: EntryLedger, S: LotLedger, R: Wait + Abort>(
     rt: &R,
@@ -121,76 +148,43 @@ fn ask_all<E: EntryLedger, S: LotLedger, R: Wait + Abort>(
 ) {
     for &(firm, line, want) in MESSAGES {
         if line.starts_with("SWEEP") {
-            let group = Group::new(b"G1").expect(rt, "a group");
-            let swept = sweeper.sweep(rt, desk, group, &Direct);
-            let lots = swept.ok().expect(rt, "a sweep").lots;
-            let lots = format!(in alloc; "{lots}").expect(rt, "memory");
-            assert_eq!(rt; lots.as_str(), want, "{line}");
-            continue;
+            sweep(rt, desk, sweeper, want);
+        } else {
+            let word = asked(rt, alloc, house, firm, line);
+            assert_eq!(rt; word, want, "{firm} {line}");
         }
-        let ask = Ask {
-            firm: FirmId::new(firm.as_bytes()).expect(rt, "a firm"),
-            number: 2,
-            now: Moment::new(0).expect(rt, "a moment"),
-            request: request_of(alloc, line).expect(rt, "a request"),
-        };
-        let answered = house.answer(ask, 1).ok().expect(rt, "an answer");
-        let word = word_of(&answered.outcome, house.take_full());
-        assert_eq!(rt; word, want, "{firm} {line}");
     }
 }
 
-/// Asks from a seat of a desk over a book.
-fn ask_at<E: EntryLedger, S: LotLedger, R: Wait + Abort>(
-    rt: &R,
-    alloc: Global,
-    book: Book,
-    annals: BlankAnnals,
-    entries: Blank,
-    swept: Blank,
-)
-    requires reference { book.reference ≡ E.reference }
-    requires opening { (book.history ≡ E.opening) × (lots_swept book.history ≡ S.opening) }
-    requires history { (annals.name ≡ E.history) × (annals.entries ≡ E.opening) }
-    requires entries { (entries.name ≡ E.name) × (entries.parts ≡ E.parts) × (entries.parts ≡ 3) }
-    requires swept { (swept.name ≡ S.name) × (swept.parts ≡ S.parts) × (swept.parts ≡ 3) }
-{
-    let shares = Shares::new(alloc, book.reference().firms(), QUOTA);
-    let shares = shares.ok().expect(rt, "shares");
-    let made: Result<(Desk<E, S>, Vec<Seat<E, S>>), (AllocError, Book)> = Desk::new(
-        alloc, book, annals, 2, entries, swept,
-    );
-    let Ok((desk, seats)) = made else {
-        panic!(rt; "no memory for a desk");
-    };
-    let (to, from) = crossbeam_channel::unbounded(alloc)
-        .ok()
-        .expect(rt, "memory");
-    let open = OpenOrders::new(alloc, &[]).ok().expect(rt, "memory");
-    let tally = Tally::new();
-    let mut keeping = Vec::new(alloc);
-    for seat in seats {
-        keeping
-            .push(SeatReceipts::new(alloc, seat))
+/// The messages, from a seat whose firms have these shares.
+#[derive(Drop)]
+struct EachWithin {
+    shares: Shares,
+}
+
+impl Asking for EachWithin {
+    fn ask<E: EntryLedger, S: LotLedger, R: Wait + Abort>(
+        self,
+        rt: &R,
+        alloc: Global,
+        desk: &Desk<E, S>,
+        mut seats: Vec<SeatReceipts<E, S>>,
+    ) {
+        let (to, from) = crossbeam_channel::unbounded(alloc)
             .ok()
             .expect(rt, "memory");
+        let open = OpenOrders::new(alloc, &[]).ok().expect(rt, "memory");
+        let tally = Tally::new();
+        let seat = seats.pop().expect(rt, "a seat");
+        let mut sweeper = seats.pop().expect(rt, "a seat");
+        let orders = Orders::new(&to, &open, 0);
+        let nobody = Nobody;
+        let house = AtDesk::new(rt, desk, &tally, &nobody, seat, orders);
+        let mut house = WithinShares::new(house, Some(&self.shares));
+        ask_all(rt, alloc, desk, &mut house, &mut sweeper);
+        drop(house);
+        drop(from);
     }
-    let seat = keeping.pop().expect(rt, "a seat");
-    let mut sweeper = keeping.pop().expect(rt, "a seat");
-    let orders = Orders::new(&to, &open, 0);
-    let nobody = Nobody;
-    let house = AtDesk::new(rt, &desk, &tally, &nobody, seat, orders);
-    let mut house = WithinShares::new(house, Some(&shares));
-    ask_all(rt, alloc, &desk, &mut house, &mut sweeper);
-    drop(house);
-    drop(from);
-}
-
-/// Returns the history of a book, for a desk over it.
-fn annals_of(rt: &impl Abort, alloc: Global, book: &Book) -> BlankAnnals
-    ensures { result.entries ≡ book.now.history }
-{
-    BlankAnnals::of(alloc, book).ok().expect(rt, "memory")
 }
 
 /// Returns the book with which the desk begins.
@@ -200,10 +194,10 @@ fn begun(rt: &impl Abort, alloc: Global) -> Book {
 
 #[test]
 fn what_goes_past_a_firms_share_is_not_entered(rt: HostRuntime) {
-    let alloc = rt.alloc();
-    let book = begun(&rt, alloc);
-    let annals = annals_of(&rt, alloc, &book);
-    ask_at::<Brand, Brand, HostRuntime>(&rt, alloc, book, annals, Blank::new(3), Blank::new(3));
+    let book = begun(&rt, rt.alloc());
+    let shares = Shares::new(rt.alloc(), book.reference().firms(), QUOTA);
+    let shares = shares.ok().expect(&rt, "shares");
+    open_and_ask(&rt, rt.alloc(), book, 2, EachWithin { shares });
 }
 
 /// Percentages, and what a firm makes at most of the entries for which a book of ten has room, and of a group's open offers.

@@ -122,12 +122,26 @@ pub fn conversation(rt: &impl Abort, alloc: Global) -> Conversation {
 }
 
 /// A conversation, the house that answers it, what it keeps between two turns, and the stream that it writes to.
-#[derive(Drop)]
 pub struct Visit {
     conversation: Option<Conversation>,
     house: FullHouse,
     pub backlog: Backlog<Gate>,
     pub stream: Narrow,
+}
+
+// By hand, so that each exit of a caller drops a visit by one call.
+impl Drop for Visit {
+    fn drop(self) {
+        let Visit {
+            conversation,
+            house: _,
+            backlog,
+            stream,
+        } = self;
+        drop(conversation);
+        drop(backlog);
+        drop(stream);
+    }
 }
 
 impl Visit {

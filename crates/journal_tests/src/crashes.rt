@@ -40,29 +40,57 @@ fn acknowledged(day: &Memory) -> usize {
     day.calls().len().saturating_sub(2)
 }
 
-/// Opens what a crash left of a recovery, in each of its tears, and returns how many there are, or nothing if one is wrong.
-fn recoveries(alloc: Global, image: &[u8], text: &[u8]) -> Result<Option<usize>, SinkError> {
-    let found = opened(alloc, copied(alloc, image)?)?;
-    let device = match found.log.finish() {
-        Ok(device) => device,
-        Err(_) => return Err(SinkError::Failed),
-    };
+/// Returns the text that is found on what a crash left.
+fn found_text(alloc: Global, image: Vec<u8>) -> Result<Vec<u8>, SinkError> {
+    let Opened { log, text, torn: _ } = opened(alloc, image)?;
+    drop(log);
+    Ok(text)
+}
+
+/// Returns the device of a recovery, with its calls.
+fn recovered(alloc: Global, image: &[u8]) -> Result<Memory, SinkError> {
+    let Opened { log, text, torn: _ } = opened(alloc, copied(alloc, image)?)?;
+    drop(text);
+    log.finish().map_err(|_| SinkError::Failed)
+}
+
+/// Returns what one of a call's tears leaves.
+fn torn_image(alloc: Global, olds: &[u8], call: &Call, tear: usize) -> Result<Vec<u8>, SinkError> {
+    torn(alloc, olds, call, tear).map_err(|_| SinkError::Memory)
+}
+
+/// Returns how many tears a call has, if the same text is found after each.
+fn tears_found(
+    alloc: Global,
+    olds: &[u8],
+    call: &Call,
+    text: &[u8],
+) -> Result<Option<usize>, SinkError> {
+    let count = tears(call, olds.len());
+    for tear in 0..count {
+        let found = found_text(alloc, torn_image(alloc, olds, call, tear)?)?;
+        if found.as_slice() != text {
+            return Ok(None);
+        }
+    }
+    Ok(Some(count))
+}
+
+/// Opens what a crash left of a recovery by these calls, in each of its tears, and returns how many there are, or nothing if one is wrong.
+fn recoveries(
+    alloc: Global,
+    calls: &[Call],
+    image: &[u8],
+    text: &[u8],
+) -> Result<Option<usize>, SinkError> {
     let mut count: usize = 0;
     let mut olds = copied(alloc, image)?;
-    for call in device.calls() {
-        for tear in 0..tears(call, olds.len()) {
-            let Ok(left) = torn(alloc, &olds, call, tear) else {
-                return Err(SinkError::Memory);
-            };
-            if opened(alloc, left)?.text.as_slice() != text {
-                return Ok(None);
-            }
-            count = count.saturating_add(1);
-        }
-        let Ok(news) = done(alloc, &olds, call) else {
-            return Err(SinkError::Memory);
+    for call in calls {
+        let Some(more) = tears_found(alloc, &olds, call, text)? else {
+            return Ok(None);
         };
-        olds = news;
+        count = count.saturating_add(more);
+        olds = done(alloc, &olds, call).map_err(|_| SinkError::Memory)?;
     }
     Ok(Some(count))
 }
@@ -99,18 +127,23 @@ struct Walk<'a> {
 }
 
 impl Walk<'_> {
+    /// Tries each crash of the recovery of what a crash left, and returns whether the same is found after each.
+    fn recovers(&mut self, image: &[u8]) -> Result<bool, SinkError> {
+        let text = found_text(self.alloc, copied(self.alloc, image)?)?;
+        let device = recovered(self.alloc, image)?;
+        let more = recoveries(self.alloc, device.calls(), image, &text);
+        drop(device);
+        let more = more?;
+        self.tried = self.tried.saturating_add(more.unwrap_or(0));
+        Ok(more.is_some())
+    }
+
     /// Tries each tear of a call, and returns whether all are as they may be.
     fn tries(&mut self, olds: &[u8], call: &Call) -> Result<bool, SinkError> {
         for tear in 0..tears(call, olds.len()) {
-            let Ok(image) = torn(self.alloc, olds, call, tear) else {
-                return Err(SinkError::Memory);
-            };
-            if self.is_deep {
-                let text = opened(self.alloc, copied(self.alloc, &image)?)?.text;
-                match recoveries(self.alloc, &image, &text)? {
-                    Some(more) => self.tried = self.tried.saturating_add(more),
-                    None => return Ok(false),
-                }
+            let image = torn_image(self.alloc, olds, call, tear)?;
+            if self.is_deep && !self.recovers(&image)? {
+                return Ok(false);
             }
             if !goes_on(self.alloc, &self.moment, image)? {
                 return Ok(false);
@@ -127,13 +160,58 @@ impl Walk<'_> {
             if from <= place && place < to && !self.tries(&olds, call)? {
                 return Ok(false);
             }
-            let Ok(news) = done(self.alloc, &olds, call) else {
-                return Err(SinkError::Memory);
-            };
-            olds = news;
+            olds = done(self.alloc, &olds, call).map_err(|_| SinkError::Memory)?;
         }
         Ok(true)
     }
+}
+
+/// Tries a crash at each call of a day from one on, and before another. Returns how many were tried, if what is found is right after each.
+fn walked(
+    alloc: Global,
+    day: &Memory,
+    moment: Moment<'_>,
+    is_deep: bool,
+    places: (usize, usize),
+) -> Result<Option<usize>, SinkError> {
+    let (from, to) = places;
+    let mut walk = Walk {
+        alloc,
+        moment,
+        is_deep,
+        tried: 0,
+    };
+    let is_right = walk.walks(day, from, to)?;
+    Ok(is_right.then_some(walk.tried))
+}
+
+/// Tries each crash of a day at its last batch, before which these were acknowledged, and at the end.
+fn crashes_of(
+    alloc: Global,
+    day: &Memory,
+    batches: (&[&str], &str),
+    is_deep: bool,
+) -> Result<Option<usize>, SinkError> {
+    let (before, last) = batches;
+    let from = acknowledged(&recorded(alloc, before)?);
+    let (to, end) = (acknowledged(day), day.calls().len());
+    let mut kept = joined(alloc, before)?;
+    let begun = Moment {
+        kept: &kept,
+        batch: last.as_bytes(),
+    };
+    let Some(tried) = walked(alloc, day, begun, is_deep, (from, to))? else {
+        return Ok(None);
+    };
+    if kept.extend_from_slice(last.as_bytes()).is_err() {
+        return Err(SinkError::Memory);
+    }
+    let whole = Moment {
+        kept: &kept,
+        batch: &[],
+    };
+    let more = walked(alloc, day, whole, is_deep, (to, end))?;
+    Ok(more.map(|more| more.saturating_add(tried)))
 }
 
 /// Tries each crash of a day that has this number of batches: at the last one, and at the end. Returns how many were tried, if what
@@ -145,29 +223,10 @@ fn crashes(alloc: Global, count: usize, is_deep: bool) -> Result<Option<usize>, 
     let Some((last, before)) = batches.split_last() else {
         return Ok(None);
     };
-    let from = acknowledged(&recorded(alloc, before)?);
     let day = recorded(alloc, batches)?;
-    let (kept, all) = (joined(alloc, before)?, joined(alloc, batches)?);
-    let mut walk = Walk {
-        alloc,
-        moment: Moment {
-            kept: &kept,
-            batch: last.as_bytes(),
-        },
-        is_deep,
-        tried: 0,
-    };
-    let is_begun = walk.walks(&day, from, acknowledged(&day))?;
-    walk.moment = Moment {
-        kept: &all,
-        batch: &[],
-    };
-    let is_whole = walk.walks(&day, acknowledged(&day), day.calls().len())?;
-    Ok(if is_begun && is_whole {
-        Some(walk.tried)
-    } else {
-        None
-    })
+    let tried = crashes_of(alloc, &day, (before, last), is_deep);
+    drop(day);
+    tried
 }
 
 #[test]

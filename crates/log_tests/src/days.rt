@@ -1,6 +1,6 @@
 //! The lines of a day: how it opens and closes, where connections come in, and what an operator and the journal do.
 
-use crate::logfmt::check;
+use crate::logfmt::{check, check_plain};
 use gu_log::{AcceptFault, Beginning, Event, Listener};
 use gu_terms::Day;
 use std::io;
@@ -15,64 +15,44 @@ fn a_day_is_opened(rt: HostRuntime) {
         entries: 9,
         journal: Some("/var/lib/bathlif/day.journal"),
     };
-    check(
-        &rt,
-        &opened,
-        "day.opened reference=docs/samples/house.csv day=20260105 entries=9 journal=/var/lib/bathlif/day.journal",
-        &[
-            ("reference", b"docs/samples/house.csv"),
-            ("day", b"20260105"),
-            ("entries", b"9"),
-            ("journal", b"/var/lib/bathlif/day.journal"),
-        ],
-    );
+    let text =
+        "day.opened reference=docs/samples/house.csv day=20260105 entries=9 journal=/var/lib/bathlif/day.journal";
+    check_plain(&rt, &opened, text);
     let unopened = Beginning::DayOpened {
         reference,
         day: None,
         entries: 0,
         journal: None,
     };
-    check(
-        &rt,
-        &unopened,
-        "day.opened reference=docs/samples/house.csv entries=0",
-        &[("reference", b"docs/samples/house.csv"), ("entries", b"0")],
-    );
+    let text = "day.opened reference=docs/samples/house.csv entries=0";
+    check_plain(&rt, &unopened, text);
 }
+
+/// Where connections come in, and the line of each place.
+const LISTENERS: &[(Listener<'static>, &str)] = &[
+    (Listener::Port(9001), "listening at=port port=9001"),
+    (
+        Listener::Doors {
+            folder: "/run/bathlif/doors",
+            doors: 14,
+        },
+        "listening at=doors folder=/run/bathlif/doors doors=14",
+    ),
+    (
+        Listener::Console("/run/bathlif/console"),
+        "listening at=console path=/run/bathlif/console",
+    ),
+    (
+        Listener::Watch("/run/bathlif/watch"),
+        "listening at=watch path=/run/bathlif/watch",
+    ),
+];
 
 #[test]
 fn connections_come_in_at_four_places(rt: HostRuntime) {
-    check(
-        &rt,
-        &Beginning::Listening(Listener::Port(9001)),
-        "listening at=port port=9001",
-        &[("at", b"port"), ("port", b"9001")],
-    );
-    check(
-        &rt,
-        &Beginning::Listening(Listener::Doors {
-            folder: "/run/bathlif/doors",
-            doors: 14,
-        }),
-        "listening at=doors folder=/run/bathlif/doors doors=14",
-        &[
-            ("at", b"doors"),
-            ("folder", b"/run/bathlif/doors"),
-            ("doors", b"14"),
-        ],
-    );
-    check(
-        &rt,
-        &Beginning::Listening(Listener::Console("/run/bathlif/console")),
-        "listening at=console path=/run/bathlif/console",
-        &[("at", b"console"), ("path", b"/run/bathlif/console")],
-    );
-    check(
-        &rt,
-        &Beginning::Listening(Listener::Watch("/run/bathlif/watch")),
-        "listening at=watch path=/run/bathlif/watch",
-        &[("at", b"watch"), ("path", b"/run/bathlif/watch")],
-    );
+    for &(listener, text) in LISTENERS {
+        check_plain(&rt, &Beginning::Listening(listener), text);
+    }
 }
 
 #[test]
@@ -85,40 +65,27 @@ fn any_firm_may_log_on(rt: HostRuntime) {
     );
 }
 
+/// Why no connections are accepted for a while, and the line of each reason.
+const PAUSES: &[(AcceptFault, &str)] = &[
+    (AcceptFault::Memory, "accepting.paused reason=memory"),
+    (AcceptFault::Threads, "accepting.paused reason=threads"),
+    (
+        AcceptFault::System(Some(24)),
+        "accepting.paused reason=system code=24",
+    ),
+    (
+        AcceptFault::System(Some(-1)),
+        "accepting.paused reason=system",
+    ),
+    (AcceptFault::System(None), "accepting.paused reason=system"),
+];
+
 #[test]
 fn accepting_is_paused_and_resumed(rt: HostRuntime) {
-    let paused = |reason| Event::AcceptingPaused { reason };
-    check(
-        &rt,
-        &paused(AcceptFault::Memory),
-        "accepting.paused reason=memory",
-        &[("reason", b"memory")],
-    );
-    check(
-        &rt,
-        &paused(AcceptFault::Threads),
-        "accepting.paused reason=threads",
-        &[("reason", b"threads")],
-    );
-    check(
-        &rt,
-        &paused(AcceptFault::System(Some(24))),
-        "accepting.paused reason=system code=24",
-        &[("reason", b"system"), ("code", b"24")],
-    );
-    check(
-        &rt,
-        &paused(AcceptFault::System(Some(-1))),
-        "accepting.paused reason=system",
-        &[("reason", b"system")],
-    );
-    check(
-        &rt,
-        &paused(AcceptFault::System(None)),
-        "accepting.paused reason=system",
-        &[("reason", b"system")],
-    );
-    check(&rt, &Event::AcceptingResumed, "accepting.resumed", &[]);
+    for &(reason, text) in PAUSES {
+        check_plain(&rt, &Event::AcceptingPaused { reason }, text);
+    }
+    check_plain(&rt, &Event::AcceptingResumed, "accepting.resumed");
 }
 
 #[test]
@@ -133,67 +100,43 @@ fn an_error_of_an_accept_says_why(rt: HostRuntime) {
 
 #[test]
 fn a_book_fills(rt: HostRuntime) {
-    check(
-        &rt,
-        &Event::BookFilling { entries: 900_000 },
-        "book.filling entries=900000 of=1000000",
-        &[("entries", b"900000"), ("of", b"1000000")],
-    );
+    let filling = Event::BookFilling { entries: 900_000 };
+    check_plain(&rt, &filling, "book.filling entries=900000 of=1000000");
 }
 
 #[test]
 fn an_operator_enters_an_entry_or_cuts_a_connection(rt: HostRuntime) {
-    check(
-        &rt,
-        &Event::OperatorEntered { entry: 214 },
-        "operator.entered entry=214",
-        &[("entry", b"214")],
-    );
-    check(
-        &rt,
-        &Event::OperatorCut { number: 4 },
-        "operator.cut n=4",
-        &[("n", b"4")],
-    );
+    let entered = Event::OperatorEntered { entry: 214 };
+    check_plain(&rt, &entered, "operator.entered entry=214");
+    check_plain(&rt, &Event::OperatorCut { number: 4 }, "operator.cut n=4");
 }
 
 #[test]
 fn the_journal_is_behind_or_lost(rt: HostRuntime) {
-    check(
-        &rt,
-        &Event::JournalBehind {
-            ms: 1200,
-            entries: 31,
-        },
-        "journal.behind ms=1200 entries=31",
-        &[("ms", b"1200"), ("entries", b"31")],
-    );
-    check(
+    let behind = Event::JournalBehind {
+        ms: 1200,
+        entries: 31,
+    };
+    check_plain(&rt, &behind, "journal.behind ms=1200 entries=31");
+    check_plain(
         &rt,
         &Event::JournalLost { kept: 31 },
         "journal.lost kept=31",
-        &[("kept", b"31")],
     );
 }
 
 #[test]
 fn a_day_is_closed(rt: HostRuntime) {
-    check(&rt, &Event::DayClosing, "day.closing", &[]);
-    let closed = |is_audited| Event::DayClosed {
-        entries: 9,
-        lots: 10,
-        is_audited,
-    };
-    check(
-        &rt,
-        &closed(true),
-        "day.closed entries=9 swept=10 audit=OK",
-        &[("entries", b"9"), ("swept", b"10"), ("audit", b"OK")],
-    );
-    check(
-        &rt,
-        &closed(false),
-        "day.closed entries=9 swept=10 audit=FAILED",
-        &[("entries", b"9"), ("swept", b"10"), ("audit", b"FAILED")],
-    );
+    check_plain(&rt, &Event::DayClosing, "day.closing");
+    for (is_audited, text) in [
+        (true, "day.closed entries=9 swept=10 audit=OK"),
+        (false, "day.closed entries=9 swept=10 audit=FAILED"),
+    ] {
+        let closed = Event::DayClosed {
+            entries: 9,
+            lots: 10,
+            is_audited,
+        };
+        check_plain(&rt, &closed, text);
+    }
 }

@@ -13,11 +13,24 @@ pub struct Field {
 }
 
 /// A line, read.
-#[derive(Drop)]
 pub struct Row {
     pub moment: Vec<u8>,
     pub name: Vec<u8>,
     pub fields: Vec<Field>,
+}
+
+// By hand, so that each exit of a caller drops a row by one call.
+impl Drop for Row {
+    fn drop(self) {
+        let Row {
+            moment,
+            name,
+            fields,
+        } = self;
+        drop(moment);
+        drop(name);
+        drop(fields);
+    }
 }
 
 /// The position of a reader within a line.
@@ -45,7 +58,6 @@ enum At {
 }
 
 /// A line that is being read.
-#[derive(Drop)]
 struct Reading {
     alloc: Global,
     row: Row,
@@ -195,20 +207,38 @@ impl Reading {
             At::End => Ok(false),
         }
     }
+
+    /// Takes a line with its LF, and returns whether it is one.
+    fn take_all(&mut self, line: &[u8]) -> Result<bool, AllocError> {
+        for byte in line {
+            if !self.take(*byte)? {
+                return Ok(false);
+            }
+        }
+        Ok(self.at == At::End)
+    }
+
+    /// Returns what was read.
+    fn into_row(self) -> Row {
+        let Reading {
+            alloc: _,
+            row,
+            key,
+            value,
+            at: _,
+        } = self;
+        drop(key);
+        drop(value);
+        row
+    }
 }
 
 /// Reads a line with its LF. None if it is none.
 pub fn read(alloc: Global, line: &[u8]) -> Result<Option<Row>, AllocError> {
     let mut reading = Reading::new(alloc);
-    for byte in line {
-        if !reading.take(*byte)? {
-            return Ok(None);
-        }
-    }
-    if reading.at != At::End {
-        return Ok(None);
-    }
-    Ok(Some(reading.row))
+    let is_line = reading.take_all(line);
+    let row = reading.into_row();
+    Ok(is_line?.then_some(row))
 }
 
 /// What has a line.
@@ -270,4 +300,21 @@ pub fn check<H: HasLine>(
     assert!(rt; line.as_slice() == want.as_bytes(), "{text}");
     let name = text.split(' ').next().expect(rt, "a name");
     check_row(rt, alloc, &line, name, fields);
+}
+
+/// Returns the fields that a text says after its name, as it has them.
+fn fields_in(alloc: Global, text: &str) -> Result<Vec<(&str, &[u8])>, AllocError> {
+    let mut fields = Vec::new(alloc);
+    for field in text.split(' ').skip(1) {
+        let (key, value) = field.split_once('=').unwrap_or((field, ""));
+        fields.push((key, value.as_bytes()))?;
+    }
+    Ok(fields)
+}
+
+/// Asserts that the line of what happened is this text after the moment, no value of which needs quotes, and is read as the name and the
+/// fields that the text has.
+pub fn check_plain<H: HasLine>(rt: &(impl Abort + AllocGlobal), happened: &H, text: &str) {
+    let fields = fields_in(rt.alloc(), text).expect(rt, "memory");
+    check(rt, happened, text, &fields);
 }

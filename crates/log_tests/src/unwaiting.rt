@@ -1,12 +1,13 @@
 //! Writes that don't wait, over pipes, sockets and files of this machine.
 
 use crate::machine::Machine;
-use crate::writing::{note_all, opened};
-use gu_log::{Unwaiting, write_all};
+use crate::writing::write_notes;
+use gu_log::Unwaiting;
 use std::alloc::Global;
 use std::io::{ErrorKind, Read, Write};
 use std::os::unix::net::UnixStream;
 use std::process::Abort;
+use std::sync::Wait;
 use std::test::Fail;
 use std::{env, fs, io, process};
 
@@ -40,15 +41,28 @@ fn empty<R: Read>(alloc: Global, reader: &mut R, bytes: usize) -> Result<(), Fai
     Ok(())
 }
 
+/// Fills a writer, reads at most this many of its bytes, and writes on.
+fn fill_again<R: Read, W: Write>(
+    rt: &impl Abort,
+    alloc: Global,
+    reader: &mut R,
+    writer: &mut W,
+    most: usize,
+) -> Result<(), Fail> {
+    let bytes = fill(rt, alloc, writer)?;
+    assert!(rt; bytes >= 4_096);
+    let bytes = usize::try_from(bytes).ok().expect(rt, "a length");
+    empty(alloc, reader, bytes.min(most))?;
+    assert_eq!(rt; writer.write(b"a line\n")?, 7);
+    assert!(rt; fill(rt, alloc, writer)? > 0);
+    Ok(())
+}
+
 #[test]
 fn a_pipe_that_is_full_takes_nothing_for_now(rt: HostRuntime) -> Result<(), Fail> {
     let (mut reader, writer) = io::pipe(&rt)?;
     let mut writer = Unwaiting::new(&rt, rt.alloc(), writer)?;
-    let bytes = fill(&rt, rt.alloc(), &mut writer)?;
-    assert!(rt; bytes >= 4_096);
-    empty(rt.alloc(), &mut reader, 8_192)?;
-    assert_eq!(rt; writer.write(b"a line\n")?, 7);
-    assert!(rt; fill(&rt, rt.alloc(), &mut writer)? > 0);
+    fill_again(&rt, rt.alloc(), &mut reader, &mut writer, 8_192)?;
     drop(reader);
     let broken = writer.write(b"a line\n");
     assert_eq!(rt; broken.map_err(|e| e.kind()), Err(ErrorKind::BrokenPipe));
@@ -59,12 +73,7 @@ fn a_pipe_that_is_full_takes_nothing_for_now(rt: HostRuntime) -> Result<(), Fail
 fn a_socket_that_is_full_takes_nothing_for_now(rt: HostRuntime) -> Result<(), Fail> {
     let (mut reader, writer) = UnixStream::pair(&rt)?;
     let mut writer = Unwaiting::new(&rt, rt.alloc(), writer)?;
-    let bytes = fill(&rt, rt.alloc(), &mut writer)?;
-    assert!(rt; bytes >= 4_096);
-    let bytes = usize::try_from(bytes).ok().expect(&rt, "a length");
-    empty(rt.alloc(), &mut reader, bytes)?;
-    assert_eq!(rt; writer.write(b"a line\n")?, 7);
-    Ok(())
+    fill_again(&rt, rt.alloc(), &mut reader, &mut writer, usize::MAX)
 }
 
 #[test]
@@ -73,29 +82,33 @@ fn a_log_over_a_pipe_that_nobody_reads_ends(rt: HostRuntime) -> Result<(), Fail>
     let (reader, writer) = io::pipe(&rt)?;
     let mut writer = Unwaiting::new(&rt, rt.alloc(), writer)?;
     fill(&rt, rt.alloc(), &mut writer)?;
-    let (log, mut notes) = opened(&rt, rt.alloc());
-    note_all(&machine, &log, 1, 1_024);
-    log.end(&machine);
-    write_all(&machine, rt.alloc(), &log, &mut notes, &mut writer);
+    write_notes(&machine, rt.alloc(), 1_024, &mut writer);
     assert_eq!(rt; machine.slept(), 1_000);
     drop(reader);
     Ok(())
 }
 
+/// Writes a piece of which a part is taken, and then a line.
+fn write_piece_and_line<R: Wait + Abort, W: Write>(
+    rt: &R,
+    alloc: Global,
+    writer: &mut W,
+) -> Result<(), Fail> {
+    let machine = Machine::new(rt);
+    let piece = vec![in alloc; b'x'; 10_000]?;
+    assert_eq!(rt; writer.write(&piece)?, 4_096);
+    write_notes(&machine, alloc, 1, writer);
+    assert_eq!(rt; machine.slept(), 0);
+    Ok(())
+}
+
 #[test]
 fn a_file_is_written_at_once(rt: HostRuntime) -> Result<(), Fail> {
-    let machine = Machine::new(&rt);
     let name = format!(in rt.alloc(); "log-{}", process::id(rt.process()))?;
     let path = env::temp_dir(&rt)?.join(rt.alloc(), name.as_str())?;
     let file = fs::create(&rt, path.as_path())?;
     let mut writer = Unwaiting::new(&rt, rt.alloc(), file)?;
-    let piece = vec![in rt.alloc(); b'x'; 10_000]?;
-    assert_eq!(rt; writer.write(&piece)?, 4_096);
-    let (log, mut reader) = opened(&rt, rt.alloc());
-    note_all(&machine, &log, 1, 1);
-    log.end(&machine);
-    write_all(&machine, rt.alloc(), &log, &mut reader, &mut writer);
-    assert_eq!(rt; machine.slept(), 0);
+    write_piece_and_line(&rt, rt.alloc(), &mut writer)?;
     drop(writer);
     let text = fs::read(&rt, path.as_path())?;
     assert_eq!(rt; text.len(), 4_138);

@@ -4,7 +4,7 @@ use crate::machine::Machine;
 use crate::outputs::{Mood, Output};
 use gu_log::{Beginning, Event, EventLog, Listener, LogReader, write_all};
 use std::alloc::Global;
-use std::io::ErrorKind;
+use std::io::{ErrorKind, Write};
 use std::process::Abort;
 use std::rt::Clock;
 use std::sync::Wait;
@@ -28,6 +28,19 @@ pub fn note_all<R: Wait + Clock>(rt: &R, log: &EventLog, first: u64, last: u64) 
     }
 }
 
+/// Notes events with numbers up to a last, ends the day, and writes what was noted.
+pub fn write_notes<R: Abort + Wait, W: Write>(
+    machine: &Machine<'_, R>,
+    alloc: Global,
+    last: u64,
+    writer: &mut W,
+) {
+    let (log, mut reader) = opened(machine.under(), alloc);
+    note_all(machine, &log, 1, last);
+    log.end(machine);
+    write_all(machine, alloc, &log, &mut reader, writer);
+}
+
 /// Asserts that what was written is this.
 fn check_text(rt: &impl Abort, output: &Output, want: &str) {
     assert!(rt; output.text.as_slice() == want.as_bytes(), "{want}");
@@ -36,11 +49,8 @@ fn check_text(rt: &impl Abort, output: &Output, want: &str) {
 #[test]
 fn each_line_is_written_and_flushed(rt: HostRuntime) {
     let machine = Machine::new(&rt);
-    let (log, mut reader) = opened(&rt, rt.alloc());
-    note_all(&machine, &log, 1, 3);
-    log.end(&machine);
     let mut output = Output::new(rt.alloc(), Mood::Takes(0), 0);
-    write_all(&machine, rt.alloc(), &log, &mut reader, &mut output);
+    write_notes(&machine, rt.alloc(), 3, &mut output);
     check_text(&rt, &output, THREE);
     assert_eq!(rt; output.writes, 3);
     assert_eq!(rt; output.flushes, 3);
@@ -74,11 +84,8 @@ fn what_was_noted_before_its_thread_begins_comes_first(rt: HostRuntime) {
 #[test]
 fn a_line_is_written_in_parts_where_a_write_takes_less(rt: HostRuntime) {
     let machine = Machine::new(&rt);
-    let (log, mut reader) = opened(&rt, rt.alloc());
-    note_all(&machine, &log, 1, 3);
-    log.end(&machine);
     let mut output = Output::new(rt.alloc(), Mood::Takes(5), u64::MAX);
-    write_all(&machine, rt.alloc(), &log, &mut reader, &mut output);
+    write_notes(&machine, rt.alloc(), 3, &mut output);
     check_text(&rt, &output, THREE);
     assert_eq!(rt; output.writes, 27);
     assert_eq!(rt; output.flushes, 3);
@@ -88,11 +95,8 @@ fn a_line_is_written_in_parts_where_a_write_takes_less(rt: HostRuntime) {
 fn a_write_that_takes_nothing_for_now_is_tried_again(rt: HostRuntime) {
     for kind in [ErrorKind::WouldBlock, ErrorKind::Interrupted] {
         let machine = Machine::new(&rt);
-        let (log, mut reader) = opened(&rt, rt.alloc());
-        note_all(&machine, &log, 1, 3);
-        log.end(&machine);
         let mut output = Output::new(rt.alloc(), Mood::Fails(kind), 50);
-        write_all(&machine, rt.alloc(), &log, &mut reader, &mut output);
+        write_notes(&machine, rt.alloc(), 3, &mut output);
         check_text(&rt, &output, THREE);
         assert_eq!(rt; machine.slept(), 1_000);
     }
@@ -102,11 +106,8 @@ fn a_write_that_takes_nothing_for_now_is_tried_again(rt: HostRuntime) {
 fn a_writer_that_is_full_until_the_end_is_given_up(rt: HostRuntime) {
     for kind in [ErrorKind::WouldBlock, ErrorKind::Interrupted] {
         let machine = Machine::new(&rt);
-        let (log, mut reader) = opened(&rt, rt.alloc());
-        note_all(&machine, &log, 1, 1_024);
-        log.end(&machine);
         let mut output = Output::new(rt.alloc(), Mood::Fails(kind), u64::MAX);
-        write_all(&machine, rt.alloc(), &log, &mut reader, &mut output);
+        write_notes(&machine, rt.alloc(), 1_024, &mut output);
         check_text(&rt, &output, "");
         assert_eq!(rt; output.writes, 51);
         assert_eq!(rt; machine.slept(), 1_000);
@@ -132,11 +133,8 @@ fn after_another_error_nothing_is_written_and_nobody_notices(rt: HostRuntime) {
 #[test]
 fn lines_that_find_no_room_are_counted_and_said(rt: HostRuntime) {
     let machine = Machine::new(&rt);
-    let (log, mut reader) = opened(&rt, rt.alloc());
-    note_all(&machine, &log, 1, 1_030);
-    log.end(&machine);
     let mut output = Output::new(rt.alloc(), Mood::Takes(0), 0);
-    write_all(&machine, rt.alloc(), &log, &mut reader, &mut output);
+    write_notes(&machine, rt.alloc(), 1_030, &mut output);
     let text = &output.text;
     assert!(rt;
         text.starts_with(

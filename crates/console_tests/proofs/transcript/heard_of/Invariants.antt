@@ -1,5 +1,5 @@
 use Rattle.gu_terms.specs.Histories.{lots_swept}
-use Rattle.console_tests.proofs.answers.what_is_no_line_is_bad_and_the_connection_goes_on.Given as goal
+use Rattle.console_tests.proofs.transcript.heard_of.Given as goal
 
 abbrev pub ghosts-play-E-Ledger : goal.ghosts-play-E-Ledger
 ghosts-play-E-Ledger g a = record { name = a.entries.name; parts = a.entries.parts }
