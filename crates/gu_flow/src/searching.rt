@@ -229,9 +229,8 @@ impl Search {
         ensures same { (self.new.back ≡ self.old.back) × (length self.new.marks.items ≡ length self.old.marks.items)
             × (length self.new.queue.items ≡ length self.old.queue.items) }
     {
-        while self.count > 0 {
-            self.count -= 1;
-            let node = self.queue[self.count];
+        for place in 0..self.count {
+            let node = self.queue[place];
             self.marks[node as usize].level = 0;
         }
     }

@@ -1,4 +1,4 @@
-use Rattle.gu_flow.proofs.Words.{◌≡◌, ◌==◌, ◌∙◌, ap, arith, refl, sym, true, cond, get_or, get_or_default, eq-eqb, near, far, other_end}
+use Rattle.gu_flow.proofs.Words.{◌≡◌, ◌==◌, ◌∙◌, ap, arith, refl, sym, cond, get_or, get_or_default, eq-eqb, near, far, other_end}
 use Rattle.gu_flow.specs.Rounds.{room_of}
 use Rattle.gu_flow.proofs.Measuring.{all_inside, none_inside, room_over}
 use Rattle.gu_flow.proofs.searching.Search.room_to_new.Goals as goal
