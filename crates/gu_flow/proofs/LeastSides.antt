@@ -1,9 +1,10 @@
 -- A search from the source over a flow without floors: what it has reached lies within each source side from which nothing more can be pushed.
-use Rattle.gu_flow.proofs.Words.{◌≡◌, ℕ, zero, suc, ◌-◌, ◌/◌, ◌<◌, ◌≤◌, Bool, true, false, cond, nat_lt, List, get_or, refl, sym, ◌∙◌, ap, subst, arith, inl, inr, cases_Bool, cases_eq, eq-eqb, ltb-true, Allotment, Arc, Mark, Search, arc_at, is_tail, near, far, residual_out, JoinsNodes, IsClosed, IsFlow, room_inside, IsAllotment, IsFree, mark_at, level_at, is_reached, IsSourceSearch, IsTree}
+use Rattle.gu_flow.proofs.Words.{◌≡◌, ℕ, zero, suc, ◌-◌, ◌/◌, ◌<◌, ◌≤◌, Bool, true, false, cond, nat_lt, List, length, get_or, refl, sym, ◌∙◌, ap, subst, arith, inl, inr, cases_Bool, cases_eq, eq-eqb, ltb-true, Allotment, Arc, Mark, Search, arc_at, is_tail, near, far, residual_out, capacities, value_of, JoinsNodes, KeepsFloors, IsClosed, IsFlow, room_inside, HasRooms, IsAllotment, IsFree, mark_at, level_at, is_reached, IsSourceSearch, IsTree}
 use Rattle.std.proofs.Math.Path.{fun_ext}
 use Rattle.gu_flow.specs.LeastCuts.{IsLeastSide}
 use Rattle.gu_flow.proofs.Borders.{all_one, closed_stays}
 use Rattle.gu_flow.proofs.Looking.{search_done}
+use Rattle.gu_flow.proofs.PushLemmas.{left_less}
 
 no_floor : (b : Bool) (x y : ℕ) → cond b x (y - 0) ≡ cond b x y
 no_floor true x y = refl
@@ -14,6 +15,7 @@ module _ (arcs : List Arc) (nodes : ℕ) (a : Allotment) (free : IsFree arcs nod
   free_allotment = record {
     is_flow = free.is_flow;
     keeps = record { each = λ k. omega (arith, free.no_floors k) };
+    rooms = free.rooms;
     floors = free.floors;
     regions = free.regions;
     fixed = all_one arcs a.floors.items a.flow.items a.regions.items free.one_region;
@@ -27,6 +29,39 @@ module _ (arcs : List Arc) (nodes : ℕ) (a : Allotment) (free : IsFree arcs nod
 
   pub over_flow : (s : Search) → IsSourceSearch arcs nodes (room_inside arcs a s.back) s → IsSourceSearch arcs nodes (residual_out arcs a.flow.items) s
   over_flow s is = subst (λ room. IsSourceSearch arcs nodes room s) (ap (room_inside arcs a) is.ahead ∙ free_room) is
+
+-- a flow that can be rerouted at will has grown
+pub record Grown (arcs : List Arc) (old now : Allotment) : Type 0 where
+  pub is_flow : IsFlow arcs now.flow.items
+  pub more : value_of arcs old.flow.items < value_of arcs now.flow.items
+  pub same : (now.floors ≡ old.floors) × (now.regions ≡ old.regions)
+
+pub grows : (arcs : List Arc) (old now : Allotment) (flow : List ℕ) → now.flow.items ≡ flow → IsFlow arcs flow → value_of arcs old.flow.items < value_of arcs flow → now.floors ≡ old.floors → now.regions ≡ old.regions → Grown arcs old now
+grows arcs old now flow is is_flow more floors regions = record {
+  is_flow = subst (IsFlow arcs) (sym is) is_flow;
+  more = subst (λ f. value_of arcs old.flow.items < value_of arcs f) (sym is) more;
+  same = (floors, regions);
+}
+
+pub grown_keeps : (arcs : List Arc) (nodes : ℕ) (old now : Allotment) → IsFree arcs nodes old → Grown arcs old now → KeepsFloors now.floors.items now.flow.items
+grown_keeps arcs nodes old now free grown = record { each = λ k. omega (arith, ap (λ f. get_or f.items k 0) grown.same.0, free.no_floors k) }
+
+-- once it is measured, it can be rerouted at will again
+pub measured_free : (arcs : List Arc) (nodes : ℕ) (old now new : Allotment) → IsFree arcs nodes old → Grown arcs old now → new.flow ≡ now.flow → new.floors ≡ now.floors → new.regions ≡ now.regions → HasRooms arcs new
+    → IsFree arcs nodes new
+measured_free arcs nodes old now new free grown flow floors regions rooms = record {
+  is_flow = subst (λ f. IsFlow arcs f.items) (sym flow) grown.is_flow;
+  rooms = rooms;
+  floors = ap (λ f. length f.items) (floors ∙ grown.same.0) ∙ free.floors;
+  regions = ap (λ r. length r.items) (regions ∙ grown.same.1) ∙ free.regions;
+  no_floors = λ k. ap (λ f. get_or f.items k 0) (floors ∙ grown.same.0) ∙ free.no_floors k;
+  one_region = λ n. ap (λ r. get_or r.items n 0) (regions ∙ grown.same.1) ∙ free.one_region n;
+}
+
+-- and less is left of the capacities
+pub grown_less : (arcs : List Arc) (old now new : Allotment) → Grown arcs old now → new.flow ≡ now.flow → capacities arcs - value_of arcs new.flow.items < capacities arcs - value_of arcs old.flow.items
+grown_less arcs old now new grown flow =
+    subst (λ f. capacities arcs - value_of arcs f.items < capacities arcs - value_of arcs old.flow.items) (sym flow) (left_less arcs old.flow.items now.flow.items grown.is_flow.within grown.more)
 
 module _ (arcs : List Arc) (flow : List ℕ) (marks : List Mark) (tree : IsTree arcs (residual_out arcs flow) 0 marks) (others : ℕ → Bool) (source : others 0 ≡ true) (closed : IsClosed arcs flow others) where
   up_to : (level n : ℕ) → level_at marks n ≤ level → 0 < level_at marks n → others n ≡ true

@@ -28,6 +28,7 @@ pub mod OldestPass
 pub mod Marks
 pub mod Looking
 pub mod RoundPushing
+pub mod Measuring
 pub mod Raising
 pub mod Giving
 pub mod Words

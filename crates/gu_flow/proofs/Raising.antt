@@ -1,7 +1,8 @@
 -- The flow of an agreement's arc is raised, round by round.
-use Rattle.gu_flow.proofs.Words.{◌≡◌, ◌≢◌, ℕ, ◌+◌, ◌*◌, ◌/◌, ◌%◌, ◌<◌, ◌≤◌, ◌==◌, min, Bool, true, false, not, cond, List, length, get_or, refl, sym, ◌∙◌, ap, subst, arith, inl, inr, cases_Bool, cases_eq, eq-eqb, ltb-true, ltb-false, Allotment, Arc, Mark, arc_at, is_tail, near, far, other_end, JoinsNodes, KeepsFloors, IsAlike, room_out, inflow, outflow, value_of, IsFlow, IsShut, Pushes, room_inside, AreFixed, CarriesMost, IsAllotment, IsBrought, IsClosedInside, level_at, is_reached}
+use Rattle.gu_flow.proofs.Words.{◌≡◌, ◌≢◌, ℕ, ◌+◌, ◌*◌, ◌/◌, ◌%◌, ◌<◌, ◌≤◌, ◌==◌, min, Bool, true, false, not, cond, List, length, get_or, refl, sym, ◌∙◌, ap, subst, arith, inl, inr, cases_Bool, cases_eq, eq-eqb, ltb-true, ltb-false, Allotment, Arc, Mark, arc_at, is_tail, near, far, other_end, JoinsNodes, KeepsFloors, IsAlike, room_out, inflow, outflow, value_of, IsFlow, IsShut, Pushes, room_inside, AreFixed, CarriesMost, HasRooms, IsAllotment, IsBrought, IsClosedInside, level_at, is_reached}
 use Rattle.gu_flow.proofs.Borders.{fixed_more, fixed_stays, most_reached}
 use Rattle.gu_flow.proofs.EndLemmas.{near-other_end, far-other_end, other_end-in, other_end-twice}
+use Rattle.gu_flow.proofs.Measuring.{rooms_stay}
 
 -- after lots are pushed round it is again a flow of the same value
 pub round_is_flow : (arcs : List Arc) (old middle new : List ℕ) (tail head lots end : ℕ) → IsFlow arcs old → IsBrought arcs old middle head tail lots → near arcs end ≡ tail → far arcs end ≡ head → Pushes arcs middle new end lots
@@ -70,13 +71,14 @@ head_of arcs place =
 module _ (arcs : List Arc) (nodes : ℕ) (joins : JoinsNodes arcs nodes) (some : 0 < nodes) (a now : Allotment) (is : IsAllotment arcs nodes a) (place : ℕ) where
   -- lots are pushed round, and the floor of the arc is its new flow
   pub round_ends : IsFlow arcs now.flow.items → value_of arcs now.flow.items ≡ value_of arcs a.flow.items → KeepsFloors a.floors.items now.flow.items → get_or now.floors.items place 0 ≡ get_or now.flow.items place 0
-      → ((k : ℕ) → k ≢ place → get_or now.floors.items k 0 ≡ get_or a.floors.items k 0) → length now.floors.items ≡ length a.floors.items → now.regions ≡ a.regions → IsAllotment arcs nodes now
-  round_ends flow value keeps here others size regions =
+      → ((k : ℕ) → k ≢ place → get_or now.floors.items k 0 ≡ get_or a.floors.items k 0) → length now.floors.items ≡ length a.floors.items → now.regions ≡ a.regions → HasRooms arcs now → IsAllotment arcs nodes now
+  round_ends flow value keeps here others size regions rooms =
       let rise : (k : ℕ) → get_or a.floors.items k 0 ≤ get_or now.floors.items k 0 = λ k. elim (cases_eq k place) [ inl it ↦ rw it (omega (arith, here, keeps.each place)) | inr other ↦ omega (arith, others k other) ] in
       let alike : IsAlike arcs a.floors.items a.flow.items now.flow.items = record { is_flow = flow; value = value; keeps = keeps } in
       record {
         is_flow = flow;
         keeps = record { each = λ k. elim (cases_eq k place) [ inl it ↦ rw it (omega (arith, here)) | inr other ↦ omega (arith, others k other, keeps.each k) ] };
+        rooms = rooms;
         floors = size ∙ is.floors;
         regions = ap (λ r. length r.items) regions ∙ is.regions;
         fixed = subst (λ r. AreFixed arcs now.floors.items now.flow.items r.items) (sym regions) (fixed_stays arcs nodes joins some a.floors.items a.flow.items a.regions.items is.is_flow is.fixed now.floors.items now.flow.items alike rise);
@@ -84,10 +86,11 @@ module _ (arcs : List Arc) (nodes : ℕ) (joins : JoinsNodes arcs nodes) (some :
 
   -- two regions are separated, and the arc between them carries as much as it ever can
   module _ (reached : ℕ → Bool) (closed : IsClosedInside arcs a.floors.items a.flow.items a.regions.items reached) (flow : now.flow ≡ a.flow) (floors : now.floors ≡ a.floors) where
-    pub parts : length now.regions.items ≡ length a.regions.items → ((n m : ℕ) → reached n ≡ reached m → get_or a.regions.items n 0 ≡ get_or a.regions.items m 0 → get_or now.regions.items n 0 ≡ get_or now.regions.items m 0) → IsAllotment arcs nodes now
-    parts size regions = record {
+    pub parts : now.rooms ≡ a.rooms → length now.regions.items ≡ length a.regions.items → ((n m : ℕ) → reached n ≡ reached m → get_or a.regions.items n 0 ≡ get_or a.regions.items m 0 → get_or now.regions.items n 0 ≡ get_or now.regions.items m 0) → IsAllotment arcs nodes now
+    parts rooms size regions = record {
       is_flow = subst (λ f. IsFlow arcs f.items) (sym flow) is.is_flow;
       keeps = subst (λ f. KeepsFloors now.floors.items f.items) (sym flow) (subst (λ f. KeepsFloors f.items a.flow.items) (sym floors) is.keeps);
+      rooms = rooms_stay arcs a now is.rooms flow floors rooms;
       floors = ap (λ f. length f.items) floors ∙ is.floors;
       regions = size ∙ is.regions;
       fixed = subst (λ f. AreFixed arcs now.floors.items f.items now.regions.items) (sym flow) (subst (λ f. AreFixed arcs f.items a.flow.items now.regions.items) (sym floors)
@@ -109,9 +112,9 @@ pub record Raising (arcs : List Arc) (nodes : ℕ) (start older : List ℕ) (a :
 module _ (arcs : List Arc) (nodes : ℕ) (place goal : ℕ) where
   -- nothing is raised yet
   pub raise_begins : JoinsNodes arcs nodes → 0 < nodes → (a now : Allotment) → IsAllotment arcs nodes a → get_or a.floors.items place 0 ≤ goal → now.flow ≡ a.flow → now.regions ≡ a.regions
-      → length now.floors.items ≡ length a.floors.items → get_or now.floors.items place 0 ≡ min (get_or a.flow.items place 0) goal → ((k : ℕ) → k ≢ place → get_or now.floors.items k 0 ≡ get_or a.floors.items k 0)
+      → HasRooms arcs now → length now.floors.items ≡ length a.floors.items → get_or now.floors.items place 0 ≡ min (get_or a.flow.items place 0) goal → ((k : ℕ) → k ≢ place → get_or now.floors.items k 0 ≡ get_or a.floors.items k 0)
       → Raising arcs nodes a.flow.items a.floors.items now place goal
-  raise_begins joins some a now is within flow regions size here same =
+  raise_begins joins some a now is within flow regions rooms size here same =
       let rise : (k : ℕ) → get_or a.floors.items k 0 ≤ get_or now.floors.items k 0 = λ k. elim (cases_eq k place) [ inl it ↦ rw it (omega (arith, here, within, is.keeps.each place)) | inr other ↦ omega (arith, same k other) ] in
       let alike : IsAlike arcs a.floors.items a.flow.items a.flow.items = record { is_flow = is.is_flow; value = refl; keeps = is.keeps } in
       let fixed = fixed_stays arcs nodes joins some a.floors.items a.flow.items a.regions.items is.is_flow is.fixed now.floors.items a.flow.items alike rise in
@@ -120,6 +123,7 @@ module _ (arcs : List Arc) (nodes : ℕ) (place goal : ℕ) where
         is = record {
           is_flow = subst (λ f. IsFlow arcs f.items) (sym flow) is.is_flow;
           keeps = subst (λ f. KeepsFloors now.floors.items f.items) (sym flow) keeps;
+          rooms = rooms;
           floors = size ∙ is.floors;
           regions = ap (λ r. length r.items) regions ∙ is.regions;
           fixed = subst (λ f. AreFixed arcs now.floors.items f.items now.regions.items) (sym flow) (subst (λ r. AreFixed arcs now.floors.items a.flow.items r.items) (sym regions) fixed);

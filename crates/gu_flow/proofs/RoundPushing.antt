@@ -1,5 +1,5 @@
 -- A search is extended along the path of another, and lots are pushed along its own.
-use Rattle.gu_flow.proofs.Words.{◌≡◌, ◌≢◌, ℕ, ◌+◌, ◌-◌, ◌*◌, ◌/◌, ◌%◌, ◌<◌, ◌≤◌, ◌==◌, Bool, true, false, cond, List, length, refl, sym, ◌∙◌, ap, subst, arith, inl, inr, get_or, cases_Bool, eq-eqb, eqb-true, Allotment, Arc, Mark, Search, arc_at, is_tail, near, far, other_end, residual_in, KeepsFloors, room_out, inflow, outflow, IsWithin, Pushes, room_inside, IsBrought, mark_at, level_at, IsEntry, IsTree, KeepsReached}
+use Rattle.gu_flow.proofs.Words.{◌≡◌, ◌≢◌, ℕ, ◌+◌, ◌-◌, ◌*◌, ◌/◌, ◌%◌, ◌<◌, ◌≤◌, ◌==◌, Bool, true, false, cond, List, length, refl, sym, ◌∙◌, ap, subst, arith, inl, inr, get_or, cases_Bool, eq-eqb, eqb-true, Allotment, Arc, Mark, Search, arc_at, is_tail, near, far, other_end, residual_in, KeepsFloors, room_out, inflow, outflow, IsWithin, Pushes, room_inside, HasRooms, IsBrought, mark_at, level_at, IsEntry, IsTree, KeepsReached}
 use Rattle.gu_flow.proofs.EndLemmas.{near-other_end, far-other_end, other_end-in}
 
 -- a search that goes on and on keeps what it reached
@@ -41,6 +41,7 @@ some_ahead arcs a e some =
 pub record RoundPushing (arcs : List Arc) (start now : Allotment) (source : ℕ) (marks : List Mark) (to lots node : ℕ) : Type 0 where
   pub within : IsWithin arcs now.flow.items
   pub keeps : KeepsFloors now.floors.items now.flow.items
+  pub rooms : HasRooms arcs now
   pub same : (now.floors ≡ start.floors) × (now.regions ≡ start.regions)
   pub nodes : (n : ℕ) → inflow arcs now.flow.items n + outflow arcs start.flow.items n + cond (node == n) lots 0 ≡ inflow arcs start.flow.items n + outflow arcs now.flow.items n + cond (to == n) lots 0
   pub reached : 0 < level_at marks node
@@ -49,11 +50,12 @@ pub record RoundPushing (arcs : List Arc) (start now : Allotment) (source : ℕ)
   pub floor : (place : ℕ) → get_or start.floors.items place 0 ≡ get_or start.flow.items place 0 → (arc_at arcs place).to ≡ source → get_or now.flow.items place 0 ≡ get_or start.flow.items place 0
 
 -- nothing is pushed yet
-pub push_begins : (arcs : List Arc) (start : Allotment) (source : ℕ) (marks : List Mark) (to lots : ℕ) → IsWithin arcs start.flow.items → KeepsFloors start.floors.items start.flow.items → 0 < level_at marks to → lots ≤ (mark_at marks to).lots
+pub push_begins : (arcs : List Arc) (start : Allotment) (source : ℕ) (marks : List Mark) (to lots : ℕ) → IsWithin arcs start.flow.items → KeepsFloors start.floors.items start.flow.items → HasRooms arcs start → 0 < level_at marks to → lots ≤ (mark_at marks to).lots
     → RoundPushing arcs start start source marks to lots to
-push_begins arcs start source marks to lots within keeps reached few = record {
+push_begins arcs start source marks to lots within keeps rooms reached few = record {
   within = within;
   keeps = keeps;
+  rooms = rooms;
   same = (refl, refl);
   nodes = λ n. refl;
   reached = reached;
@@ -97,14 +99,15 @@ module _ (arcs : List Arc) (start now : Allotment) (source : ℕ) (marks : List 
         absurd (omega (arith, room, ap (λ k. get_or start.flow.items k 0) same, ap (λ k. get_or start.floors.items k 0) same, here, entry.some))
   ]
 
-  pub pushes_on : (new : Allotment) → Pushes arcs now.flow.items new.flow.items (mark_at marks node).via lots → KeepsFloors new.floors.items new.flow.items → (new.floors ≡ now.floors) × (new.regions ≡ now.regions)
+  pub pushes_on : (new : Allotment) → Pushes arcs now.flow.items new.flow.items (mark_at marks node).via lots → KeepsFloors new.floors.items new.flow.items → HasRooms arcs new → (new.floors ≡ now.floors) × (new.regions ≡ now.regions)
       → RoundPushing arcs start new source marks to lots (near arcs (mark_at marks node).via)
-  pushes_on new c keeps same =
+  pushes_on new c keeps rooms same =
       let next = near arcs via in
       let deeper : 1 < level_at marks node = tree.above node on_way p.reached in
       record {
         within = c.within;
         keeps = keeps;
+        rooms = rooms;
         same = (same.0 ∙ p.same.0, same.1 ∙ p.same.1);
         nodes = λ n. omega (arith, c.nodes n, p.nodes n, ap (λ m. cond (m == n) lots 0) entry.here);
         reached = omega (arith, entry.falls, deeper);

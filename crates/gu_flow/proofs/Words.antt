@@ -22,7 +22,7 @@ pub use Rattle.gu_flow.specs.Networks.{AreArcs, GoesBy, IsArcOf, IsOfferOf, capa
 pub use Rattle.gu_flow.specs.OldestFlows.{IsOldestBefore, IsOldestFlow, got_before}
 pub use Rattle.gu_flow.specs.Preflows.{AreSettled, IsPreflow, IsSurge}
 pub use Rattle.gu_flow.specs.Proposals.{IsSound, ProposedSweep}
-pub use Rattle.gu_flow.specs.Rounds.{AreFixed, AreReady, AreSearches, AreUnderWay, CarriesMost, IsAllotment, IsBrought, IsClosedInside, IsFree, room_inside}
+pub use Rattle.gu_flow.specs.Rounds.{AreFixed, AreMeasured, AreReady, AreSearches, AreUnderWay, CarriesMost, HasRooms, IsAllotment, IsBrought, IsClosedInside, IsFree, room_inside}
 pub use Rattle.gu_flow.specs.Searches.{GoesOn, IsEntry, IsQueue, IsReady, IsSearch, IsSourceSearch, IsTree, KeepsReached, is_reached, level_at, mark_at, no_mark, reached_count, turns_left}
 pub use Rattle.gu_flow.specs.Shares.{AreAllShares, AreSharesBefore, above_zero, agreement_lots, agreement_place, no_take, share_of, take_at}
 pub use Rattle.gu_flow.specs.Ways.{HasRoom, IsAhead, IsDescent, IsDown, IsNarrow, IsStep, IsWhole, TakesEachOnce, stand}

@@ -1,5 +1,5 @@
 -- Machinery: an allotment, in which lots are pushed round cycles, and the two searches that find a path for them.
-use Rattle.std.specs.Prelude.{◌≡◌, ◌≢◌, ℕ, ◌==◌, ◌+◌, ◌*◌, ◌<◌, ◌≤◌, if◌then◌else◌, List, length, Bool, true, false, slice_index}
+use Rattle.std.specs.Prelude.{◌≡◌, ◌≢◌, ℕ, ◌==◌, ◌+◌, ◌-◌, ◌*◌, ◌<◌, ◌≤◌, if◌then◌else◌, List, length, Bool, true, false, slice_index}
 use Rattle.gu_flow.specs.declared.allotment.Allotment.{Allotment}
 use Rattle.gu_flow.specs.declared.network.Arc.{Arc}
 use Rattle.gu_flow.specs.declared.rounds.TwoWay.{TwoWay}
@@ -11,6 +11,16 @@ use Rattle.gu_flow.specs.Searches.{HasPlaces, IsClear, IsSearch}
 -- the lots that a search can push over an end: from its node to the other, or, if it goes back, to its node
 abbrev pub room_of : List Arc → Allotment → Bool → ℕ → ℕ
 room_of arcs a back e = room_out arcs a.floors.items a.flow.items (if back then other_end e else e)
+
+-- the room from an arc's tail is the capacity left, and that from its head is the flow above its floor
+pub record AreMeasured (arcs : List Arc) (a : Allotment) (k : ℕ) : Type 0 where
+  pub along : slice_index a.rooms.items (2 * k) ≡ (arc_at arcs k).capacity - slice_index a.flow.items k
+  pub against : slice_index a.rooms.items (2 * k + 1) ≡ slice_index a.flow.items k - slice_index a.floors.items k
+
+-- an allotment has a room for each end
+pub record HasRooms (arcs : List Arc) (a : Allotment) : Type 0 where
+  pub size : length a.rooms.items ≡ 2 * length arcs
+  pub each : (k : ℕ) → k < length arcs → AreMeasured arcs a k
 
 -- those that it can push within a region
 abbrev pub room_inside : List Arc → Allotment → Bool → ℕ → ℕ
@@ -37,6 +47,7 @@ pub record AreFixed (arcs : List Arc) (floors flow regions : List ℕ) : Type 0 
 pub record IsAllotment (arcs : List Arc) (nodes : ℕ) (a : Allotment) : Type 0 where
   pub is_flow : IsFlow arcs a.flow.items
   pub keeps : KeepsFloors a.floors.items a.flow.items
+  pub rooms : HasRooms arcs a
   pub floors : length a.floors.items ≡ length arcs
   pub regions : length a.regions.items ≡ nodes
   pub fixed : AreFixed arcs a.floors.items a.flow.items a.regions.items
@@ -44,6 +55,7 @@ pub record IsAllotment (arcs : List Arc) (nodes : ℕ) (a : Allotment) : Type 0 
 -- a flow that can still be rerouted at will: no arc has a floor, and all nodes are in one region
 pub record IsFree (arcs : List Arc) (nodes : ℕ) (a : Allotment) : Type 0 where
   pub is_flow : IsFlow arcs a.flow.items
+  pub rooms : HasRooms arcs a
   pub floors : length a.floors.items ≡ length arcs
   pub regions : length a.regions.items ≡ nodes
   pub no_floors : (k : ℕ) → slice_index a.floors.items k ≡ 0

@@ -1,9 +1,9 @@
 //! A flow that is rerouted in cycles without changing its value.
 
-ghost use Rattle.std.specs.Prelude.{◌≡◌, ℕ, ◌+◌, ◌*◌, ◌/◌, ◌%◌, ◌<◌, ◌≤◌, IfOk, length, slice_index};
+ghost use Rattle.std.specs.Prelude.{◌≡◌, ◌≢◌, ℕ, ◌+◌, ◌*◌, ◌/◌, ◌%◌, ◌<◌, ◌≤◌, IfOk, length, slice_index};
 ghost use Rattle.gu_flow.specs.Floors.{KeepsFloors, room_out};
 ghost use Rattle.gu_flow.specs.Flows.{IsFlow, IsWithin, Pushes};
-ghost use Rattle.gu_flow.specs.Rounds.{room_of, IsAllotment, IsFree};
+ghost use Rattle.gu_flow.specs.Rounds.{AreMeasured, HasRooms, IsFree};
 ghost use Rattle.gu_flow.specs.Searches.{level_at, IsQueue};
 
 use crate::network::Network;
@@ -16,6 +16,8 @@ pub struct Allotment {
     pub(crate) flow: Vec<u64>,
     pub(crate) floors: Vec<u64>,
     pub(crate) regions: Vec<u32>,
+    /// For each end, the lots that can be pushed from it to the other.
+    pub(crate) rooms: Vec<u64>,
 }
 
 impl Allotment {
@@ -26,24 +28,42 @@ impl Allotment {
     {
         let floors = vec![in alloc; 0; flow.len()]?;
         let regions = vec![in alloc; 0; net.last_ends().len()]?;
-        Ok(Allotment {
+        let rooms = vec![in alloc; 0; 2 * flow.len()]?;
+        let mut allotment = Allotment {
             flow,
             floors,
             regions,
-        })
+            rooms,
+        };
+        allotment.measure_all(net);
+        Ok(allotment)
     }
 
-    /// Returns the lots that a search can push over an end, or against it if the search goes back.
-    pub(crate) fn room(&self, net: &Network, back: bool, end: u32) -> u64
-        requires allotment { IsAllotment net.now.arcs.items (length net.now.first.items) self.now }
-        requires end { end < 2 * length net.now.arcs.items }
-        ensures { result ≡ room_of net.now.arcs.items self.now back end }
+    /// Finds the lots that can be pushed over each end of an arc, after its flow or its floor has changed.
+    pub(crate) fn measure(&mut self, net: &Network, place: usize)
+        requires within { IsWithin net.now.arcs.items self.old.flow.items }
+        requires keeps { KeepsFloors self.old.floors.items self.old.flow.items }
+        requires sizes { (length self.old.floors.items ≡ length net.now.arcs.items) × (length self.old.rooms.items ≡ 2 * length net.now.arcs.items) }
+        requires place { place < length net.now.arcs.items }
+        ensures here { AreMeasured net.now.arcs.items self.new place }
+        ensures others { (k : ℕ) → k ≢ place → AreMeasured net.now.arcs.items self.old k → AreMeasured net.now.arcs.items self.new k }
+        ensures size { length self.new.rooms.items ≡ length self.old.rooms.items }
+        ensures same { (self.new.flow ≡ self.old.flow) × (self.new.floors ≡ self.old.floors) × (self.new.regions ≡ self.old.regions) }
     {
-        let flows = self.flow[end as usize / 2];
-        if (end % 2 == 0) == back {
-            flows - self.floors[end as usize / 2]
-        } else {
-            net.capacity(end) - flows
+        self.rooms[2 * place] = net.capacity(2 * place as u32) - self.flow[place];
+        self.rooms[2 * place + 1] = self.flow[place] - self.floors[place];
+    }
+
+    /// Finds the lots that can be pushed over each end.
+    pub(crate) fn measure_all(&mut self, net: &Network)
+        requires within { IsWithin net.now.arcs.items self.old.flow.items }
+        requires keeps { KeepsFloors self.old.floors.items self.old.flow.items }
+        requires sizes { (length self.old.floors.items ≡ length net.now.arcs.items) × (length self.old.rooms.items ≡ 2 * length net.now.arcs.items) }
+        ensures rooms { HasRooms net.now.arcs.items self.new }
+        ensures same { (self.new.flow ≡ self.old.flow) × (self.new.floors ≡ self.old.floors) × (self.new.regions ≡ self.old.regions) }
+    {
+        for place in 0..net.arcs().len() {
+            self.measure(net, place);
         }
     }
 
@@ -56,7 +76,7 @@ impl Allotment {
         ensures pushes { Pushes net.now.arcs.items self.old.flow.items self.new.flow.items end lots }
         ensures keeps { KeepsFloors self.new.floors.items self.new.flow.items }
         ensures along { end % 2 ≡ 0 → slice_index self.new.flow.items (end / 2) ≡ slice_index self.old.flow.items (end / 2) + lots }
-        ensures same { (self.new.floors ≡ self.old.floors) × (self.new.regions ≡ self.old.regions) }
+        ensures same { (self.new.floors ≡ self.old.floors) × (self.new.regions ≡ self.old.regions) × (self.new.rooms ≡ self.old.rooms) }
     {
         if end % 2 == 0 {
             self.flow[end as usize / 2] += lots;
@@ -70,7 +90,7 @@ impl Allotment {
         requires waits { IsQueue search.now.marks.items search.now.queue.items search.now.count }
         requires places { (length search.now.marks.items ≡ length self.old.regions.items)
             × (length search.now.queue.items ≡ length self.old.regions.items) }
-        ensures same { (self.new.flow ≡ self.old.flow) × (self.new.floors ≡ self.old.floors) }
+        ensures same { (self.new.flow ≡ self.old.flow) × (self.new.floors ≡ self.old.floors) × (self.new.rooms ≡ self.old.rooms) }
         ensures size { length self.new.regions.items ≡ length self.old.regions.items }
         ensures inside { (n : ℕ) → 0 < level_at search.now.marks.items n → slice_index self.new.regions.items n ≡ region }
         ensures outside { (n : ℕ) → level_at search.now.marks.items n ≡ 0

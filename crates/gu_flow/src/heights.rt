@@ -1,6 +1,6 @@
 //! Push-relabel: lots are pushed down from node to node. A node's height is its distance from the sink.
 
-ghost use Rattle.std.specs.Prelude.{◌≡◌, ℕ, ◌*◌, ◌^◌, ◌<◌, ◌≤◌, All, OnErr, OnOk, length, slice_index, vec_len};
+ghost use Rattle.std.specs.Prelude.{◌≡◌, ℕ, ◌*◌, ◌<◌, ◌≤◌, OnErr, OnOk, length, slice_index, vec_len};
 ghost use Rattle.gu_flow.specs.Flows.{IsFlow, IsWithin, value_of};
 ghost use Rattle.gu_flow.specs.Preflows.{IsPreflow, IsSurge};
 
@@ -155,15 +155,6 @@ fn discharge(
     cost
 }
 
-/// Gives the source all that it can give; no node has an excess.
-fn begin(excess: &mut [u64])
-    requires some { 0 < length excess.old }
-    requires none { All (λ lots. lots ≡ 0) excess.old }
-    ensures { (n : ℕ) → 0 < n → slice_index excess.new n ≡ 0 }
-{
-    excess[SOURCE as usize] = u64::MAX;
-}
-
 /// Measures the heights again, and resets each node to its last end.
 fn start_over(
     net: &Network,
@@ -254,7 +245,7 @@ pub(crate) fn surge(
     let mut excess = vec![in alloc; 0; nodes]?;
     let mut heights = vec![in alloc; 0; nodes]?;
     let mut waiting = Waiting::new(alloc, nodes)?;
-    begin(&mut excess);
+    excess[SOURCE as usize] = u64::MAX;
     push_all(
         net,
         flow,

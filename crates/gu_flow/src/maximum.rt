@@ -69,6 +69,7 @@ pub(crate) fn maximize(
             surge(alloc, net, &mut allotment.flow, &mut current, &mut way)?;
             left = SEARCHES * nodes;
         }
+        allotment.measure_all(net);
     }
     Ok(())
 }

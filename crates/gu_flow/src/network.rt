@@ -40,10 +40,9 @@ pub(crate) struct Network {
 
 /// Returns the arc's other end.
 pub(crate) fn other_end(end: u32) -> u32
-    requires { end < 4294967295 }
     ensures { result ≡ other_end end }
 {
-    if end % 2 == 0 { end + 1 } else { end - 1 }
+    end ^ 1
 }
 
 /// Returns the node at an end.

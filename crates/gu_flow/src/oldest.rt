@@ -39,6 +39,7 @@ fn raise_arc(
     let tail = net.near(2 * place as u32) as usize;
     let head = net.far(2 * place as u32) as usize;
     allotment.floors[place] = allotment.flow[place].min(goal);
+    allotment.measure(net, place);
     'rounds: while allotment.floors[place] < goal
         && allotment.regions[tail] == allotment.regions[head]
     {
@@ -94,6 +95,7 @@ pub(crate) fn give_oldest(
         flow,
         floors: _,
         regions: _,
+        rooms: _,
     } = allotment;
     Ok(flow)
 }

@@ -4,7 +4,7 @@ ghost use Rattle.std.specs.Prelude.{◌≡◌, ◌≢◌, ℕ, ◌+◌, ◌<◌,
 ghost use Rattle.gu_flow.specs.Ends.{arc_at};
 ghost use Rattle.gu_flow.specs.Floors.{KeepsFloors};
 ghost use Rattle.gu_flow.specs.Flows.{IsWithin, value_of};
-ghost use Rattle.gu_flow.specs.Rounds.{room_inside, AreReady, AreSearches, AreUnderWay, CarriesMost, IsAllotment, IsBrought};
+ghost use Rattle.gu_flow.specs.Rounds.{room_inside, AreReady, AreSearches, AreUnderWay, CarriesMost, HasRooms, IsAllotment, IsBrought};
 ghost use Rattle.gu_flow.specs.Searches.{level_at, mark_at, HasPlaces, IsQueue, IsTree, KeepsReached};
 
 use crate::allotment::Allotment;
@@ -186,6 +186,7 @@ fn push_along(net: &Network, allotment: &mut Allotment, search: &Search, to: u32
     requires room { lots ≤ (mark_at search.now.marks.items to).lots }
     ensures within { IsWithin net.now.arcs.items allotment.new.flow.items }
     ensures keeps { KeepsFloors allotment.new.floors.items allotment.new.flow.items }
+    ensures rooms { HasRooms net.now.arcs.items allotment.new }
     ensures same { (allotment.new.floors ≡ allotment.old.floors) × (allotment.new.regions ≡ allotment.old.regions) }
     ensures brought { IsBrought net.now.arcs.items allotment.old.flow.items allotment.new.flow.items search.now.from to lots }
     ensures floor { (place : ℕ) → slice_index allotment.old.floors.items place ≡ slice_index allotment.old.flow.items place
@@ -196,6 +197,7 @@ fn push_along(net: &Network, allotment: &mut Allotment, search: &Search, to: u32
     while node != search.from {
         let end = search.marks[node as usize].via;
         allotment.push(net, end, lots);
+        allotment.measure(net, end as usize / 2);
         node = net.near(end);
     }
 }
@@ -224,4 +226,5 @@ fn bring_round(net: &Network, allotment: &mut Allotment, search: &Search, place:
     push_along(net, allotment, search, tail, lots);
     allotment.push(net, end, lots);
     allotment.floors[place] = allotment.flow[place];
+    allotment.measure(net, place);
 }

@@ -6,7 +6,7 @@ ghost use Rattle.gu_flow.specs.Rounds.{room_inside, IsAllotment};
 ghost use Rattle.gu_flow.specs.Searches.{level_at, is_reached, mark_at, turns_left, GoesOn, HasPlaces, IsClear, IsQueue, IsTree, IsSearch, KeepsReached};
 
 use crate::allotment::Allotment;
-use crate::network::Network;
+use crate::network::{Network, other_end};
 use std::alloc::{AllocError, Global};
 
 /// The most ends that a search looks at in one turn.
@@ -152,11 +152,16 @@ impl Search {
         ensures room { level_at self.now.marks.items (far net.now.arcs.items end) ≡ 0
             → result ≡ room_inside net.now.arcs.items allotment.now self.now.back end }
     {
+        let over = if self.back { other_end(end) } else { end };
+        let room = allotment.rooms[over as usize];
+        if room == 0 {
+            return 0;
+        }
         let other = net.far(end);
         if self.has(other) || allotment.regions[other as usize] != region {
             return 0;
         }
-        allotment.room(net, self.back, end)
+        room
     }
 
     /// Skips ends of the next node that reach nothing new, for one turn at most. Returns where it stops, an end plus one or 0 if there are no
@@ -224,9 +229,8 @@ impl Search {
         ensures same { (self.new.back ≡ self.old.back) × (length self.new.marks.items ≡ length self.old.marks.items)
             × (length self.new.queue.items ≡ length self.old.queue.items) }
     {
-        while self.count > 0 {
-            self.count -= 1;
-            let node = self.queue[self.count];
+        for place in 0..self.count {
+            let node = self.queue[place];
             self.marks[node as usize].level = 0;
         }
     }

@@ -1,5 +1,6 @@
-use Rattle.gu_flow.proofs.Words.{◌≡◌, ◌<◌, ◌∙◌, ap, sym, refl, arith, length, get_or, get_or-set_same, get_or-set_other, length-set, get_or_default, arc_at}
+use Rattle.gu_flow.proofs.Words.{◌≡◌, ◌≢◌, ℕ, ◌<◌, ◌∙◌, set, ap, sym, refl, arith, length, get_or, get_or-set_same, get_or-set_other, length-set, get_or_default, arc_at}
 use Rattle.gu_flow.proofs.Borders.{most_apart}
+use Rattle.gu_flow.proofs.Measuring.{measured}
 use Rattle.gu_flow.proofs.Raising.{head_of, level, raise_begins, raised_most, raises, tail_of}
 use Rattle.gu_flow.proofs.oldest.raise_arc.Goals as goal
 
@@ -10,11 +11,31 @@ rounds-init c =
     let place = c.args.place in
     let flows = c.index.ensures ∙ get_or_default a.flow.items place c.index.result.now 0 (omega (arith, c.requires.allotment.is_flow.within.all, c.requires.place.0)) in
     let inside : place < length a.floors.items = omega (arith, c.requires.allotment.floors, c.requires.place.0) in
+    let e = c.measure.ensures in
+    let raised : (k : ℕ) → k ≢ place → get_or (set a.floors.items place c.min.result) k 0 ≡ get_or a.floors.items k 0 = λ k other. get_or-set_other a.floors.items place k c.min.result 0 other in
+    let floors : (k : ℕ) → get_or c.measure.new.self.floors.items k 0 ≡ get_or (set a.floors.items place c.min.result) k 0 = λ k. ap (λ f. get_or f.items k 0) e.same.1 in
     record {
-      raising = raise_begins net.arcs.items (length net.first.items) place c.args.goal net.is_network.joins (omega (arith, net.is_network.ends)) a _ c.requires.allotment c.requires.place.1 refl refl
-          (length-set a.floors.items place c.min.result) (get_or-set_same a.floors.items place c.min.result 0 inside ∙ omega (arith, c.min.ensures, flows)) (λ k other. get_or-set_other a.floors.items place k c.min.result 0 other);
+      raising = raise_begins net.arcs.items (length net.first.items) place c.args.goal net.is_network.joins (omega (arith, net.is_network.ends)) a c.measure.new.self c.requires.allotment c.requires.place.1 e.same.0 e.same.2
+          (measured net.arcs.items a _ c.measure.new.self place c.requires.allotment.rooms (λ k other. refl) raised refl e.here e.others e.size)
+          (ap (λ f. length f.items) e.same.1 ∙ length-set a.floors.items place c.min.result) (floors place ∙ get_or-set_same a.floors.items place c.min.result 0 inside ∙ omega (arith, c.min.ensures, flows)) (λ k other. floors k ∙ raised k other);
       ready = c.requires.ready;
     }
+
+pub rounds-preserved : goal.rounds-preserved
+rounds-preserved c =
+    let net = c.args.net.now in
+    let place = c.args.place in
+    let l = c.rounds.allotment in
+    let r = c.rounds.invariant.raising in
+    let e = c.go_round.ensures in
+    let less : get_or l.floors.items place 0 < c.args.goal = omega (arith, c.rounds-test.true, c.index-in-rounds.ensures, get_or_default l.floors.items place c.index-in-rounds.result.now 0 (omega (arith, r.is.floors, c.requires.place.0))) in
+    record {
+      raising = raises net.arcs.items (length net.first.items) place c.args.goal c.args.allotment.now.flow.items c.args.allotment.now.floors.items l c.go_round.new.allotment r less e.allotment e.value e.here e.within e.rises e.others;
+      ready = e.ready;
+    }
+
+pub returns-then-not-go_round-clause-others : goal.returns-then-not-go_round-clause-others
+returns-then-not-go_round-clause-others c = λ k other. c.go_round.ensures.others k other ∙ c.rounds.invariant.raising.others k other
 
 pub returns-then-not-go_round-clause-most : goal.returns-then-not-go_round-clause-most
 returns-then-not-go_round-clause-most c =

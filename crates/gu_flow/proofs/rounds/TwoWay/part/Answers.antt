@@ -16,7 +16,7 @@ returns-then-self-clause-allotment c =
     let out : s.count ≤ s.done = c.if-self.true in
     let shut : IsShut arcs (room_inside arcs a false) (is_reached marks) = subst (λ b. IsShut arcs (room_inside arcs a b) (is_reached marks)) w.are.along (search_done arcs (room_inside arcs a s.back) s w.ahead out) in
     let closed = closed_ahead arcs a (is_reached marks) shut in
-    parts arcs (length net.first.items) net.is_network.joins (omega (arith, net.is_network.ends)) a now c.requires.allotment c.args.place (is_reached marks) closed e.same.0 e.same.1 e.size (set_apart_agrees marks a.regions.items now.regions.items c.args.region e.inside e.outside)
+    parts arcs (length net.first.items) net.is_network.joins (omega (arith, net.is_network.ends)) a now c.requires.allotment c.args.place (is_reached marks) closed e.same.0 e.same.1 e.same.2 e.size (set_apart_agrees marks a.regions.items now.regions.items c.args.region e.inside e.outside)
 
 pub returns-then-self-clause-most : goal.returns-then-self-clause-most
 returns-then-self-clause-most c =
@@ -48,7 +48,7 @@ returns-else-self-clause-allotment c =
     let out : s.count ≤ s.done = elim c.requires.out [ inl it ↦ absurd (omega (arith, it, c.if-self.false)) | inr other ↦ other ] in
     let shut : IsShut arcs (room_inside arcs a true) (is_reached marks) = subst (λ b. IsShut arcs (room_inside arcs a b) (is_reached marks)) w.are.against (search_done arcs (room_inside arcs a s.back) s w.back out) in
     let closed = closed_back arcs a (is_reached marks) shut in
-    parts arcs (length net.first.items) net.is_network.joins (omega (arith, net.is_network.ends)) a now c.requires.allotment c.args.place (λ n. not (is_reached marks n)) closed e.same.0 e.same.1 e.size (λ n m same. set_apart_agrees marks a.regions.items now.regions.items c.args.region e.inside e.outside n m (not_same (is_reached marks n) (is_reached marks m) same))
+    parts arcs (length net.first.items) net.is_network.joins (omega (arith, net.is_network.ends)) a now c.requires.allotment c.args.place (λ n. not (is_reached marks n)) closed e.same.0 e.same.1 e.same.2 e.size (λ n m same. set_apart_agrees marks a.regions.items now.regions.items c.args.region e.inside e.outside n m (not_same (is_reached marks n) (is_reached marks m) same))
 
 pub returns-else-self-clause-most : goal.returns-else-self-clause-most
 returns-else-self-clause-most c =
