@@ -210,6 +210,7 @@ impl Session {
     }
 
     /// Carries out a course, and appends the bytes to send.
+    #[inline(always)]
     fn follow(
         &mut self,
         course: Course<'_>,
