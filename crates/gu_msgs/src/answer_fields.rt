@@ -40,6 +40,7 @@ fn push_report_status(draft: &mut Draft, rejection: &Option<Rejection>) -> Resul
 }
 
 /// Appends the body of a TradeCaptureReportAck.
+#[inline(always)]
 pub fn push_report_ack(draft: &mut Draft, message: &TradeCaptureReportAck) -> Result<(), AllocError>
     ensures { OnOk result (draft.new ≡ draft.old ++ report_ack_fields message.now) }
 {

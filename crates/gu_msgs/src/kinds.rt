@@ -36,6 +36,7 @@ pub fn id(text: &[u8]) -> Result<Id, SessionRejectReason>
 }
 
 /// Returns the account in a text.
+#[inline(always)]
 pub fn account(text: &[u8]) -> Result<AccountId, SessionRejectReason>
     ensures judged { IsJudged kind.Name text.now result }
     ensures means { IfOk result (λ account. text.now ≡ account.name) }
@@ -44,6 +45,7 @@ pub fn account(text: &[u8]) -> Result<AccountId, SessionRejectReason>
 }
 
 /// Returns the instrument in a text.
+#[inline(always)]
 pub fn symbol(text: &[u8]) -> Result<Symbol, SessionRejectReason>
     ensures judged { IsJudged kind.Name text.now result }
     ensures means { IfOk result (λ symbol. text.now ≡ symbol.name) }
@@ -63,6 +65,7 @@ pub fn test_req_id(
 }
 
 /// Returns the lots in a text.
+#[inline(always)]
 pub fn lots(text: &[u8]) -> Result<Lots, SessionRejectReason>
     ensures judged { IsJudged kind.Lots text.now result }
     ensures means { IfOk result (MeansLots text.now) }
@@ -75,6 +78,7 @@ pub fn lots(text: &[u8]) -> Result<Lots, SessionRejectReason>
 }
 
 /// Returns the price in a text.
+#[inline(always)]
 pub fn price(text: &[u8]) -> Result<Price, SessionRejectReason>
     ensures judged { IsJudged kind.Price text.now result }
     ensures means { IfOk result (MeansPrice text.now) }
@@ -87,6 +91,7 @@ pub fn price(text: &[u8]) -> Result<Price, SessionRejectReason>
 }
 
 /// Returns the day in a text.
+#[inline(always)]
 pub fn day(text: &[u8]) -> Result<Day, SessionRejectReason>
     ensures judged { IsJudged kind.Date text.now result }
     ensures means { IfOk result (λ d. WritesDay text.now d.year d.month d.day) }
@@ -151,6 +156,7 @@ pub fn offer(text: &[u8]) -> Result<OfferNo, SessionRejectReason>
 }
 
 /// Returns the side in a text.
+#[inline(always)]
 pub fn side(text: &[u8]) -> Result<Side, SessionRejectReason>
     ensures judged { IsJudged (kind.Number 1 2) text.now result }
     ensures means { IfOk result (λ side. IsNumber text.now (side_number side)) }

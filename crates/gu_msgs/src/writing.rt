@@ -97,6 +97,7 @@ fn push_application(draft: &mut Draft, message: &Application) -> Result<(), Allo
 }
 
 /// Appends the body of a message.
+#[inline(always)]
 fn push_body(draft: &mut Draft, body: &Body) -> Result<(), AllocError>
     ensures { OnOk result (draft.new ≡ draft.old ++ body_fields body.now) }
 {
@@ -117,6 +118,7 @@ fn push_body(draft: &mut Draft, body: &Body) -> Result<(), AllocError>
 }
 
 /// Appends the marks of a message that is sent again.
+#[inline(always)]
 fn push_marks(draft: &mut Draft, first: Option<Moment>) -> Result<(), AllocError>
     ensures { OnOk result ((marks : List TagValue) × MarksResend first marks × (draft.new ≡ draft.old ++ marks)) }
 {

@@ -41,11 +41,18 @@ answer_messages question number outcome = command_messages question number outco
 abbrev pub asked_by : ℕ → List Waiting → Option Waiting
 asked_by reference waiting = find (λ (one : Waiting). one.reference == reference) waiting
 
+-- the answer to the request with this reference; none if no question waits for it, or the outcome isn't of its kind
+abbrev pub messages_to : List Waiting → ℕ → Outcome → Option (List Body)
+messages_to waiting reference outcome =
+    option_and_then (λ (one : Waiting). answer_messages one.question one.reference outcome) (asked_by reference waiting)
+
+-- an answer is sent, if there is one
+abbrev pub answer_course : LoggedOn → ℕ → Option (List Body) → Course
+answer_course at reference messages = option_map_or (λ messages. Go (answers at reference messages)) messages Stay
+
 -- an answer of the right kind to a waiting question is sent, and any other gives nothing
 abbrev pub on_answer : LoggedOn → List Waiting → ℕ → Outcome → Course
-on_answer at waiting reference outcome =
-    option_map_or (λ messages. Go (answers at reference messages))
-    (option_and_then (λ (one : Waiting). answer_messages one.question one.reference outcome) (asked_by reference waiting)) Stay
+on_answer at waiting reference outcome = answer_course at reference (messages_to waiting reference outcome)
 
 -- a message is sent
 abbrev pub message_course : LoggedOn → Body → Course

@@ -2,14 +2,14 @@
 
 ghost use Rattle.std.specs.Prelude.{◌≡◌, IfOk};
 ghost use Rattle.std.specs.Option.{option_copied};
-ghost use Rattle.gu_session.specs.AnswerRules.{answer_messages, asked_by, command_messages, entered, on_answer};
+ghost use Rattle.gu_session.specs.AnswerRules.{answer_messages, asked_by, command_messages, entered, messages_to};
+ghost use Rattle.gu_session.specs.Given.{messages_in};
 ghost use Rattle.gu_session.specs.declared.input.Outcome.TheVariants.{Replied};
 
+use crate::answer::Answer;
 use crate::ask_ref::AskRef;
 use crate::input::{Failure, Outcome};
-use crate::logged_on::{LoggedOn, Waiting};
-use crate::messages::Messages;
-use crate::plan::{Course, Plan};
+use crate::logged_on::Waiting;
 use gu_msgs::{Question, Rejection, positions_answer};
 use gu_terms::Reply;
 use std::alloc::{AllocError, Global};
@@ -43,37 +43,35 @@ fn entered(question: &Question, outcome: &Outcome) -> Option<Option<Rejection>>
 }
 
 /// Returns the answer to the command in the message with this number.
-fn command_messages(
-    alloc: Global,
-    question: &Question,
-    number: u64,
-    outcome: &Outcome,
-) -> Result<Option<Messages<'static>>, AllocError>
-    ensures { IfOk result (λ messages. messages ≡ command_messages question.now number outcome.now) }
+fn command_answer(question: &Question, number: u64, outcome: &Outcome) -> Answer
+    ensures { messages_in result ≡ command_messages question.now number outcome.now }
 {
     let Some(why) = entered(question, outcome) else {
-        return Ok(None);
+        return Answer::Nothing;
     };
-    Ok(Some(Messages::of_option(alloc, question.answer(number, why))?))
+    match question.answer(number, why) {
+        Some(body) => Answer::One(body),
+        None => Answer::Silence,
+    }
 }
 
 /// Returns the answer to the request in the message with this number, if the outcome is of its kind.
-fn answer_messages(
+fn answer_in(
     alloc: Global,
     question: &Question,
     number: u64,
     outcome: &Outcome,
-) -> Result<Option<Messages<'static>>, AllocError>
-    ensures { IfOk result (λ messages. messages ≡ answer_messages question.now number outcome.now) }
+) -> Result<Answer, AllocError>
+    ensures { IfOk result (λ answer. messages_in answer ≡ answer_messages question.now number outcome.now) }
 {
     let Question::Positions(request) = question else {
-        return command_messages(alloc, question, number, outcome);
+        return Ok(command_answer(question, number, outcome));
     };
     match outcome {
         Outcome::Positions(rows) => {
-            Ok(Some(Messages::of(positions_answer(alloc, request, rows)?)))
+            Ok(Answer::Positions(positions_answer(alloc, request, rows)?))
         }
-        _ => Ok(None),
+        _ => Ok(Answer::Nothing),
     }
 }
 
@@ -89,21 +87,17 @@ fn asked_by(reference: AskRef, waiting: &[Waiting]) -> Option<&Waiting>
     None
 }
 
-/// Returns what the session does on an answer.
-pub fn on_answer(
+/// Returns the messages that answer the request with this reference, given its outcome.
+pub fn answer_to(
     alloc: Global,
-    at: &LoggedOn,
     waiting: &[Waiting],
     reference: AskRef,
     outcome: &Outcome,
-) -> Result<Course<'static>, AllocError>
-    ensures { IfOk result (λ course. course ≡ on_answer at.now waiting.now reference outcome.now) }
+) -> Result<Answer, AllocError>
+    ensures { IfOk result (λ answer. messages_in answer ≡ messages_to waiting.now reference outcome.now) }
 {
     let Some(one) = asked_by(reference, waiting) else {
-        return Ok(Course::Stay);
+        return Ok(Answer::Nothing);
     };
-    match answer_messages(alloc, &one.question, one.reference.get(), outcome)? {
-        Some(messages) => Ok(Course::Go(Plan::answers(at, reference, messages))),
-        None => Ok(Course::Stay),
-    }
+    answer_in(alloc, &one.question, one.reference.get(), outcome)
 }

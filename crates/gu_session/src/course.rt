@@ -2,25 +2,25 @@
 
 ghost use Rattle.std.specs.Prelude.{◌≡◌, IfOk};
 ghost use Rattle.std.specs.Option.{option_map_or};
-ghost use Rattle.gu_session.specs.AnswerRules.{message_course, on_answer};
+ghost use Rattle.gu_session.specs.AnswerRules.{answer_course, message_course};
+ghost use Rattle.gu_session.specs.Given.{messages_in};
 ghost use Rattle.gu_session.specs.Hearing.{Hears};
 ghost use Rattle.gu_session.specs.Steps.{IsFrameCourse, at_frame, frame_course, on_close};
 ghost use Rattle.gu_session.specs.TimeRules.{on_tick};
 ghost use Rattle.gu_session.specs.declared.plan.Course.TheVariants.{Leave, Stay};
 ghost use Rattle.gu_session.specs.declared.logged_on.LoggedOn.{LoggedOn as LoggedOnOf};
 
-use crate::answers::on_answer;
+use crate::answer::Answer;
 use crate::ask_ref::AskRef;
 use crate::heard::Heard;
-use crate::hearing::hear;
+use crate::hearing::Reader;
 use crate::heartbeat::on_tick;
-use crate::input::Outcome;
-use crate::logged_on::{LoggedOn, Waiting};
+use crate::logged_on::LoggedOn;
 use crate::logon::logon_course;
 use crate::messages::Messages;
 use crate::plan::{Course, Plan};
 use crate::sequence::frame_plan;
-use gu_fix::{Frame, into_fields};
+use gu_fix::Frame;
 use gu_msgs::LogoutReason;
 use gu_msgs::outbound::Body;
 use gu_terms::{FirmId, Moment};
@@ -56,7 +56,7 @@ fn heard_course(
 
 /// Returns what the session does on a frame.
 pub fn frame_course(
-    alloc: Global,
+    reader: &mut Reader,
     firms: &[FirmId],
     at: &Option<LoggedOn>,
     frame: Frame,
@@ -64,9 +64,8 @@ pub fn frame_course(
 ) -> Result<Course<'static>, AllocError>
     ensures { IfOk result (IsFrameCourse firms.now at.now frame now) }
 {
-    let (fields, fault) = into_fields(alloc, frame)?;
-    let heard = hear(alloc, &fields, fault)?;
-    heard_course(alloc, firms, at, heard, now)
+    let heard = reader.hear(frame)?;
+    heard_course(reader.alloc(), firms, at, heard, now)
 }
 
 /// Returns what the session does to send this message.
@@ -79,19 +78,13 @@ pub fn message_course<'a>(at: &Option<LoggedOn>, body: &'a Body) -> Course<'a>
     }
 }
 
-/// Returns what the session does on an answer.
-pub fn answer_course(
-    alloc: Global,
-    at: &Option<LoggedOn>,
-    waiting: &[Waiting],
-    reference: AskRef,
-    outcome: &Outcome,
-) -> Result<Course<'static>, AllocError>
-    ensures { IfOk result (λ course. course ≡ option_map_or (λ (at : LoggedOnOf). on_answer at waiting.now reference outcome.now) at.now Stay) }
+/// Returns what the session does to answer the request with this reference.
+pub fn answer_course<'a>(at: &Option<LoggedOn>, reference: AskRef, answer: &'a Answer) -> Course<'a>
+    ensures { result ≡ option_map_or (λ (at : LoggedOnOf). answer_course at reference (messages_in answer.now)) at.now Stay }
 {
-    match at {
-        Some(at) => on_answer(alloc, at, waiting, reference, outcome),
-        None => Ok(Course::Stay),
+    match (at, answer.messages()) {
+        (Some(at), Some(messages)) => Course::Go(Plan::answers(at, reference, messages)),
+        _ => Course::Stay,
     }
 }
 

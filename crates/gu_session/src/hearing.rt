@@ -4,11 +4,11 @@ ghost use Rattle.std.specs.Prelude.{◌≡◌, codes, IfOk, List, option_and_the
 ghost use Rattle.std.specs.Option.{option_map};
 ghost use Rattle.gu_fix.specs.TagValue.{TagValue};
 ghost use Rattle.gu_msgs.specs.StandardHeader.{IsHeaderIn};
-ghost use Rattle.gu_session.specs.Hearing.{IsContent, IsFirmIn, IsHeading, IsNumberIn, code_in, is_given};
+ghost use Rattle.gu_session.specs.Hearing.{IsContent, IsFirmIn, IsHeading, IsNumberIn, Hears, code_in, is_given};
 
 use crate::heard::{Heading, Heard};
 use crate::seq_num::SeqNum;
-use gu_fix::{FieldFault, Fields};
+use gu_fix::{FieldFault, Fields, Frame, fields_over, into_fields};
 use gu_msgs::{
     Fault, HeaderRef, ReadMessage, SessionRejectReason, TypeCode, header_in, is_numeral, number_of,
     read_with_header,
@@ -104,7 +104,8 @@ fn malformed(fields: &Fields, fault: FieldFault) -> Heard
 }
 
 /// Returns the content of these fields: their header, and their message or first fault; a malformed field comes first.
-pub fn hear(alloc: Global, fields: &Fields, fault: Option<FieldFault>) -> Result<Heard, AllocError>
+#[inline(always)]
+fn hear(alloc: Global, fields: &Fields, fault: Option<FieldFault>) -> Result<Heard, AllocError>
     ensures heading { IfOk result (λ heard. IsHeading fields.now heard.heading) }
     ensures content { IfOk result (λ heard. IsContent fault fields.now heard.content) }
 {
@@ -114,4 +115,55 @@ pub fn hear(alloc: Global, fields: &Fields, fault: Option<FieldFault>) -> Result
     let ReadMessage { content, header } = read_with_header(alloc, fields)?;
     let heading = heading_of(&header);
     Ok(Heard { heading, content })
+}
+
+/// The most bytes in a message whose fields are kept, so that an idle session keeps little.
+const MOST_KEPT: usize = 1_024;
+
+/// A reader of frames, which reuses the memory for their fields.
+pub struct Reader {
+    alloc: Global,
+    fields: Fields,
+}
+
+impl Drop for Reader {
+    fn drop(self) {
+        let Reader { alloc: _, fields } = self;
+        drop(fields);
+    }
+}
+
+impl Reader {
+    /// Returns a reader without capacity.
+    pub fn new(alloc: Global) -> Self {
+        Reader {
+            alloc,
+            fields: Fields::new(alloc),
+        }
+    }
+
+    /// Returns its allocator.
+    pub fn alloc(&self) -> Global {
+        self.alloc
+    }
+
+    /// Returns the content of a long frame, whose fields aren't kept.
+    #[inline(never)]
+    fn hear_long(&self, frame: Frame) -> Result<Heard, AllocError>
+        ensures { IfOk result (Hears frame) }
+    {
+        let (fields, fault) = into_fields(self.alloc, frame)?;
+        hear(self.alloc, &fields, fault)
+    }
+
+    /// Returns the content of a frame.
+    pub fn hear(&mut self, frame: Frame) -> Result<Heard, AllocError>
+        ensures { IfOk result (Hears frame) }
+    {
+        if frame.bytes().len() > MOST_KEPT {
+            return self.hear_long(frame);
+        }
+        let fault = fields_over(self.alloc, &mut self.fields, frame)?;
+        hear(self.alloc, &self.fields, fault)
+    }
 }

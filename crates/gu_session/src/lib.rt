@@ -1,6 +1,7 @@
 //! A firm's session with the house: what it receives, what it sends, and what it hands out.
 #![tactic(auto)]
 
+mod answer;
 mod answers;
 mod ask_ref;
 mod carrying;

@@ -1,7 +1,6 @@
 //! Lists of messages.
 
 ghost use Rattle.std.specs.Prelude.{◌≡◌, ◌<◌, ◌^◌, ◌∷◌, [], length, slice_get, Some, IfOk};
-ghost use Rattle.std.specs.Option.{option_to_list};
 
 use gu_msgs::outbound::Body;
 use std::alloc::{AllocError, Global};
@@ -51,25 +50,6 @@ impl<'a> Messages<'a> {
         Ok(Messages {
             bodies: CowSlice::Owned(bodies),
         })
-    }
-
-    /// Returns the message, owned, if there is one.
-    pub fn of_option(alloc: Global, body: Option<Body>) -> Result<Self, AllocError>
-        ensures { IfOk result (λ messages. messages ≡ option_to_list body) }
-    {
-        match body {
-            Some(body) => Messages::one(alloc, body),
-            None => Ok(Messages::none()),
-        }
-    }
-
-    /// Returns these messages, owned.
-    pub fn of(bodies: Vec<Body>) -> Self
-        ensures { result ≡ bodies.items }
-    {
-        Messages {
-            bodies: CowSlice::Owned(bodies),
-        }
     }
 
     /// Returns two owned messages.

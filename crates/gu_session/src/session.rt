@@ -12,9 +12,11 @@ ghost use Rattle.gu_session.specs.Steps.{StepsWith};
 ghost use Rattle.gu_session.specs.declared.plan.Course.TheVariants.{Go};
 ghost use Rattle.gu_session.specs.declared.logged_on.LoggedOn.{LoggedOn as LoggedOnOf};
 
+use crate::answers::answer_to;
 use crate::ask_ref::AskRef;
 use crate::carrying::is_over;
 use crate::course::{answer_course, close_course, frame_course, message_course, tick_course};
+use crate::hearing::Reader;
 use crate::heartbeat::due_at;
 use crate::input::{Input, Outcome};
 use crate::output::{Output, Taken};
@@ -31,6 +33,7 @@ use std::marker::Model;
 pub struct Session {
     alloc: Global,
     state: State,
+    reader: Reader,
     pen: Pen,
 }
 
@@ -39,9 +42,11 @@ impl Drop for Session {
         let Session {
             alloc: _,
             state,
+            reader,
             pen,
         } = self;
         drop(state);
+        drop(reader);
         drop(pen);
     }
 }
@@ -66,6 +71,7 @@ impl Session {
         Session {
             alloc,
             state: State::new(alloc, firms),
+            reader: Reader::new(alloc),
             pen: Pen::new(alloc),
         }
     }
@@ -156,7 +162,8 @@ impl Session {
         }
         match input {
             Input::Frame(frame) => {
-                let course = frame_course(self.alloc, &state.firms, &state.at, frame, now)?;
+                let reader = &mut self.reader;
+                let course = frame_course(reader, &state.firms, &state.at, frame, now)?;
                 self.perform(course, now)
             }
             Input::Notice(notice) => {
@@ -165,8 +172,8 @@ impl Session {
                 self.perform(course, now)
             }
             Input::Answer(reference, outcome) => {
-                let waiting = &state.waiting;
-                let course = answer_course(self.alloc, &state.at, waiting, reference, &outcome)?;
+                let answer = answer_to(self.alloc, &state.waiting, reference, &outcome)?;
+                let course = answer_course(&state.at, reference, &answer);
                 self.perform(course, now)
             }
             Input::Tick => {
@@ -203,6 +210,7 @@ impl Session {
     }
 
     /// Carries out a course, and appends the bytes to send.
+    #[inline(always)]
     fn follow(
         &mut self,
         course: Course<'_>,
@@ -236,7 +244,7 @@ impl Session {
         if state.is_closed {
             return Ok(Taken::nothing());
         }
-        let course = frame_course(self.alloc, &state.firms, &state.at, frame, now)?;
+        let course = frame_course(&mut self.reader, &state.firms, &state.at, frame, now)?;
         self.follow(course, now, output)
     }
 
@@ -276,7 +284,8 @@ impl Session {
         if state.is_closed {
             return Ok(Taken::nothing());
         }
-        let course = answer_course(self.alloc, &state.at, &state.waiting, reference, outcome)?;
+        let answer = answer_to(self.alloc, &state.waiting, reference, outcome)?;
+        let course = answer_course(&state.at, reference, &answer);
         self.follow(course, now, output)
     }
 
