@@ -103,7 +103,7 @@ pub accepted-touches : (reference : Tables) (history : List Entry) (totals : Tot
 accepted-touches reference history totals command (Opens opening) group offers is = rw is refl
 accepted-touches reference history totals command (SetsLimit limit) group offers is = rw is refl
 accepted-touches reference history totals command (Reports report today waiting) group offers is = rw is.is refl
-accepted-touches reference history totals command (GivesUp give_up at first) group offers is = rw is.is refl
+accepted-touches reference history totals command (GivesUp give_up at first report) group offers is = rw is.is refl
 accepted-touches reference history totals command (Claims claimed) group offers is = rw (is.is, is.found.group_is) (of-offer history totals group is.found.offer claimed.number offers is.found.seen.shown)
 accepted-touches reference history totals command (Refuses number at lots) group offers is = rw is.is (of-group history totals group at number offers is.group_is)
 accepted-touches reference history totals command (Reverses reversed) group offers is = rw (is.is, is.found.group_is) (of-offer history totals group is.found.offer reversed.number offers is.found.seen.shown)

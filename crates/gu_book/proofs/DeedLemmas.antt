@@ -1,22 +1,11 @@
--- Effects that may be applied, and reports as they are added.
-use Rattle.gu_book.proofs.Words.{◌≡◌, ℕ, ◌<◌, true, List, Option, Some, None, Result, Ok, length, is_some, unwrap_or, refl, sym, ap, ◌∙◌, subst, AllByRecursion, option_map, Command, Entry, Offer, Refusal, Accepted, Report, Tables, report_by, Row, row_at, answer, answer_in, standing_of, report_after, is-accepted, in_order, all-at, MayDo, IsKept, state_in, Deed, HaveReports, IsDeedOf, done_by, reply_by, Totals}
+-- Effects that may be applied.
+use Rattle.gu_book.proofs.Words.{◌≡◌, ◌<◌, true, List, Option, Some, None, Result, Ok, length, is_some, refl, sym, ap, ◌∙◌, subst, option_map, Command, Entry, Refusal, Accepted, Tables, answer, answer_in, is-accepted, MayDo, IsKept, state_in, Deed, IsDeedOf, done_by, reply_by, Totals}
 use Rattle.gu_book.proofs.Accepting.{answer_is}
 
--- the totals have the reports of their offers
-pub have_reports : (reference : Tables) (history : List Entry) (totals : Totals) → IsKept reference history totals → HaveReports totals
-have_reports reference history totals kept =
-    subst (λ (rows : List Row). AllByRecursion (λ (row : Row). is_some (report_after totals.trades row) ≡ true) rows) (sym kept.beside.offers)
-    (subst (λ (reports : List Report). AllByRecursion (λ (row : Row). is_some (report_after reports row) ≡ true) (standing_of history)) (sym kept.beside.reports) (in_order history kept.orderly).found)
-
--- so an offer that is found has its own
-pub has-report : (totals : Totals) (n : ℕ) (offer : Offer) → HaveReports totals → Some offer ≡ option_map (λ (row : Row). row.offer) (row_at totals.offers n) → is_some (report_by totals.trades offer.firm offer.report) ≡ true
-has-report totals n offer all shown = by (row_at totals.offers n) refl shown
-  where
-    by : (found : Option Row) → row_at totals.offers n ≡ found → Some offer ≡ option_map (λ (row : Row). row.offer) found → is_some (report_by totals.trades offer.firm offer.report) ≡ true
-    by None at e = cc
-    by (Some row) at e =
-        let same : offer ≡ row.offer = ap (λ (o : Option Offer). unwrap_or o offer) e in
-        subst (λ (o : Offer). is_some (report_by totals.trades o.firm o.report) ≡ true) (sym same) (all-at (λ (r : Row). is_some (report_after totals.trades r) ≡ true) totals.offers n row at all)
+-- something is found if anything of it is
+pub found-some : {X Y : Type 0} (f : X → Y) (o : Option X) (y : Y) → Some y ≡ option_map f o → is_some o ≡ true
+found-some f None y e = cc
+found-some f (Some x) y e = refl
 
 -- the effect decided for a command of one kind may be applied; it gives the command's answer, and is its effect
 pub may-do : {D : Type 0} → (does : D → Deed) → (reference : Tables) (history : List Entry) (totals : Totals) (command asked : Command) (decided : Result D Refusal) (deed : D) → command ≡ asked

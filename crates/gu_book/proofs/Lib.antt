@@ -8,6 +8,8 @@ pub mod Counterparts
 pub mod CurrentLemmas
 pub mod CurrentViews
 pub mod DeedLemmas
+pub mod GivenUpLemmas
+pub mod HeldLots
 pub mod InformingLemmas
 pub mod Interest
 pub mod KeptDays

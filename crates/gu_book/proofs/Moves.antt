@@ -1,5 +1,5 @@
 -- The takes of a sweep, moved one after another.
-use Rattle.gu_book.proofs.Words.{◌≡◌, ℕ, suc, ◌+◌, ◌-◌, ◌<◌, ◌≤◌, ◌++◌, false, List, [], ◌∷◌, length, map, drop, take, get_or, slice_get, slice_index_or, Option, Some, None, IfSome, refl, sym, ap, ◌∙◌, arith, append-nil, append_assoc, subst, All, AllByRecursion, option_map, option_map_or, drop_more, map-append, take_more, All-from_recursion, sum_by-cons, none-some, along2, every, same_group-own, AccountId, Entry, SweepEntry, Group, LimitKey, Offer, Report, Take, Tables, Charges, MayCharge, lots_under, GroupLimit, number_in, room_in, report_by, terms_of, Terms, changed, taken, Row, left_in, left_of, row_at, KeepsNumbers, lots_at, lots_in, offer_of, ViewOffer as ShownOffer, path_after, standing_of, part, parts, report_after, path_after-once, IsThere, open-there, row_at-other, in_order, part-takes, IsKept, IsFound, HoldsMoved, SameAnswers, UsesMore, AreReady, ClaimsLots, HasRows, IsHeld, IsReady, IsShownOpen, MayClaim, MayMove, MayTake, MovesAll, MovesOne, lots_used, taken_by, Totals, Transfer}
+use Rattle.gu_book.proofs.Words.{◌≡◌, ℕ, suc, ◌+◌, ◌-◌, ◌<◌, ◌≤◌, ◌++◌, false, List, [], ◌∷◌, length, map, drop, take, get_or, slice_get, slice_index_or, Option, Some, None, IfSome, refl, sym, ap, ◌∙◌, arith, append-nil, append_assoc, subst, All, AllByRecursion, option_map, option_map_or, drop_more, map-append, take_more, All-from_recursion, sum_by-cons, none-some, along2, every, same_group-own, AccountId, Entry, SweepEntry, Group, LimitKey, Offer, Report, Take, Tables, Charges, MayCharge, lots_under, GroupLimit, number_in, room_in, report_by, terms_of, Terms, changed, taken, Row, left_in, left_of, row_at, KeepsNumbers, lots_at, lots_in, offer_of, ViewOffer as ShownOffer, path_after, standing_of, part, parts, path_after-once, IsThere, open-there, row_at-other, in_order, part-takes, IsKept, IsFound, HoldsMoved, SameAnswers, UsesMore, AreReady, ClaimsLots, HasRows, IsHeld, IsReady, IsShownOpen, MayClaim, MayMove, MayTake, MovesAll, MovesOne, lots_used, taken_by, Totals, Transfer}
 use Rattle.gu_limits.specs.Limits.{is_of}
 use Rattle.gu_limits.proofs.LimitPlaces.{position-map}
 use Rattle.gu_rules.proofs.OrderedReports.{all-push}
@@ -28,35 +28,26 @@ found-there reference history totals n kept open_ =
 -- ---- an offer that a view shows
 
 module _ (reference : Tables) (totals : Totals) (offers : List ShownOffer) (one_take : Take) (open_ : IsShownOpen reference totals offers one_take) where
-  there-now : (row : Row) × (report : Report) × (row_at totals.offers one_take.offer ≡ Some row) × (report_after totals.trades row ≡ Some report)
+  there-now : (row : Row) × (row_at totals.offers one_take.offer ≡ Some row)
   there-now =
       let f = found-there reference open_.history totals one_take.offer open_.kept open_.still_open in
-      let b = open_.kept.beside in
-      (f.0, f.1, ap (λ (rs : List Row). row_at rs one_take.offer) b.offers ∙ f.2.at, ap (λ (rs : List Report). report_after rs f.0) b.reports ∙ f.2.behind)
+      (f.0, ap (λ (rs : List Row). row_at rs one_take.offer) open_.kept.beside.offers ∙ f.2.at)
 
   -- it is found
   pub is-there : None ≡ option_map (λ (r : Row). r.offer) (row_at totals.offers one_take.offer) → ⊥
-  is-there none = none-some there-now.0.offer (none ∙ ap (λ (o : Option Row). option_map (λ (r : Row). r.offer) o) there-now.2)
+  is-there none = none-some there-now.0.offer (none ∙ ap (λ (o : Option Row). option_map (λ (r : Row). r.offer) o) there-now.1)
 
   -- and so is the view's
   pub is-shown : None ≡ offer_of offers one_take.offer → ⊥
   is-shown none =
-      let has = subst (λ (found : Option Row). IfSome found (λ (row : Row). option_map (λ (o : ShownOffer). o.path) (offer_of offers one_take.offer) ≡ Some (path_after reference row.offer))) there-now.2 open_.path in
+      let has = subst (λ (found : Option Row). IfSome found (λ (row : Row). option_map (λ (o : ShownOffer). o.path) (offer_of offers one_take.offer) ≡ Some (path_after reference row.offer))) there-now.1 open_.path in
       none-some (path_after reference there-now.0.offer) (ap (option_map (λ (o : ShownOffer). o.path)) none ∙ has)
 
   module _ (offer : Offer) (seen : Some offer ≡ option_map (λ (r : Row). r.offer) (row_at totals.offers one_take.offer)) where
     in-row : (row : Row) × (row_at totals.offers one_take.offer ≡ Some row) × (row.offer ≡ offer)
     in-row = seen-row totals one_take.offer offer seen
 
-    -- its report is found
-    pub is-reported : None ≡ option_map terms_of (report_by totals.trades offer.firm offer.report) → ⊥
-    is-reported none =
-        let rows : Some in-row.0 ≡ Some there-now.0 = sym in-row.1 ∙ there-now.2 in
-        let row : in-row.0 ≡ there-now.0 = cc in
-        let same : offer ≡ there-now.0.offer = sym in-row.2 ∙ ap (λ (r : Row). r.offer) row in
-        none-some (terms_of there-now.1) (none ∙ ap (option_map terms_of) ((λ i. report_by totals.trades (same i).firm (same i).report) ∙ there-now.3))
-
-    -- and the view has the path that applies to it
+    -- the view has the path that applies to it
     pub shown-path : (shown : ShownOffer) → Some shown ≡ offer_of offers one_take.offer → shown.path ≡ path_after reference offer
     shown-path shown found =
         let has =

@@ -14,7 +14,7 @@ pub use Rattle.gu_book.specs.Beside.{IsBeside, IsKept, IsKeptLegal, IsKeptWhole,
 pub use Rattle.gu_book.specs.Commits.{IsCurrent, IsForeign, sweep_of}
 pub use Rattle.gu_book.specs.Counted.{AreVersions, IsCountAt, is_touched, own_in, version_in}
 pub use Rattle.gu_book.specs.Current.{HasRooms, ShowsAll}
-pub use Rattle.gu_book.specs.Deeds.{Claims, Deed, GivesUp, HaveReports, IsDeedOf, IsFound, MakesReport, MovesLots, Opens, Refuses, Reports, Reverses, SetsLimit, claim_of, done_by, reply_by, reversal_of, touched_by}
+pub use Rattle.gu_book.specs.Deeds.{Claims, Deed, GivesUp, IsDeedOf, IsFound, MakesReport, MovesLots, Opens, Refuses, Reports, Reverses, SetsLimit, claim_of, done_by, reply_by, reversal_of, touched_by}
 pub use Rattle.gu_book.specs.Effects.{HoldsMore, HoldsMoved, SameAnswers, SameEntries, UsesLess, UsesMore, UsesNothing, lots_of_reports, made_a_trade}
 pub use Rattle.gu_book.specs.Informing.{HoldsInformed}
 pub use Rattle.gu_book.specs.Moving.{AreReady, ClaimsLots, HasRows, IsHeld, IsReady, IsShownOpen, MayClaim, MayMove, MayTake, MovesAll, MovesOne, lots_used, taken_by}
@@ -28,8 +28,8 @@ pub use Rattle.gu_limits.specs.Limits.{AreLimitsOf, GroupLimit, has_limit, limit
 pub use Rattle.gu_notices.proofs.RecipientLemmas.{few_sides, grows-self, recipients-at, recipients-later, recipients-longer}
 pub use Rattle.gu_notices.specs.Recipients.{AreRecipients, Covers, Grows, Holds}
 pub use Rattle.gu_notices.specs.declared.firm_filter.FirmFilter.{FirmFilter}
-pub use Rattle.gu_offers.specs.Changes.{changed, closed, next_day, reversed, taken, with_lines}
-pub use Rattle.gu_offers.specs.Rows.{IsSound, Row, counted_under, left_in, left_of, open_numbers, open_offer_at, row_at, today_in}
+pub use Rattle.gu_offers.specs.Changes.{changed, closed, next_day, offered, reversed, taken, with_lines}
+pub use Rattle.gu_offers.specs.Rows.{IsSound, Row, counted_of, counted_under, is_of_report, left_in, left_of, open_numbers, open_offer_at, row_at, today_in}
 pub use Rattle.gu_positions.specs.Changes.{KeepsLots, KeepsNumbers, lots_at}
 pub use Rattle.gu_positions.specs.Rows.{is_of, lots_in, lots_on, open_interest_in, same_row}
 pub use Rattle.gu_ref.specs.Reference.{account_row, agreement_between, is_group, is_instrument}

@@ -1,6 +1,5 @@
 -- Machinery: an accepted command's effect, with everything that was looked up to decide it.
-use Rattle.std.specs.Prelude.{◌≡◌, ℕ, true, length, Option, Some, Result, Ok, Err, is_some}
-use Rattle.std.specs.List.{AllByRecursion}
+use Rattle.std.specs.Prelude.{◌≡◌, ℕ, length, Option, Some, Result, Ok, Err, is_some}
 use Rattle.std.specs.Option.{option_map}
 use Rattle.gu_terms.specs.declared.alloc_reject.AllocReject.{AllocReject}
 use Rattle.gu_terms.specs.declared.command.Command.{Command}
@@ -27,8 +26,8 @@ use Rattle.gu_trades.specs.declared.terms.Terms.{Terms}
 use Rattle.gu_offers.specs.Rows.{Row, left_in, row_at, today_in}
 use Rattle.gu_rules.specs.Answer.{given_up}
 use Rattle.gu_rules.specs.Limits.{path_after}
-use Rattle.gu_rules.specs.Positions.{report_after}
 use Rattle.gu_book.specs.Beside.{state_in, waiting_of}
+use Rattle.gu_book.specs.GivenUp.{names_at}
 use Rattle.gu_book.specs.declared.deed.Moved.{Moved}
 use Rattle.gu_book.specs.declared.totals.Totals.{Totals}
 use Rattle.gu_book.specs.declared.versions.Touched.{Touched}
@@ -39,7 +38,7 @@ pub data Deed : Type 0 where
   Opens : (opening : OpenDay) → Deed
   SetsLimit : (limit : SetLimit) → Deed
   Reports : (report : ReportSide) (today : Day) (waiting : Option Terms) → Deed
-  GivesUp : (give_up : GiveUp) (group : Group) (first : ℕ) → Deed
+  GivesUp : (give_up : GiveUp) (group : Group) (first report : ℕ) → Deed
   Claims : (claimed : Moved) → Deed
   Refuses : (number : ℕ) (group : Group) (lots : ℕ) → Deed
   Reverses : (reversed : Moved) → Deed
@@ -49,7 +48,7 @@ abbrev pub done_by : Deed → Done
 done_by (Opens opening) = Opened
 done_by (SetsLimit limit) = LimitSet
 done_by (Reports report today waiting) = Reported (is_some waiting)
-done_by (GivesUp give_up group first) = Offered group first (length give_up.lines)
+done_by (GivesUp give_up group first report) = Offered group first (length give_up.lines)
 done_by (Claims claimed) = Claimed claimed.lots
 done_by (Refuses number group lots) = Refused lots
 done_by (Reverses reversed) = Reversed reversed.lots
@@ -59,7 +58,7 @@ abbrev pub touched_by : Deed → Touched
 touched_by (Opens opening) = Every
 touched_by (SetsLimit limit) = Only limit.group
 touched_by (Reports report today waiting) = Nothing
-touched_by (GivesUp give_up group first) = Only group
+touched_by (GivesUp give_up group first report) = Only group
 touched_by (Claims claimed) = Only claimed.group
 touched_by (Refuses number group lots) = Only group
 touched_by (Reverses reversed) = Only reversed.group
@@ -68,10 +67,6 @@ touched_by (Reverses reversed) = Only reversed.group
 abbrev pub reply_by : {D : Type 0} → (D → Deed) → Result D Refusal → Reply
 reply_by does (Ok deed) = Accepted (done_by (does deed))
 reply_by does (Err why) = Denied why
-
--- each offer gives up a report that was accepted
-abbrev pub HaveReports : Totals → Type 0
-HaveReports totals = AllByRecursion (λ (row : Row). is_some (report_after totals.trades row) ≡ true) totals.offers
 
 -- the offer with this number is this one, and its report has these terms
 pub record AreFound (totals : Totals) (n : ℕ) (offer : Offer) (report : Terms) : Type 0 where
@@ -99,10 +94,11 @@ pub record MakesReport (totals : Totals) (command : Command) (report : ReportSid
   pub opened : totals.today ≡ Some today
   pub met : waiting ≡ waiting_of (counterpart_of (with_match report.match_id totals.trades) (terms_of (made_on today report)))
 
--- a command gives these lines up, for a report in this group
-pub record GivesLines (reference : Tables) (totals : Totals) (command : Command) (give_up : GiveUp) (group : Group) : Type 0 where
+-- a command gives these lines up, for the report with this number, in this group
+pub record GivesLines (reference : Tables) (totals : Totals) (command : Command) (give_up : GiveUp) (group : Group) (report : ℕ) : Type 0 where
   pub is : command ≡ asked.GiveUp give_up
   pub group_is : option_map (λ g. g.1) (given_up reference (state_in totals) give_up.firm give_up.report) ≡ Some group
+  pub report_is : names_at totals.trades report ≡ Some (give_up.firm, give_up.report)
 
 -- a command refuses an offer in this group
 pub record RefusesOffer (totals : Totals) (command : Command) (number : ℕ) (group : Group) : Type 0 where
@@ -123,7 +119,7 @@ abbrev pub IsDeedOf : Tables → Totals → Command → Deed → Type 0
 IsDeedOf reference totals command (Opens opening) = command ≡ asked.OpenDay opening
 IsDeedOf reference totals command (SetsLimit limit) = command ≡ asked.SetLimit limit
 IsDeedOf reference totals command (Reports report today waiting) = MakesReport totals command report today waiting
-IsDeedOf reference totals command (GivesUp give_up group first) = GivesLines reference totals command give_up group
+IsDeedOf reference totals command (GivesUp give_up group first report) = GivesLines reference totals command give_up group report
 IsDeedOf reference totals command (Claims claimed) = MovesLots reference totals command claim_of claimed (left_in totals.offers claimed.number)
 IsDeedOf reference totals command (Refuses number group lots) = RefusesOffer totals command number group
 IsDeedOf reference totals command (Reverses reversed) = MovesLots reference totals command reversal_of reversed (today_in totals.offers reversed.number)

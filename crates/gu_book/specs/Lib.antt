@@ -5,6 +5,7 @@ pub mod Counted
 pub mod Current
 pub mod Deeds
 pub mod Effects
+pub mod GivenUp
 pub mod Informing
 pub mod Moving
 pub mod Questions

@@ -20,7 +20,8 @@ ghost use Rattle.gu_rules.specs.Answer.{answer_in, first_standing, has_unknown_a
 ghost use Rattle.gu_rules.specs.Limits.{path_after};
 ghost use Rattle.gu_offers.specs.Rows.{Row, left_in, row_at, today_in};
 ghost use Rattle.gu_book.specs.Beside.{answer_to_match, group_named_by, some_lots, standing_given_up, state_in, waiting_of};
-ghost use Rattle.gu_book.specs.Deeds.{HaveReports, IsDeedOf, reply_by};
+ghost use Rattle.gu_book.specs.Deeds.{IsDeedOf, reply_by};
+ghost use Rattle.gu_book.specs.GivenUp.{names_at};
 
 use crate::deciding::Decide;
 use crate::deed::{Closing, Moved, NewClaim, NewOffers, NewReport, Reversal};
@@ -31,7 +32,7 @@ use gu_terms::{
     Claim, Day, FirmId, GiveUp, Group, Id, LimitKey, Line, Lots, MOST_LIMIT, MOST_OPEN_OFFERS,
     Offer, OfferNo, OpenDay, Path, Refusal, Refuse, ReportSide, Reverse, SetLimit,
 };
-use gu_trades::{Counterpart, Standing, Terms};
+use gu_trades::{Counterpart, ReportNo, Standing, Terms};
 
 /// Returns whether a day is after the open one.
 fn is_later(today: Option<Day>, day: Day) -> bool
@@ -151,18 +152,32 @@ pub fn group_of(reference: &Reference, terms: &Terms) -> Option<Group>
     Some(instrument.group)
 }
 
-/// Returns the firm's report with this id, as it is now, and the product group of its instrument.
+/// A report that is given up, as it is now.
+#[derive(Clone, Copy)]
+struct GivenReport {
+    number: ReportNo,
+    standing: Standing,
+    /// The product group of its instrument.
+    group: Group,
+}
+
+/// Returns the firm's report with this id, as it is now.
 fn given_up(
     reference: &Reference,
     totals: &Totals,
     firm: &FirmId,
     report: &Id,
-) -> Option<(Standing, Group)>
-    ensures { result ≡ standing_given_up reference.now totals.now firm.now report.now }
+) -> Option<GivenReport>
+    ensures standing { option_map (λ g. (g.standing, g.group)) result ≡ standing_given_up reference.now totals.now firm.now report.now }
+    ensures number { IfSome result (λ g. names_at totals.now.trades g.number ≡ Some (firm.now, report.now)) }
 {
-    let standing = totals.trades.standing(firm, report)?;
+    let (number, standing) = totals.trades.standing(firm, report)?;
     let group = group_of(reference, &standing.terms)?;
-    Some((standing, group))
+    Some(GivenReport {
+        number,
+        standing,
+        group,
+    })
 }
 
 /// Returns whether the account in one of the lines isn't in the reference.
@@ -203,24 +218,24 @@ fn lacks_agreement(reference: &Reference, firm: &FirmId, lines: &[Line]) -> bool
 fn refusal_of_lines(
     totals: &Totals,
     asked: &GiveUp,
-    given: &(Standing, Group),
+    given: &GivenReport,
     lacks: bool,
 ) -> Option<Refusal>
+    requires { names_at totals.now.trades given.now.number ≡ Some (asked.now.firm, asked.now.report) }
     ensures { (reference : Tables) → lacks ≡ lacks_agreement reference asked.now.firm asked.now.lines
-        → result ≡ refusal_in (tests_of_lines reference totals.now.offers asked.now.firm asked.now.report given.now.0 given.now.1 asked.now.lines) }
+        → result ≡ refusal_in (tests_of_lines reference totals.now.offers asked.now.firm asked.now.report given.now.standing given.now.group asked.now.lines) }
 {
-    let (standing, group) = given;
-    if !standing.is_of_trade {
+    if !given.standing.is_of_trade {
         return Some(Refusal::NotMatched);
     }
     if lacks {
         return Some(Refusal::NoAgreement);
     }
-    let counted = totals.offers.counted(asked.firm, asked.report);
-    if standing.terms.lots.get().saturating_sub(counted) < asked.lines.lots() {
+    let held = totals.lots_given_up(given.number);
+    if given.standing.terms.lots.get().saturating_sub(held) < asked.lines.lots() {
         return Some(Refusal::TooManyLots);
     }
-    if MOST_OPEN_OFFERS - asked.lines.as_slice().len() < totals.offers.open_count(*group) {
+    if MOST_OPEN_OFFERS - asked.lines.as_slice().len() < totals.offers.open_count(given.group) {
         return Some(Refusal::TooManyOffers);
     }
     None
@@ -250,8 +265,9 @@ impl<'a> Decide<'a> for GiveUp {
         }
         Ok(NewOffers {
             give_up: self,
-            group: given.1,
+            group: given.group,
             first: OfferNo::known(totals.offers.count() as u64 + 1),
+            report: given.number,
         })
     }
 }
@@ -358,17 +374,6 @@ fn offer_to(
     Ok((offer, partner))
 }
 
-/// Returns the terms of the report that an offer gives up.
-fn terms_given_up(totals: &Totals, offer: &Offer) -> Terms
-    requires { is_some (report_by totals.now.trades offer.now.firm offer.now.report) ≡ true }
-    ensures { Some result ≡ option_map terms_of (report_by totals.now.trades offer.now.firm offer.now.report) }
-{
-    let Some(report) = totals.trades.terms(&offer.firm, &offer.report) else {
-        unreachable!();
-    };
-    report
-}
-
 impl<'a> Decide<'a> for Claim {
     type Does = NewClaim;
 
@@ -388,7 +393,7 @@ impl<'a> Decide<'a> for Claim {
             number: self.offer,
             group: offer.group,
             account: offer.account,
-            report: terms_given_up(totals, &offer),
+            report: totals.terms_given_up(self.offer),
             limits,
             lots: lots.get(),
         };
@@ -432,7 +437,7 @@ impl<'a> Decide<'a> for Reverse {
             number: self.offer,
             group: offer.group,
             account: offer.account,
-            report: terms_given_up(totals, &offer),
+            report: totals.terms_given_up(self.offer),
             limits: limits_of(&totals.limits, &offer.group, &path),
             lots: lots.get(),
         };

@@ -12,7 +12,7 @@ use gu_limits::PathLimits;
 use gu_terms::{
     AccountId, Day, Done, GiveUp, Group, Lots, OfferNo, OpenDay, Reply, ReportSide, SetLimit,
 };
-use gu_trades::Terms;
+use gu_trades::{ReportNo, Terms};
 use std::alloc::AllocError;
 
 /// Lots of an offer that are claimed or moved back.
@@ -44,6 +44,8 @@ pub struct NewOffers<'a> {
     pub give_up: &'a GiveUp,
     pub group: Group,
     pub first: OfferNo,
+    /// The number of the report.
+    pub report: ReportNo,
 }
 
 /// A claim of an offer.
@@ -144,7 +146,7 @@ impl<'a> Deed for NewReport<'a> {
 }
 
 impl<'a> Deed for NewOffers<'a> {
-    ghost does = { λ d. GivesUp d.give_up.now d.group d.first };
+    ghost does = { λ d. GivesUp d.give_up.now d.group d.first d.report };
 
     fn reply(&self) -> Reply {
         Reply::Accepted(Done::Offered {
@@ -161,7 +163,7 @@ impl<'a> Deed for NewOffers<'a> {
     fn take_in(&self, totals: &mut Totals) -> Result<(), AllocError> {
         // Shows the prover: the number of lines.
         let _ = self.give_up.lines.as_slice();
-        totals.give_up(self.give_up, &self.group)
+        totals.give_up(self.give_up, &self.group, self.report)
     }
 }
 
@@ -193,7 +195,7 @@ impl Deed for Closing {
     }
 
     fn take_in(&self, totals: &mut Totals) -> Result<(), AllocError> {
-        totals.offers.close(self.number);
+        totals.close(self.number);
         Ok(())
     }
 }

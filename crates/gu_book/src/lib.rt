@@ -8,6 +8,8 @@ mod current;
 mod deciding;
 mod deed;
 mod error;
+mod given_up;
+mod holding;
 mod limits;
 mod positions;
 mod showing;

@@ -92,13 +92,12 @@ fn moved_by(totals: &Totals, view: &View, take: &Take) -> Option<Moved>
         → MatchOption result ⊥ (λ m. (moved_lots m ≡ take.now) × IsFound reference totals.now m) }
 {
     let offer = totals.offers.get(take.offer)?;
-    let report = totals.trades.terms(&offer.firm, &offer.report)?;
     let shown = view.offer(take.offer)?;
     Some(Moved {
         number: take.offer,
         group: offer.group,
         account: offer.account,
-        report,
+        report: totals.terms_given_up(take.offer),
         limits: totals.limits.limits_of(&offer.group, &shown.path),
         lots: take.lots,
     })

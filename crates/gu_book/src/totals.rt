@@ -1,33 +1,33 @@
 //! Totals that a book keeps, so that no answer reads its history.
 
-ghost use Rattle.std.specs.Prelude.{◌≡◌, ◌<◌, ◌≤◌, ◌+◌, ◌^◌, ◌++◌, ◌∷◌, [], true, false, List, Some, None, IfOk, OnOk, OnErr, length, map};
+ghost use Rattle.std.specs.Prelude.{◌≡◌, ◌<◌, ◌≤◌, ◌+◌, ◌^◌, ◌++◌, ◌∷◌, [], true, false, is_some, List, Some, None, IfOk, OnOk, OnErr, length, map};
+ghost use Rattle.std.specs.Option.{option_map};
 ghost use Rattle.indexmap.specs.IndexSet.{hasher_of};
 ghost use Rattle.gu_limits.specs.Changes.{Charges, MayCharge, MayReturn, Returns, Sets};
 ghost use Rattle.gu_offers.specs.Changes.{changed, closed, next_day, reversed, taken, with_lines};
-ghost use Rattle.gu_offers.specs.Rows.{left_in, row_at, today_in};
-ghost use Rattle.gu_positions.specs.Changes.{KeepsLots, KeepsNumbers, KeepsRows, lots_at};
-ghost use Rattle.gu_positions.specs.Numbers.{IsRowOf};
+ghost use Rattle.gu_offers.specs.Rows.{Row, counted_under, left_in, row_at, today_in};
+ghost use Rattle.gu_positions.specs.Changes.{KeepsNumbers};
 ghost use Rattle.gu_positions.specs.Rows.{lots_in, lots_on};
-ghost use Rattle.gu_terms.specs.declared.account.AccountId.{AccountId as AccountOf};
+ghost use Rattle.gu_terms.specs.declared.firm.FirmId.{FirmId as FirmOf};
+ghost use Rattle.gu_terms.specs.declared.id.Id.{Id as IdOf};
 ghost use Rattle.gu_terms.specs.declared.limit_key.LimitKey.{LimitKey as LimitKeyOf};
+ghost use Rattle.gu_terms.specs.declared.offer.Offer.{Offer as OfferOf};
 ghost use Rattle.gu_terms.specs.declared.side.Side.{Side as SideOf};
 ghost use Rattle.gu_terms.specs.declared.symbol.Symbol.{Symbol as SymbolOf};
 ghost use Rattle.gu_trades.specs.Counterparts.{counterpart_of};
 ghost use Rattle.gu_trades.specs.Reports.{has_report, made_on, report_by, with_match};
 ghost use Rattle.gu_trades.specs.Terms.{terms_of};
 ghost use Rattle.gu_rules.specs.Reports.{Fits};
-ghost use Rattle.gu_book.specs.Beside.{is_kept_give_up, waiting_of};
-ghost use Rattle.gu_book.specs.Effects.{HoldsMore, HoldsMoved, SameAnswers, SameEntries, UsesNothing, made_a_trade};
-ghost use Rattle.gu_book.specs.Moving.{ClaimsLots, HasRows, IsHeld, MayClaim};
+ghost use Rattle.gu_book.specs.GivenUp.{AreGivenUp, names_at};
 
 use crate::deed::Moved;
+use crate::given_up::GivenUp;
+use crate::holding::{hold, make_rows, move_back, move_over};
 use gu_limits::LimitTable;
 use gu_offers::Offers;
 use gu_positions::{Positions, RowNo};
-use gu_terms::{
-    AccountId, Day, FirmId, GiveUp, Group, Id, LimitKey, OfferNo, ReportSide, Seed, Symbol,
-};
-use gu_trades::{Terms, Trades};
+use gu_terms::{Day, FirmId, GiveUp, Group, Id, LimitKey, OfferNo, ReportSide, Seed};
+use gu_trades::{ReportNo, Terms, Trades};
 use indexmap::IndexSet;
 use std::alloc::{AllocError, Global};
 
@@ -53,12 +53,15 @@ pub struct Totals {
     pub trades: Trades,
     /// The offers, as they are now.
     pub offers: Offers,
+    /// What they give up of each report.
+    pub given_up: GivenUp,
     /// The give-ups that were accepted.
     pub give_ups: IndexSet<GiveUpKey, Seed>,
     /// The limits that were set, and their use today.
     pub limits: LimitTable,
     /// Each account's positions.
     pub positions: Positions,
+    ghost placed: { AreGivenUp trades offers given_up },
 }
 
 impl Drop for Totals {
@@ -67,12 +70,14 @@ impl Drop for Totals {
             today: _,
             trades,
             offers,
+            given_up,
             give_ups,
             limits,
             positions,
         } = self;
         drop(trades);
         drop(offers);
+        drop(given_up);
         drop(give_ups);
         drop(limits);
         drop(positions);
@@ -80,6 +85,10 @@ impl Drop for Totals {
 }
 
 impl Totals {
+    ghost use Rattle.gu_book.specs.Beside.{is_kept_give_up, waiting_of};
+    ghost use Rattle.gu_book.specs.Effects.{HoldsMore, HoldsMoved, SameAnswers, SameEntries, UsesNothing, made_a_trade};
+    ghost use Rattle.gu_book.specs.Moving.{ClaimsLots, HasRows, MayClaim};
+
     /// Returns the totals of an empty history, whose tables of firm-chosen ids use `seed`. The seed affects no answer.
     pub fn seeded(alloc: Global, seed: Seed) -> Self
         ensures today { result.today ≡ None }
@@ -93,7 +102,8 @@ impl Totals {
         Totals {
             today: None,
             trades: Trades::seeded(alloc, seed),
-            offers: Offers::seeded(alloc, seed),
+            offers: Offers::new(alloc),
+            given_up: GivenUp::new(alloc),
             give_ups: IndexSet::with_hasher(alloc, seed),
             limits: LimitTable::new(alloc),
             positions: Positions::new(alloc),
@@ -108,6 +118,24 @@ impl Totals {
             firm: *firm,
             id: *id,
         })
+    }
+
+    /// Returns the lots of the report with this number that its offers hold.
+    pub fn lots_given_up(&self, report: ReportNo) -> u64
+        ensures { (firm : FirmOf) (id : IdOf) → names_at self.now.trades report ≡ Some (firm, id) → result ≡ counted_under self.now.offers firm id }
+    {
+        self.given_up.lots_of(report)
+    }
+
+    /// Returns the terms of the report that an offer gives up.
+    pub fn terms_given_up(&self, number: OfferNo) -> Terms
+        requires { is_some (row_at self.now.offers number) ≡ true }
+        ensures { (offer : OfferOf) → Some offer ≡ option_map (λ (r : Row). r.offer) (row_at self.now.offers number)
+            → Some result ≡ option_map terms_of (report_by self.now.trades offer.firm offer.report) }
+    {
+        // Shows the prover: a report's firm and id find that report.
+        self.trades.rules();
+        self.trades.terms_at(self.given_up.report(number))
     }
 
     /// Opens a day.
@@ -172,8 +200,14 @@ impl Totals {
         Ok(())
     }
 
-    /// Adds an offer for each line of a give-up.
-    pub fn give_up(&mut self, asked: &GiveUp, group: &Group) -> Result<(), AllocError>
+    /// Adds an offer for each line of a give-up of the report with this number.
+    pub fn give_up(
+        &mut self,
+        asked: &GiveUp,
+        group: &Group,
+        report: ReportNo,
+    ) -> Result<(), AllocError>
+        requires report { names_at self.old.trades report ≡ Some (asked.now.firm, asked.now.report) }
         requires new_id { is_kept_give_up self.old.give_ups.keys asked.now.firm asked.now.id ≡ false }
         requires numbers { length self.old.offers + length asked.now.lines ≤ 16000000 }
         ensures today { self.new.today ≡ self.old.today }
@@ -184,14 +218,37 @@ impl Totals {
         ensures positions { self.new.positions ≡ self.old.positions }
         ensures refused { OnErr result (SameAnswers self.old self.new) }
     {
+        // Shows the prover: the rules of the reports and of the offers.
+        self.trades.rules();
+        self.offers.rules();
+        let count = asked.lines.as_slice().len();
         self.give_ups.reserve(1)?;
+        self.given_up.reserve(report, count)?;
         self.offers
             .give_up(asked.firm, asked.report, *group, &asked.lines)?;
+        self.given_up.add(report, count, asked.lines.lots());
         self.give_ups.insert(GiveUpKey {
             firm: asked.firm,
             id: asked.id,
         })?;
         Ok(())
+    }
+
+    /// Closes an offer. What was left of it may be given up again.
+    pub fn close(&mut self, number: OfferNo)
+        requires { is_some (row_at self.old.offers number) ≡ true }
+        ensures entries { SameEntries self.old self.new }
+        ensures offers { self.new.offers ≡ changed self.old.offers number closed }
+        ensures limits { self.new.limits ≡ self.old.limits }
+        ensures positions { self.new.positions ≡ self.old.positions }
+    {
+        // Shows the prover: the rules of the reports and of the offers.
+        self.trades.rules();
+        self.offers.rules();
+        let left = self.offers.left(number);
+        self.offers.close(number);
+        let report = self.given_up.report(number);
+        self.given_up.take(report, left);
     }
 
     /// Makes the rows of the accounts between which lots of an offer move: that of its report, and its own. No answer changes.
@@ -246,58 +303,15 @@ impl Totals {
         ensures refused { OnErr result (SameAnswers self.old self.new) }
     {
         let rows = self.make_way(returned)?;
+        // Shows the prover: the rules of the reports and of the offers.
+        self.trades.rules();
+        self.offers.rules();
+        let lots = self.offers.moved_today(returned.number);
         self.offers.reverse(returned.number);
+        let report = self.given_up.report(returned.number);
+        self.given_up.take(report, lots);
         self.limits.give_back_at(&returned.limits, returned.lots);
         move_back(&mut self.positions, returned, &rows);
         Ok(())
     }
-}
-
-/// Makes the rows of two accounts, each with its instrument.
-fn make_rows(
-    positions: &mut Positions,
-    one: (&AccountId, &Symbol),
-    two: (&AccountId, &Symbol),
-) -> Result<(RowNo, RowNo), AllocError>
-    ensures first { IfOk result (λ rows. IsRowOf positions.new one.entry.0.now one.entry.1.now rows.0) }
-    ensures second { IfOk result (λ rows. IsRowOf positions.new two.entry.0.now two.entry.1.now rows.1) }
-    ensures stay { KeepsNumbers positions.old positions.new }
-    ensures same_lots { KeepsLots positions.old positions.new }
-{
-    let first = positions.make_row(one.0, one.1)?;
-    let second = positions.make_row(two.0, two.1)?;
-    Ok((first, second))
-}
-
-/// Moves lots of an offer from the row of its report to its own.
-fn move_over(positions: &mut Positions, claimed: &Moved, rows: &(RowNo, RowNo))
-    requires rows { HasRows positions.old claimed.now rows.now }
-    requires there { IsHeld positions.old claimed.now claimed.now.report.account }
-    ensures moved { HoldsMoved positions.old positions.new claimed.now.report claimed.now.report.account claimed.now.account claimed.now.lots }
-    ensures stay { KeepsNumbers positions.old positions.new }
-{
-    positions.shift_between(&rows.0, &rows.1, claimed.report.side, claimed.lots);
-}
-
-/// Moves those lots back.
-fn move_back(positions: &mut Positions, returned: &Moved, rows: &(RowNo, RowNo))
-    requires rows { HasRows positions.old returned.now rows.now }
-    requires there { IsHeld positions.old returned.now returned.now.account }
-    ensures { HoldsMoved positions.old positions.new returned.now.report returned.now.account returned.now.report.account returned.now.lots }
-{
-    positions.shift_between(&rows.1, &rows.0, returned.report.side, returned.lots);
-}
-
-/// Adds the lots of a report to its row.
-fn hold(positions: &mut Positions, row: &RowNo, report: &Terms)
-    requires row { IsRowOf positions.old report.now.account report.now.symbol row.now }
-    requires fits { lots_on positions.old report.now.side report.now.symbol + 1000000 < 2 ^ 64 }
-    ensures same_rows { KeepsRows positions.old positions.new }
-    ensures lots { (on : SideOf) (other : AccountOf) (another : SymbolOf) → lots_in positions.new on other another
-        ≡ lots_in positions.old on other another + lots_at report.now.side report.now.account report.now.symbol report.now.lots on other another }
-    ensures sums { (on : SideOf) (another : SymbolOf) → lots_on positions.new on another ≤ lots_on positions.old on another + 1000000 }
-    ensures most { report.now.lots ≤ 1000000 }
-    ensures stay { KeepsNumbers positions.old positions.new }
-{
-    positions.add_to(row, report.side, report.lots.get());
 }

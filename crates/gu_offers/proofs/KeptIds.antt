@@ -80,11 +80,9 @@ module _ (ids : List ℕ) (list : List Given) (rows : List GivenUp) (place : ℕ
   there_in = ap (λ all. slice_get all place) (sym view) ∙ slice_get-map (given_in ids) list place
       ∙ ap (option_map (given_in ids)) (slice_get-get_or list place was inside_list ∙ ap Some (sym at))
 
-  pub is_written : (now : Given) (day : ℕ) (change : Row → Row) (offer : Offer) → row_of day (given_in ids now) ≡ change (row_of day (given_in ids was))
-      → (was.moved_on ≤ day → now.moved_on ≤ day) → option_map (λ (g : GivenUp). g.offer) (slice_get rows place) ≡ Some offer
-      → IsWritten rows (map (given_in ids) (set list place now)) place day change offer
-  is_written now day change offer row on offer_is =
-      let same : option_map (λ (g : GivenUp). g.offer) (Some (given_in ids was)) ≡ Some offer = ap (option_map (λ (g : GivenUp). g.offer)) (sym there_in) ∙ offer_is in
+  pub is_written : (now : Given) (day : ℕ) (change : Row → Row) → row_of day (given_in ids now) ≡ change (row_of day (given_in ids was))
+      → (was.moved_on ≤ day → now.moved_on ≤ day) → IsWritten rows (map (given_in ids) (set list place now)) place day change
+  is_written now day change row on =
       record {
         was = given_in ids was;
         now = given_in ids now;
@@ -92,7 +90,6 @@ module _ (ids : List ℕ) (list : List Given) (rows : List GivenUp) (place : ℕ
         written = map-set (given_in ids) list place now ∙ ap (λ all. set all place (given_in ids now)) view;
         row = row;
         on = on;
-        own = cc;
       }
 
   pub within_changed : All (IsWithin ids) list → (now : Given) → (IsWithin ids was → IsWithin ids now) → All (IsWithin ids) (set list place now)

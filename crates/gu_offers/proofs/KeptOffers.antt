@@ -1,8 +1,7 @@
 -- One stored offer is changed: everything stays stored correctly, and the others are unchanged.
-use Rattle.gu_offers.proofs.Words.{◌≡◌, ◌≢◌, ◌∙◌, sym, refl, ap, subst, ℕ, suc, ◌+◌, ◌-◌, ◌≤◌, Bool, true, false, ◌&&◌, List, length, map, set, slice_get, Some, nat_lt, arith, if◌then◌else◌, AllByRecursion, option_map, option_map_or, length-set, map-set, slice_get-map, FirmId, Group, Id, Offer, same_firm, same_group, same_id, GivenUp, Inside, changed, closed, reversed, taken, lots_under, row_of, numbers_in, IsKept, IsSoundAt, IsWritten, rows_of, IsAscending, IsSound, Row, counted_of, counted_under, is_of_report, is_open, left_of, open_numbers}
+use Rattle.gu_offers.proofs.Words.{◌≡◌, ◌≢◌, ◌∙◌, sym, refl, ap, subst, ℕ, suc, ◌+◌, ◌-◌, ◌≤◌, Bool, true, false, ◌&&◌, List, length, map, set, slice_get, Some, nat_lt, arith, if◌then◌else◌, AllByRecursion, option_map, option_map_or, length-set, map-set, slice_get-map, Group, same_group, GivenUp, Inside, changed, closed, reversed, taken, row_of, numbers_in, IsKept, IsSoundAt, IsWritten, rows_of, IsAscending, IsSound, Row, is_open, left_of, open_numbers}
 use Rattle.std.proofs.lemmas.Bool.{ltb-false}
-use Rattle.std.proofs.lemmas.Slice.Eq.{bytes_eq-Decides}
-use Rattle.gu_offers.proofs.Listed.{all-at, all-set, counted-set, numbers-ascend, numbers-closed, numbers-same}
+use Rattle.gu_offers.proofs.Listed.{all-at, all-set, numbers-ascend, numbers-closed, numbers-same}
 use Rattle.gu_offers.proofs.NumberLists.{without}
 use Rattle.gu_offers.proofs.Written.{left-fits}
 
@@ -22,30 +21,6 @@ above_zero n some = by (nat_lt 0 n) refl
     by : (b : Bool) → nat_lt 0 n ≡ b → nat_lt 0 n ≡ true
     by true e = e
     by false e = absurd (some (omega (arith, ltb-false 0 n e)))
-
-as_before : (b : Bool) (m l lots : ℕ) → lots ≤ (if b then 0 else l - m) → (if b then m else l) ≡ (if b then m + lots else l) + 0
-as_before true m l lots h = omega arith
-as_before false m l lots h = omega arith
-
--- a move doesn't change the lots held of the report
-pub counted-taken : (r : Row) (lots : ℕ) → lots ≤ left_of r → counted_of r ≡ counted_of (taken lots r) + 0
-counted-taken r lots h = as_before r.is_shut r.moved r.offer.lots lots h
-
-closing : (b : Bool) (m l : ℕ) → m ≤ l → (if b then m else l) ≡ m + (if b then 0 else l - m)
-closing true m l h = omega arith
-closing false m l h = omega arith
-
--- what is left of an offer is no longer held after it is closed
-pub counted-closed : (r : Row) → IsSound r → counted_of r ≡ counted_of (closed r) + left_of r
-counted-closed r sound = closing r.is_shut r.moved r.offer.lots sound.moved
-
-reversing : (b : Bool) (m l today : ℕ) → m ≤ l → today ≤ m → (if b then 0 else l - m) ≡ 0 → (if b then m else l) ≡ m - today + today
-reversing true m l today h k left = omega arith
-reversing false m l today h k left = omega arith
-
--- what is taken back of a closed offer is no longer held
-pub counted-reversed : (r : Row) → IsSound r → left_of r ≡ 0 → counted_of r ≡ counted_of (reversed r) + r.today
-counted-reversed r sound left = reversing r.is_shut r.moved r.offer.lots r.today sound.moved sound.today left
 
 -- lots that are left may be moved
 pub sound-taken : (r : Row) (lots : ℕ) → IsSound r → lots ≤ left_of r → IsSound (taken lots r)
@@ -78,11 +53,7 @@ sound_at kept is_kept place g at =
 pub ascending : (kept : Inside) → IsKept kept → (group : Group) → IsAscending (numbers_in kept.groups group)
 ascending kept is_kept group = subst IsAscending (sym (is_kept.numbers group)) (numbers-ascend group 1 (rows_of kept))
 
-nothing : (b : Bool) → ◌≡◌ {A = ℕ} (if b then 0 else 0) 0
-nothing true = refl
-nothing false = refl
-
-module _ (kept : Inside) (is_kept : IsKept kept) (place : ℕ) (new : List GivenUp) (change : Row → Row) (offer : Offer) (written : IsWritten kept.rows new place kept.day change offer) where
+module _ (kept : Inside) (is_kept : IsKept kept) (place : ℕ) (new : List GivenUp) (change : Row → Row) (written : IsWritten kept.rows new place kept.day change) where
   -- the offer before
   abbrev before : Row
   before = row_of kept.day written.was
@@ -109,12 +80,12 @@ module _ (kept : Inside) (is_kept : IsKept kept) (place : ℕ) (new : List Given
         ∙ sym (numbers-same group 1 (rows_of kept) place before (change before) stands_there (λ i. same_group (same i).group group && open_as i))
 
     -- a closed offer's number is removed from its group's
-    pub numbers-taken_out : is_open (change before) ≡ false → (group : Group)
-        → (if same_group offer.group group then without (place + 1) (numbers_in kept.groups group) else numbers_in kept.groups group)
+    pub numbers-taken_out : is_open (change before) ≡ false → (own : Group) → own ≡ written.was.offer.group → (group : Group)
+        → (if same_group own group then without (place + 1) (numbers_in kept.groups group) else numbers_in kept.groups group)
         ≡ open_numbers (set (rows_of kept) place (change before)) group
-    numbers-taken_out shut group = by (same_group offer.group group) refl
+    numbers-taken_out shut own own_is group = by (same_group own group) refl
       where
-        by : (b : Bool) → same_group offer.group group ≡ b
+        by : (b : Bool) → same_group own group ≡ b
             → (if b then without (place + 1) (numbers_in kept.groups group) else numbers_in kept.groups group) ≡ open_numbers (set (rows_of kept) place (change before)) group
         by true e =
             let one : place + 1 ≡ 1 + place = omega arith in
@@ -124,48 +95,12 @@ module _ (kept : Inside) (is_kept : IsKept kept) (place : ℕ) (new : List Given
             is_kept.numbers group
             ∙ sym (numbers-same group 1 (rows_of kept) place before (change before) stands_there
             (other-one (same_group (change before).offer.group group) (same_group before.offer.group group) (is_open (change before)) (is_open before)
-            ((λ i. same_group (same i).group group) ∙ (λ i. same_group (sym written.own i).group group) ∙ e) ((λ i. same_group (sym written.own i).group group) ∙ e)))
-
-    -- this much less of its report is held
-    pub counts-less : (less : ℕ) → counted_of before ≡ counted_of (change before) + less → (firm : FirmId) (id : Id)
-        → (if same_firm offer.firm firm && same_id offer.report id then lots_under kept.counts firm id - less else lots_under kept.counts firm id)
-        ≡ counted_under (set (rows_of kept) place (change before)) firm id
-    counts-less less is firm id =
-        by (same_firm offer.firm firm && same_id offer.report id)
-        (counted-set firm id (rows_of kept) place before (change before) less stands_there same is)
-        (λ i. same_firm (written.own i).firm firm && same_id (written.own i).report id)
-      where
-        by : (b : Bool) → counted_under (set (rows_of kept) place (change before)) firm id + (if is_of_report firm id before then less else 0) ≡ counted_under (rows_of kept) firm id
-            → b ≡ is_of_report firm id before
-            → (if b then lots_under kept.counts firm id - less else lots_under kept.counts firm id) ≡ counted_under (set (rows_of kept) place (change before)) firm id
-        by true sums e =
-            let own : (if is_of_report firm id before then less else 0) ≡ less = λ i. if sym e i then less else 0 in
-            omega (arith, sums, own, is_kept.counts firm id)
-        by false sums e =
-            let none : (if is_of_report firm id before then less else 0) ≡ 0 = λ i. if sym e i then less else 0 in
-            omega (arith, sums, none, is_kept.counts firm id)
-
-    -- the lots held of a report are at least those that one of its offers holds
-    pub held-within : (less : ℕ) → counted_of before ≡ counted_of (change before) + less → less ≤ lots_under kept.counts offer.firm offer.report
-    held-within less is =
-        let own : is_of_report offer.firm offer.report before ≡ true =
-        (λ i. same_firm (sym written.own i).firm offer.firm && same_id (sym written.own i).report offer.report)
-        ∙ (λ i. (bytes_eq-Decides offer.firm.name offer.firm.name).1 refl i && (bytes_eq-Decides offer.report offer.report).1 refl i) in
-        let held : (if is_of_report offer.firm offer.report before then less else 0) ≡ less = λ i. if own i then less else 0 in
-        omega (arith, counted-set offer.firm offer.report (rows_of kept) place before (change before) less stands_there same is, held, is_kept.counts offer.firm offer.report)
-
-    -- the lots held of reports are unchanged if this offer holds the same
-    pub counts-as_they_were : counted_of before ≡ counted_of (change before) + 0 → (firm : FirmId) (id : Id)
-        → lots_under kept.counts firm id ≡ counted_under (set (rows_of kept) place (change before)) firm id
-    counts-as_they_were is firm id =
-        omega (arith, counted-set firm id (rows_of kept) place before (change before) 0 stands_there same is, nothing (is_of_report firm id before), is_kept.counts firm id)
+            ((λ i. same_group (same i).group group) ∙ (λ i. same_group (sym own_is i) group) ∙ e) ((λ i. same_group (sym own_is i) group) ∙ e)))
 
     -- everything is then stored correctly
     pub kept-changed : (later : Inside) → later.rows ≡ new → later.day ≡ kept.day → IsSound (change before)
-        → ((group : Group) → numbers_in later.groups group ≡ open_numbers (set (rows_of kept) place (change before)) group)
-        → ((firm : FirmId) (id : Id) → lots_under later.counts firm id ≡ counted_under (set (rows_of kept) place (change before)) firm id)
-        → IsKept later
-    kept-changed later is today sound numbers counts =
+        → ((group : Group) → numbers_in later.groups group ≡ open_numbers (set (rows_of kept) place (change before)) group) → IsKept later
+    kept-changed later is today sound numbers =
         let view : rows_of later ≡ set (rows_of kept) place (change before) = (λ i. map (row_of (today i)) (is i)) ∙ after in
         record {
           sound = subst (AllByRecursion IsSound) (sym view) (all-set IsSound (rows_of kept) place (change before) is_kept.sound sound);
@@ -175,5 +110,4 @@ module _ (kept : Inside) (is_kept : IsKept kept) (place : ℕ) (new : List Given
               (written.on (all-at (λ (g : GivenUp). g.moved_on ≤ kept.day) kept.rows place written.was is_kept.days written.there))));
           few = let same_length : length later.rows ≡ length kept.rows = ap length (is ∙ written.written) ∙ length-set kept.rows place written.now in omega (arith, same_length, is_kept.few);
           numbers = λ group. numbers group ∙ ap (λ rows. open_numbers rows group) (sym view);
-          counts = λ firm id. counts firm id ∙ ap (λ rows. counted_under rows firm id) (sym view);
         }

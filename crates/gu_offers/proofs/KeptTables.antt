@@ -1,8 +1,6 @@
--- The tables beside the offers: the lots of reports, and the numbers of groups.
-use Rattle.gu_offers.proofs.Words.{◌≡◌, ◌∙◌, refl, ap, ℕ, Bool, true, false, cond, ◌&&◌, List, [], ◌++◌, Option, Some, None, is_some, unwrap_or, Result, Ok, Err, IsOk, OnOk, OnErr, if◌then◌else◌, option_map_or, IndexMap, get, Updates, FirmId, Group, Id, same_firm, same_group, same_id, lots_under, report_key, same_key}
-use Rattle.gu_terms.proofs.SameNames.{same_firm-true, same_group-true, same_id-true}
-use Rattle.gu_offers.specs.declared.counts.Counts.{Counts}
-use Rattle.gu_offers.specs.declared.counts.ReportKey.{ReportKey}
+-- The table beside the offers: the numbers of groups.
+use Rattle.gu_offers.proofs.Words.{◌≡◌, ◌∙◌, refl, ap, ℕ, Bool, true, false, cond, ◌&&◌, List, [], ◌++◌, Option, Some, None, is_some, Result, Ok, Err, IsOk, OnOk, OnErr, if◌then◌else◌, option_map_or, IndexMap, get, Updates, Group, same_group}
+use Rattle.gu_terms.proofs.SameNames.{same_group-true}
 
 -- two tests that both pass
 pub both : (p q : Bool) → (p && q) ≡ true → (p ≡ true) × (q ≡ true)
@@ -14,30 +12,6 @@ both false q h = cc
 pub none : {X : Type 0} (o : Option X) → is_some o ≡ false → o ≡ None
 none None h = refl
 none (Some x) h = cc
-
-module _ (old new : Counts) (firm : FirmId) (id : Id) where
-  -- the lots of one report are others
-  pub lots_under-written : (f : ℕ → ℕ) (w : ℕ) → ((q : ReportKey) → get same_key new.lots q ≡ cond (same_key (report_key firm id) q) (Some w) (get same_key old.lots q)) → w ≡ f (lots_under old firm id)
-      → (other : FirmId) (another : Id) → lots_under new other another ≡ (if same_firm firm other && same_id id another then f (lots_under old other another) else lots_under old other another)
-  lots_under-written f w reads is other another =
-      ap (λ o. unwrap_or o 0) (reads (report_key other another)) ∙ by (same_firm firm other && same_id id another) refl
-    where
-      by : (b : Bool) → (same_firm firm other && same_id id another) ≡ b
-          → unwrap_or (cond b (Some w) (get same_key old.lots (report_key other another))) 0 ≡ (if b then f (lots_under old other another) else lots_under old other another)
-      by true e =
-          let p = both (same_firm firm other) (same_id id another) e in
-          is ∙ ap f (λ i. lots_under old (same_firm-true firm other p.0 i) (same_id-true id another p.1 i))
-      by false e = refl
-
-  -- the lots of one report are changed
-  pub lots_under-changed : (f : ℕ → ℕ) (v w : ℕ) → Updates same_key old.lots new.lots (report_key firm id) (Some w) → Some v ≡ get same_key old.lots (report_key firm id) → w ≡ f v
-      → (other : FirmId) (another : Id) → lots_under new other another ≡ (if same_firm firm other && same_id id another then f (lots_under old other another) else lots_under old other another)
-  lots_under-changed f v w updated was is = lots_under-written f w updated.0 (is ∙ ap f (ap (λ o. unwrap_or o 0) was))
-
--- the last write counts
-pub last_write : {X : Type 0} (b : Bool) (v w o : X) → cond b w (cond b v o) ≡ cond b w o
-last_write true v w o = refl
-last_write false v w o = refl
 
 -- a property that holds if a call succeeds, when it does
 pub of_ok : {T E : Type 0} {P : Type 0} (r : Result T E) → OnOk r P → IsOk r → P

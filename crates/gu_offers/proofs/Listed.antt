@@ -1,6 +1,5 @@
--- How a change of one row, or more rows, affects the numbers of open offers and the lots of reports.
-use Rattle.gu_offers.proofs.Words.{◌≡◌, ◌≢◌, ◌∙◌, sym, refl, ap, subst, ℕ, zero, suc, ◌+◌, ◌<◌, ◌≤◌, ◌==◌, Bool, true, false, not, cond, ◌&&◌, List, [], ◌∷◌, ◌++◌, length, set, slice_get, Some, arith, if◌then◌else◌, AllByRecursion, FirmId, Group, Id, same_firm, same_id, IsAscending, Row, counted_of, counted_under, is_of_report, is_open_in, numbers_from}
-use Rattle.std.proofs.lemmas.List.Sums.{sum_by-cons}
+-- How a change of one row, or more rows, affects the numbers of open offers.
+use Rattle.gu_offers.proofs.Words.{◌≡◌, ◌≢◌, ◌∙◌, sym, refl, ap, subst, ℕ, zero, suc, ◌+◌, ◌<◌, ◌≤◌, ◌==◌, Bool, true, false, not, cond, List, [], ◌∷◌, ◌++◌, length, set, slice_get, Some, arith, AllByRecursion, Group, IsAscending, Row, is_open_in, numbers_from}
 use Rattle.gu_offers.proofs.NumberLists.{other_than, own_number, without, without-above}
 
 module _ {X : Type 0} (P : X → Type 0) where
@@ -102,23 +101,3 @@ module _ (group : Group) where
       by : (b : Bool) (xs ys : List ℕ) → cond b (n ∷ (xs ++ ys)) (xs ++ ys) ≡ cond b (n ∷ xs) xs ++ ys
       by true xs ys = refl
       by false xs ys = refl
-
-module _ (firm : FirmId) (report : Id) where
-  -- a row that counts less
-  pub counted-set : (rows : List Row) (place : ℕ) (old new : Row) (less : ℕ) → slice_get rows place ≡ Some old → new.offer ≡ old.offer → counted_of old ≡ counted_of new + less
-      → counted_under (set rows place new) firm report + (if is_of_report firm report old then less else 0) ≡ counted_under rows firm report
-  counted-set [] place old new less at own less_is = cc
-  counted-set (r ∷ rows) zero old new less at own less_is =
-      let one : r ≡ old = cc in
-      let f : Row → ℕ = λ x. if is_of_report firm report x then counted_of x else 0 in
-      let same : is_of_report firm report new ≡ is_of_report firm report old = λ i. same_firm (own i).firm firm && same_id (own i).report report in
-      omega (arith, sum_by-cons f new rows, sum_by-cons f r rows, ap f one, by (is_of_report firm report old) (is_of_report firm report new) same)
-    where
-      by : (b c : Bool) → c ≡ b → (if c then counted_of new else 0) + (if b then less else 0) ≡ (if b then counted_of old else 0)
-      by true true e = sym less_is
-      by false false e = refl
-      by true false e = cc
-      by false true e = cc
-  counted-set (r ∷ rows) (suc place) old new less at own less_is =
-      let f : Row → ℕ = λ x. if is_of_report firm report x then counted_of x else 0 in
-      omega (arith, sum_by-cons f r rows, sum_by-cons f r (set rows place new), counted-set rows place old new less at own less_is)

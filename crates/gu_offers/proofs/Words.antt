@@ -7,7 +7,6 @@ pub use Rattle.std.specs.List.{AllByRecursion, filter_map, range_with_len, remov
 pub use Rattle.std.specs.Option.{option_map, option_map_or}
 pub use Rattle.indexmap.specs.IndexMap.{IndexMap, Updates, get}
 pub use Rattle.gu_offers.specs.Changes.{changed, closed, next_day, offered, reversed, taken, with_lines}
-pub use Rattle.gu_offers.specs.Counts.{lots_under, report_key, same_key}
 pub use Rattle.gu_offers.specs.Given.{GivenUp, IsWithin, forgotten, given_for, given_in, kept_for, report_in, row_of, without_today}
 pub use Rattle.gu_offers.specs.Groups.{numbers_in}
 pub use Rattle.gu_offers.specs.Kept.{IsKept, IsSoundAt, IsWritten, rows_of}

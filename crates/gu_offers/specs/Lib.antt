@@ -1,5 +1,4 @@
 pub mod Changes
-pub mod Counts
 pub mod Given
 pub mod Groups
 pub mod Kept

@@ -68,18 +68,15 @@ impl Given {
         self.moved_on = day;
     }
 
-    /// Takes back the lots moved on this day, and closes it. Returns the number of those lots.
-    pub(crate) fn reverse(&mut self, day: u64) -> u64
+    /// Takes back the lots moved on this day, and closes it.
+    pub(crate) fn reverse(&mut self, day: u64)
         requires { (if self.old.moved_on == day then self.old.today else 0) ≤ self.old.moved }
         ensures row { (ids : List ℕ) → row_of day (given_in ids self.new) ≡ reversed (row_of day (given_in ids self.old)) }
         ensures on { self.new.moved_on ≡ self.old.moved_on }
-        ensures lots { result ≡ (if self.old.moved_on == day then self.old.today else 0) }
         ensures within { (ids : List ℕ) → IsWithin ids self.old → IsWithin ids self.new }
     {
-        let today = self.moved_on(day);
-        self.moved -= today;
+        self.moved -= self.moved_on(day);
         self.today = 0;
         self.is_shut = true;
-        today
     }
 }

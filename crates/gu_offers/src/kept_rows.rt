@@ -6,9 +6,7 @@ ghost use Rattle.gu_offers.specs.Changes.{closed, reversed, taken};
 ghost use Rattle.gu_offers.specs.Given.{forgotten, given_for, kept_for, row_of, without_today, GivenUp as GivenOf};
 ghost use Rattle.gu_offers.specs.Kept.{IsSoundAt, IsWritten};
 ghost use Rattle.gu_offers.specs.Rows.{left_of};
-ghost use Rattle.gu_terms.specs.declared.offer.Offer.{Offer as OfferOf};
 
-use crate::counts::ReportKey;
 use crate::given::{Given, Shared};
 use gu_terms::{AccountId, FirmId, Group, Id, Line, Offer};
 use std::alloc::{AllocError, Global};
@@ -124,16 +122,17 @@ impl KeptRows {
     /// Appends an offer for each line of a give-up, or none.
     pub(crate) fn push(
         &mut self,
-        report: &ReportKey,
+        firm: &FirmId,
+        report: &Id,
         group: &Group,
         lines: &[Line],
     ) -> Result<(), AllocError>
-        ensures pushed { OnOk result (self.new ≡ self.old ++ map (given_for report.now.firm report.now.id group.now) lines.now) }
+        ensures pushed { OnOk result (self.new ≡ self.old ++ map (given_for firm.now report.now group.now) lines.now) }
         ensures refused { OnErr result (self.new ≡ self.old) }
     {
-        let id = report.id.get();
+        let id = report.get();
         let shared = Shared {
-            firm: report.firm,
+            firm: *firm,
             group: *group,
             at: self.ids.len(),
             len: id.len() as u8,
@@ -164,7 +163,8 @@ pub(crate) fn take_of(rows: &mut KeptRows, place: usize, lots: u64, day: u64) ->
     requires inside { place < length rows.old }
     requires sound { IsSoundAt rows.old place day }
     requires left { (g : GivenOf) → slice_get rows.old place ≡ Some g → lots ≤ left_of (row_of day g) }
-    ensures written { (offer : OfferOf) × IsWritten rows.old rows.new place day (taken lots) offer × (result.0 ≡ offer.group) }
+    ensures written { IsWritten rows.old rows.new place day (taken lots) }
+    ensures group { (g : GivenOf) → slice_get rows.old place ≡ Some g → result.0 ≡ g.offer.group }
     ensures left { (g : GivenOf) → slice_get rows.old place ≡ Some g → result.1 ≡ left_of (taken lots (row_of day g)) }
 {
     let given = &mut rows.list[place];
@@ -173,27 +173,22 @@ pub(crate) fn take_of(rows: &mut KeptRows, place: usize, lots: u64, day: u64) ->
     (group, given.left())
 }
 
-/// Closes an offer. Returns the offer and the lots that were left of it.
-pub(crate) fn close_of(rows: &mut KeptRows, place: usize, day: u64) -> (Offer, u64)
+/// Closes an offer. Returns its product group.
+pub(crate) fn close_of(rows: &mut KeptRows, place: usize) -> Group
     requires { place < length rows.old }
-    ensures written { IsWritten rows.old rows.new place day closed result.0 }
-    ensures left { (g : GivenOf) → slice_get rows.old place ≡ Some g → result.1 ≡ left_of (row_of day g) }
+    ensures written { (day : ℕ) → IsWritten rows.old rows.new place day closed }
+    ensures group { (g : GivenOf) → slice_get rows.old place ≡ Some g → result ≡ g.offer.group }
 {
-    let offer = rows.offer(place);
     let given = &mut rows.list[place];
-    let left = given.left();
     given.is_shut = true;
-    (offer, left)
+    given.group
 }
 
-/// Takes back what was moved of an offer on this day, and closes it. Returns the offer and those lots.
-pub(crate) fn reverse_of(rows: &mut KeptRows, place: usize, day: u64) -> (Offer, u64)
+/// Takes back what was moved of an offer on this day, and closes it.
+pub(crate) fn reverse_of(rows: &mut KeptRows, place: usize, day: u64)
     requires inside { place < length rows.old }
     requires sound { IsSoundAt rows.old place day }
-    ensures written { IsWritten rows.old rows.new place day reversed result.0 }
-    ensures lots { (g : GivenOf) → slice_get rows.old place ≡ Some g → result.1 ≡ (row_of day g).today }
+    ensures { IsWritten rows.old rows.new place day reversed }
 {
-    let offer = rows.offer(place);
-    let lots = rows.list[place].reverse(day);
-    (offer, lots)
+    rows.list[place].reverse(day);
 }

@@ -1,7 +1,6 @@
 //! Offers: the lots given up, how many of them were moved, and how many are left.
 #![tactic(auto)]
 
-mod counts;
 mod given;
 mod groups;
 mod kept_rows;

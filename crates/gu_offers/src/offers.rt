@@ -5,13 +5,12 @@ ghost use Rattle.std.specs.Option.{option_map};
 ghost use Rattle.gu_offers.specs.Changes.{changed, closed, next_day, reversed, taken, with_lines};
 ghost use Rattle.gu_terms.specs.Numbers.{IsLots};
 ghost use Rattle.gu_offers.specs.Given.{row_of};
-ghost use Rattle.gu_offers.specs.Rows.{IsSound, counted_under, left_in, open_count, open_numbers, open_offer_at, open_offers, row_at, today_in};
+ghost use Rattle.gu_offers.specs.Rows.{IsSound, left_in, open_count, open_numbers, open_offer_at, open_offers, row_at, today_in};
 
-use crate::counts::{Counts, ReportKey};
 use crate::groups::Groups;
 use crate::kept_rows::{KeptRows, close_of, reverse_of, take_of};
 use crate::open_offer::OpenOffer;
-use gu_terms::{AccountId, FirmId, Group, Id, Line, Lines, Offer, OfferNo, Seed};
+use gu_terms::{AccountId, FirmId, Group, Id, Line, Lines, Offer, OfferNo};
 use std::alloc::{AllocError, Global};
 use std::marker::Model;
 
@@ -19,7 +18,6 @@ use std::marker::Model;
 pub struct Offers {
     rows: KeptRows,
     groups: Groups,
-    counts: Counts,
     /// The number of the day, by which lots moved since it was opened are known.
     day: u64,
 }
@@ -29,12 +27,10 @@ impl Drop for Offers {
         let Offers {
             rows,
             groups,
-            counts,
             day: _,
         } = self;
         drop(rows);
         drop(groups);
-        drop(counts);
     }
 }
 
@@ -88,17 +84,9 @@ impl Offers {
     pub fn new(alloc: Global) -> Self
         ensures { result ≡ [] }
     {
-        Offers::seeded(alloc, Seed::new(0))
-    }
-
-    /// Returns an empty table whose report hashes use `seed`. The seed affects no answer.
-    pub fn seeded(alloc: Global, seed: Seed) -> Self
-        ensures { result ≡ [] }
-    {
         Offers {
             rows: KeptRows::new(alloc),
             groups: Groups::new(alloc),
-            counts: Counts::seeded(alloc, seed),
             day: 0,
         }
     }
@@ -163,13 +151,6 @@ impl Offers {
         self.rows.moved_on(place, self.day)
     }
 
-    /// Returns the lots of a report that are held by its offers.
-    pub fn counted(&self, firm: FirmId, report: Id) -> u64
-        ensures { result ≡ counted_under self.now firm report }
-    {
-        self.counts.of(firm, report)
-    }
-
     /// Returns the number of open offers in a product group.
     pub fn open_count(&self, group: Group) -> usize
         ensures { result ≡ open_count self.now group }
@@ -208,10 +189,8 @@ impl Offers {
         if place >= self.rows.len() {
             return;
         }
-        let day = self.day;
-        let (offer, left) = close_of(&mut self.rows, place, day);
-        self.groups.take_out(&offer.group, number.get());
-        self.counts.take(&offer.firm, &offer.report, left);
+        let group = close_of(&mut self.rows, place);
+        self.groups.take_out(&group, number.get());
     }
 
     /// Takes back what was moved of a closed offer since the day was opened. The offer stays closed for good.
@@ -225,8 +204,7 @@ impl Offers {
             return;
         }
         let day = self.day;
-        let (offer, lots) = reverse_of(&mut self.rows, place, day);
-        self.counts.take(&offer.firm, &offer.report, lots);
+        reverse_of(&mut self.rows, place, day);
     }
 
     /// Makes an offer for each line of a give-up, or none, and returns the number of the first.
@@ -242,24 +220,16 @@ impl Offers {
         ensures first { IfOk result (λ number. number ≡ length self.old + 1) }
         ensures refused { OnErr result (self.new ≡ self.old) }
     {
-        let total = lines.lots();
         let lines = lines.as_slice();
         are_lots(lines);
         let count = self.rows.len();
         let first = OfferNo::known(count as u64 + 1);
-        self.counts.reserve()?;
-        let key = ReportKey { firm, id: report };
-        self.rows.push(&key, &group, lines)?;
-        match self.groups.append(&group, first.get(), lines.len()) {
-            Ok(()) => {
-                self.counts.add(&firm, &report, total);
-                Ok(first)
-            }
-            Err(refused) => {
-                self.rows.truncate(count);
-                Err(refused)
-            }
+        self.rows.push(&firm, &report, &group, lines)?;
+        if let Err(refused) = self.groups.append(&group, first.get(), lines.len()) {
+            self.rows.truncate(count);
+            return Err(refused);
         }
+        Ok(first)
     }
 
     /// Opens a day: nothing has been moved since.

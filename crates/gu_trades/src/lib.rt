@@ -5,6 +5,7 @@ mod counterpart;
 mod hash_index;
 mod matching;
 mod packed;
+mod report_no;
 mod reports;
 mod short_texts;
 mod sides;
@@ -14,6 +15,7 @@ mod trades;
 
 pub use counterpart::Counterpart;
 pub use matching::Matching;
+pub use report_no::ReportNo;
 pub use sides::Sides;
 pub use standing::Standing;
 pub use terms::Terms;

@@ -1,6 +1,6 @@
 //! The house's reports, in the order in which they were accepted.
 
-ghost use Rattle.std.specs.Prelude.{◌≡◌, ◌++◌, ◌∷◌, [], false, Some, Contains, is_some, OnOk, OnErr, IfOk, ◌<◌, length, slice_get, true};
+ghost use Rattle.std.specs.Prelude.{◌≡◌, ◌++◌, ◌∷◌, [], false, Some, Contains, is_some, OnOk, OnErr, IfOk, IfSome, ◌<◌, length, slice_get, true};
 ghost use Rattle.std.specs.Option.{option_map};
 ghost use Rattle.gu_terms.specs.declared.report.Report.{Report as ReportOf};
 ghost use Rattle.gu_trades.specs.Counterparts.{counterpart_of, standing_in};
@@ -15,6 +15,7 @@ ghost use Rattle.gu_trades.specs.Terms.{terms_of};
 use crate::counterpart::Counterpart;
 use crate::hash_index::{HashIndex, number_of};
 use crate::matching::Matching;
+use crate::report_no::ReportNo;
 use crate::reports::Reports;
 use crate::sides::Sides;
 use crate::standing::Standing;
@@ -201,19 +202,29 @@ impl Trades {
         Some(self.reports.kept(at as usize - 1).terms())
     }
 
-    /// Returns the firm's report with this id: its terms, and whether it is a side of a trade.
-    pub fn standing(&self, firm: &FirmId, id: &Id) -> Option<Standing>
-        ensures { result ≡ option_map (standing_in self.now) (report_by self.now firm.now id.now) }
+    /// Returns the terms of the report with this number.
+    pub fn terms_at(&self, report: ReportNo) -> Terms
+        requires { report < length self.now }
+        ensures { option_map terms_of (slice_get self.now report) ≡ Some result }
+    {
+        self.reports.kept(report.get()).terms()
+    }
+
+    /// Returns the firm's report with this id: its number, its terms, and whether it is a side of a trade.
+    pub fn standing(&self, firm: &FirmId, id: &Id) -> Option<(ReportNo, Standing)>
+        ensures standing { option_map (λ r. r.1) result ≡ option_map (standing_in self.now) (report_by self.now firm.now id.now) }
+        ensures at { IfSome result (λ r. slice_get self.now r.0 ≡ report_by self.now firm.now id.now) }
     {
         let at = self.last_by(firm, id);
         if at == 0 {
             return None;
         }
         let place = at as usize - 1;
-        Some(Standing {
+        let standing = Standing {
             terms: self.reports.kept(place).terms(),
             is_of_trade: self.is_of_trade(place),
-        })
+        };
+        Some((ReportNo::known(at - 1), standing))
     }
 
     /// Adds a report whose id is new and whose match id has no report, or only its other side.

@@ -1,4 +1,4 @@
-use Rattle.gu_offers.proofs.Words.{◌∙◌, ap, arith, refl, option_map, taken, given_in, row_of, GivenUp, left_of}
+use Rattle.gu_offers.proofs.Words.{◌∙◌, ap, arith, taken, given_in, row_of, GivenUp, left_of}
 use Rattle.gu_offers.proofs.KeptIds.{is_written, there_in, within_changed}
 use Rattle.gu_offers.proofs.Written.{left-fits, one}
 use Rattle.gu_offers.proofs.kept_rows.take_of.Goals as goal
@@ -17,13 +17,12 @@ invariant_of-rows c = within_changed c.rows.inside.ids.items c.rows.inside.list.
 
 pub returns-clause-written : goal.returns-clause-written
 returns-clause-written c =
-    let was : GivenUp = given_in c.rows.inside.ids.items c.index_mut-given.result.now in
-    let there = there_in c.rows.inside.ids.items c.rows.inside.list.items c.args.rows.now c.args.place c.index_mut-given.result.now c.rows.view_is c.requires.inside c.index_mut-given.ensures.value in (
-      was.offer,
-      is_written c.rows.inside.ids.items c.rows.inside.list.items c.args.rows.now c.args.place c.index_mut-given.result.now c.rows.view_is c.requires.inside c.index_mut-given.ensures.value
-          c.take.new.self c.args.day (taken c.args.lots) was.offer (c.take.ensures.row c.rows.inside.ids.items) (λ _. omega (arith, c.take.ensures.on)) (ap (option_map (λ (g : GivenUp). g.offer)) there),
-      refl,
-    )
+    is_written c.rows.inside.ids.items c.rows.inside.list.items c.args.rows.now c.args.place c.index_mut-given.result.now c.rows.view_is c.requires.inside c.index_mut-given.ensures.value
+    c.take.new.self c.args.day (taken c.args.lots) (c.take.ensures.row c.rows.inside.ids.items) (λ _. omega (arith, c.take.ensures.on))
+
+pub returns-clause-group : goal.returns-clause-group
+returns-clause-group c = λ g at.
+    ap (λ (x : GivenUp). x.offer.group) (one c.args.rows.now c.args.place (given_in c.rows.inside.ids.items c.index_mut-given.result.now) g (there_in c.rows.inside.ids.items c.rows.inside.list.items c.args.rows.now c.args.place c.index_mut-given.result.now c.rows.view_is c.requires.inside c.index_mut-given.ensures.value) at)
 
 pub returns-clause-left : goal.returns-clause-left
 returns-clause-left c = λ g at.

@@ -1,6 +1,6 @@
-use Rattle.gu_book.proofs.Words.{ℕ, List, Option, nat_lt, refl, subst, sym, ap, ◌∙◌, find, option_map, LimitKey, LimitReached, Claimed, Accepted, AreLimitsOf, room_in, left_in, claim_tests, offer_tests, standing_after, standing_in, standing_none, short_key, state_in}
+use Rattle.gu_book.proofs.Words.{ℕ, List, Option, nat_lt, refl, subst, sym, ap, ◌∙◌, find, option_map, LimitKey, LimitReached, Claimed, Accepted, AreLimitsOf, room_in, Row, left_in, row_at, claim_tests, offer_tests, standing_after, standing_in, standing_none, short_key, state_in}
 use Rattle.gu_book.proofs.ClaimLemmas.{claim_refused, lots_are, short_key-of}
-use Rattle.gu_book.proofs.DeedLemmas.{has-report}
+use Rattle.gu_book.proofs.DeedLemmas.{found-some}
 use Rattle.gu_book.proofs.answering.ClaimDecide.decide.Goals as goal
 
 pub returns-in-Err-clause-reply : goal.returns-in-Err-clause-reply
@@ -39,7 +39,7 @@ returns-clause-reply c =
     (claim_refused reference state c.args.self.now.offer lots.1 ∙ ap (λ (k : Option LimitKey). option_map LimitReached k) (sym none)))
 
 pub terms_given_up-requires : goal.terms_given_up-requires
-terms_given_up-requires c = has-report c.args.totals.now c.args.self.now.offer c.in_ok-offer.offer c.requires.reports c.in_ok-offer.ensures.offer
+terms_given_up-requires c = found-some (λ (r : Row). r.offer) (row_at c.args.totals.now.offers c.args.self.now.offer) c.in_ok-offer.offer c.in_ok-offer.ensures.offer
 
 pub returns-clause-deed : goal.returns-clause-deed
 returns-clause-deed c =
@@ -48,7 +48,7 @@ returns-clause-deed c =
       is = refl;
       found = record {
         offer = c.in_ok-offer.offer;
-        seen = record { shown = c.in_ok-offer.ensures.offer; found = c.terms_given_up.ensures };
+        seen = record { shown = c.in_ok-offer.ensures.offer; found = c.terms_given_up.ensures c.in_ok-offer.offer c.in_ok-offer.ensures.offer };
         group_is = refl;
         account_is = refl;
         under = subst (λ (keys : List LimitKey). AreLimitsOf c.args.totals.now.limits c.in_ok-offer.offer.group keys c.in-Ok.limits) c.path_with-path.ensures.keys c.in-Ok.ensures.limits;

@@ -3,7 +3,7 @@ use Rattle.gu_book.proofs.Accepting.{answer_is, few_offers}
 use Rattle.gu_book.proofs.Beginning.{legal-accepted, legal-refused}
 use Rattle.gu_book.proofs.CountedLemmas.{accepted-touches, versions-fit, versions-push, versions-same}
 use Rattle.gu_book.proofs.ClaimLemmas.{truncated}
-use Rattle.gu_book.proofs.DeedLemmas.{have_reports, may-do}
+use Rattle.gu_book.proofs.DeedLemmas.{may-do}
 use Rattle.gu_book.proofs.TellingLemmas.{legal-counted, whole-more}
 use Rattle.gu_book.proofs.book.Book.append_asked.Goals as goal
 
@@ -12,10 +12,7 @@ decide-requires g c lifetimes =
     let old = c.self.inside in
     let room : length old.history < 1000000 = rw (sym c.self.view_is) at c.requires.room in (
       (refl, tt),
-      (
-        omega (arith, few_offers old.reference old.history old.totals c.self.invariant.entries.kept, room),
-        have_reports old.reference old.history old.totals c.self.invariant.entries.kept,
-      ),
+      omega (arith, few_offers old.reference old.history old.totals c.self.invariant.entries.kept, room),
     )
 
 pub append_denied-requires-clause-answered : goal.append_denied-requires-clause-answered

@@ -9,6 +9,9 @@ give_up-requires-clause-numbers c =
     let it = c.requires.1 in
     give_up-numbers c.requires.0 totals c.args.self.now.give_up.now c.as_slice.ensures.sound.most (subst (MayTakeIn c.requires.0 totals) it.is.is it.may)
 
+pub give_up-requires-clause-report : goal.give_up-requires-clause-report
+give_up-requires-clause-report c = c.requires.1.is.report_is
+
 pub returns-clause-taken : goal.returns-clause-taken
 returns-clause-taken c =
     let old = c.args.totals.now in

@@ -1,4 +1,5 @@
 use Rattle.gu_book.proofs.Words.{arith, made_on, with_match}
+use Rattle.gu_book.proofs.GivenUpLemmas.{given-either}
 use Rattle.gu_book.proofs.Counterparts.{holds-both, holds-none}
 use Rattle.gu_book.proofs.totals.Totals.report.Goals as goal
 
@@ -30,3 +31,13 @@ returns-clause-positions c =
 pub hold-requires-2-clause-row : goal.hold-requires-2-clause-row
 hold-requires-2-clause-row c =
     c.hold.ensures.stay c.on-terms.result.account c.on-terms.result.symbol c.in_ok-rows.rows.0 c.in_ok-rows.ensures.first
+
+pub invariant_of-self : goal.invariant_of-self
+invariant_of-self c =
+    let old = c.args.self.now in
+    record { placed = given-either old.trades (made_on c.args.today c.args.report.now) c.requires.fits.new_id c.push.result old.offers old.given_up c.push.new.self old.placed c.push.ensures.taken c.push.ensures.refused }
+
+pub invariant_of-self-2 : goal.invariant_of-self-2
+invariant_of-self-2 c =
+    let old = c.args.self.now in
+    record { placed = given-either old.trades (made_on c.args.today c.args.report.now) c.requires.fits.new_id c.push-2.result old.offers old.given_up c.push-2.new.self old.placed c.push-2.ensures.taken c.push-2.ensures.refused }
