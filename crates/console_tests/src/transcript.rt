@@ -189,7 +189,7 @@ fn play<E: EntryLedger, S: LotLedger, R: Wait + Abort>(
     annals: BlankAnnals,
     entries: Blank,
     swept: Blank,
-    transcript: &str,
+    transcript: &String,
 ) -> (u64, u64)
     requires reference { book.reference ≡ E.reference }
     requires opening { (book.history ≡ E.opening) × (lots_swept book.history ≡ S.opening) }
