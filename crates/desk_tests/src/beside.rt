@@ -1,19 +1,23 @@
 //! Lines that are answered while a sweep is proposed.
 
-ghost use Rattle.std.specs.Prelude.{All};
+ghost use Rattle.std.specs.Prelude.{◌≡◌, All};
 ghost use Rattle.gu_desk.specs.Seats.{IsNew};
+ghost use Rattle.gu_terms.specs.Histories.{lots_swept};
 
-use crate::opening::{DeskDay, open_and_spend};
+use crate::opening::{annals_of, opened};
 use crate::sample::{A_TRADE, book_of, command_of, group_of};
-use gu_desk::{Desk, EntryLedger, Gate, LotLedger, Seat, SweepError};
+use gu_book::Book;
+use gu_desk::{BlankAnnals, Desk, EntryLedger, Gate, LotLedger, Seat, SweepError};
 use gu_flow::{Proposal, propose};
 use gu_houses::SeatReceipts;
 use gu_terms::{Entry, Group};
 use gu_view::View;
 use std::alloc::{AllocError, Global};
+use std::marker::Brand;
 use std::process::Abort;
 use std::sync::Wait;
 use std::sync::atomic::{AtomicU64, Ordering};
+use std::sync::ledger::Blank;
 use std::thread;
 use std::thread::Threads;
 
@@ -283,27 +287,43 @@ fn submit_all<E: EntryLedger, S: LotLedger, R: Wait + Abort>(
     assert!(rt; submit(rt, alloc, desk, seat, "GIVEUP E1 L1 R1 A1 10"));
 }
 
-impl DeskDay for Row {
-    fn spend<
-        E: EntryLedger + Send + Sync,
-        S: LotLedger + Send + Sync,
-        R: Threads + Wait + Abort + Sync,
-    >(self, rt: &R, alloc: Global, desk: Desk<E, S>, mut seats: Vec<Seat<E, S>>) {
-        let other = kept_seat(alloc, &mut seats).expect(rt, "a seat");
-        let mut seat = seats.pop().expect(rt, "another seat");
-        submit_all(rt, alloc, &desk, &mut seat);
-        let group = group_of("G1").expect(rt, "a group");
-        let counts = Counts::new();
-        let swept = swept_beside(rt, alloc, &desk, (seat, other), group, self, &counts);
-        assert_eq!(rt; swept, Some((self.want, self.seen)), "{}", self.lines);
-        assert_eq!(rt; counts.run_out.load(Ordering::SeqCst), 0, "{}", self.lines);
-    }
+/// Tries a row.
+fn try_row<
+    E: EntryLedger + Send + Sync,
+    S: LotLedger + Send + Sync,
+    R: Threads + Wait + Abort + Sync,
+>(rt: &R, alloc: Global, book: Book, annals: BlankAnnals, entries: Blank, swept: Blank, row: Row)
+    requires reference { book.reference ≡ E.reference }
+    requires opening { (book.history ≡ E.opening) × (lots_swept book.history ≡ S.opening) }
+    requires history { (annals.name ≡ E.history) × (annals.entries ≡ E.opening) }
+    requires entries { (entries.name ≡ E.name) × (entries.parts ≡ E.parts) × (entries.parts ≡ 3) }
+    requires swept { (swept.name ≡ S.name) × (swept.parts ≡ S.parts) × (swept.parts ≡ 3) }
+{
+    let (desk, mut seats) = opened::<E, S, R>(rt, alloc, book, annals, 2, entries, swept);
+    let other = kept_seat(alloc, &mut seats).expect(rt, "a seat");
+    let mut seat = seats.pop().expect(rt, "another seat");
+    submit_all(rt, alloc, &desk, &mut seat);
+    let group = group_of("G1").expect(rt, "a group");
+    let counts = Counts::new();
+    let swept = swept_beside(rt, alloc, &desk, (seat, other), group, row, &counts);
+    assert_eq!(rt; swept, Some((row.want, row.seen)), "{}", row.lines);
+    assert_eq!(rt; counts.run_out.load(Ordering::SeqCst), 0, "{}", row.lines);
 }
 
 #[test]
 fn lines_are_answered_while_a_sweep_is_proposed(rt: HostRuntime) {
+    let alloc = rt.alloc();
     for &row in ROWS {
-        let book = book_of(rt.alloc()).expect(&rt, "a book");
-        open_and_spend(&rt, rt.alloc(), book, 2, row);
+        let book = book_of(alloc).expect(&rt, "a book");
+        let annals = annals_of(&rt, alloc, &book);
+        try_row::<Brand, Brand, HostRuntime>(
+            &rt,
+            alloc,
+            book,
+            annals,
+            Blank::new(3),
+            Blank::new(3),
+            row,
+        );
     }
 }

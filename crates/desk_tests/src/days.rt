@@ -1,14 +1,19 @@
 //! Days at a desk: four firms, two sweepers and two that ask, in threads of their own, and the audit of their receipts.
 
-use crate::opening::{DeskDay, open_and_spend};
+ghost use Rattle.std.specs.Prelude.{◌≡◌};
+ghost use Rattle.gu_terms.specs.Histories.{lots_swept};
+
+use crate::opening::{annals_of, opened};
 use crate::sample::{book_of, command_of, group_of};
 use crate::threads::{Shift, Work, shifts_of};
 use gu_book::Book;
-use gu_desk::{AuditFault, Desk, EntryLedger, LotLedger, Seat, audit};
+use gu_desk::{AuditFault, BlankAnnals, Desk, EntryLedger, LotLedger, Seat, audit};
 use gu_terms::{Done, Entry, Receipt, Reply};
 use std::alloc::{AllocError, Global};
+use std::marker::Brand;
 use std::process::Abort;
 use std::sync::Wait;
+use std::sync::ledger::Blank;
 use std::thread::Threads;
 
 /// The entries before the threads begin: with 47 commands of each of four firms that makes 200.
@@ -183,40 +188,42 @@ fn gather_all<E: EntryLedger, S: LotLedger, R: Abort>(
     receipts
 }
 
-/// Returns the receipts of a morning, of eight threads at the same time after it, and of one more sweep.
-fn receipts_of<
+/// Runs a day at a desk of nine seats: a morning, then eight threads at the same time, then one more sweep.
+fn whole_day<
     E: EntryLedger + Send + Sync,
     S: LotLedger + Send + Sync,
     R: Threads + Wait + Abort + Sync,
->(rt: &R, alloc: Global, desk: &Desk<E, S>, seats: &mut Vec<Seat<E, S>>) -> Vec<Receipt> {
-    let mut morning = morning_of(rt, alloc, desk, seats);
+>(rt: &R, alloc: Global, book: Book, annals: BlankAnnals, entries: Blank, swept: Blank)
+    requires reference { book.reference ≡ E.reference }
+    requires opening { (book.history ≡ E.opening) × (lots_swept book.history ≡ S.opening) }
+    requires history { (annals.name ≡ E.history) × (annals.entries ≡ E.opening) }
+    requires entries { (entries.name ≡ E.name) × (entries.parts ≡ E.parts) × (entries.parts ≡ 10) }
+    requires swept { (swept.name ≡ S.name) × (swept.parts ≡ S.parts) × (swept.parts ≡ 10) }
+{
+    let (desk, mut seats) = opened::<E, S, R>(rt, alloc, book, annals, 9, entries, swept);
+    let mut morning = morning_of(rt, alloc, &desk, &mut seats);
     let works = works(alloc).ok().expect(rt, "memory");
-    let run = shifts_of(rt, alloc, desk, seats, works);
+    let run = shifts_of(rt, alloc, &desk, &mut seats, works);
     let shifts = run.ok().expect(rt, "memory");
     assert_eq!(rt; shifts.len(), 8);
-    morning.sweep(rt, desk, group_of("G1").expect(rt, "a group"), 1);
-    gather_all(rt, alloc, seats, morning, shifts)
-}
-
-/// A day of nine seats, of which eight are of threads.
-#[derive(Drop)]
-struct ThreadedDay;
-
-impl DeskDay for ThreadedDay {
-    fn spend<
-        E: EntryLedger + Send + Sync,
-        S: LotLedger + Send + Sync,
-        R: Threads + Wait + Abort + Sync,
-    >(self, rt: &R, alloc: Global, desk: Desk<E, S>, mut seats: Vec<Seat<E, S>>) {
-        let receipts = receipts_of(rt, alloc, &desk, &mut seats);
-        let book = desk.close(seats).ok().expect(rt, "all seats");
-        assert!(rt; is_swept_at_last(&book));
-        audit_all(rt, alloc, &book, receipts);
-    }
+    morning.sweep(rt, &desk, group_of("G1").expect(rt, "a group"), 1);
+    let receipts = gather_all(rt, alloc, &mut seats, morning, shifts);
+    let book = desk.close(seats).ok().expect(rt, "all seats");
+    assert!(rt; is_swept_at_last(&book));
+    audit_all(rt, alloc, &book, receipts);
 }
 
 #[test]
 fn the_receipts_of_a_day_are_its_entries(rt: HostRuntime) {
-    let book = book_of(rt.alloc()).expect(&rt, "a book");
-    open_and_spend(&rt, rt.alloc(), book, 9, ThreadedDay);
+    let alloc = rt.alloc();
+    let book = book_of(alloc).expect(&rt, "a book");
+    let annals = annals_of(&rt, alloc, &book);
+    whole_day::<Brand, Brand, HostRuntime>(
+        &rt,
+        alloc,
+        book,
+        annals,
+        Blank::new(10),
+        Blank::new(10),
+    );
 }

@@ -13,6 +13,40 @@ use std::sync::Wait;
 use std::sync::ledger::Blank;
 use std::thread::Threads;
 
+/// Returns the history of a book, for a desk over it.
+pub fn annals_of(rt: &impl Abort, alloc: Global, book: &Book) -> BlankAnnals
+    ensures { result.entries ≡ book.now.history }
+{
+    BlankAnnals::of(alloc, book).ok().expect(rt, "memory")
+}
+
+/// Returns a desk over a book, with its seats.
+pub fn opened<E: EntryLedger, S: LotLedger, R: Abort>(
+    rt: &R,
+    alloc: Global,
+    book: Book,
+    annals: BlankAnnals,
+    seats: usize,
+    entries: Blank,
+    swept: Blank,
+) -> (Desk<E, S>, Vec<Seat<E, S>>)
+    requires seats { (1 ≤ seats) × (seats ≤ 64) }
+    requires reference { book.reference ≡ E.reference }
+    requires opening { (book.history ≡ E.opening) × (lots_swept book.history ≡ S.opening) }
+    requires history { (annals.name ≡ E.history) × (annals.entries ≡ E.opening) }
+    requires entries { (entries.name ≡ E.name) × (entries.parts ≡ E.parts) × (entries.parts ≡ seats + 1) }
+    requires swept { (swept.name ≡ S.name) × (swept.parts ≡ S.parts) × (swept.parts ≡ seats + 1) }
+    ensures { All (IsNew E.opening) result.1.items }
+{
+    let made: Result<(Desk<E, S>, Vec<Seat<E, S>>), (AllocError, Book)> = Desk::new(
+        alloc, book, annals, seats, entries, swept,
+    );
+    match made {
+        Ok(made) => made,
+        Err(_) => panic!(rt; "no memory for a desk"),
+    }
+}
+
 /// What a test does at a desk, from its seats, until it is closed.
 pub trait DeskDay {
     /// Spends the day at a desk.
@@ -47,12 +81,7 @@ fn spend_from<
     requires entries { (entries.name ≡ E.name) × (entries.parts ≡ E.parts) × (entries.parts ≡ seats + 1) }
     requires swept { (swept.name ≡ S.name) × (swept.parts ≡ S.parts) × (swept.parts ≡ seats + 1) }
 {
-    let made: Result<(Desk<E, S>, Vec<Seat<E, S>>), (AllocError, Book)> = Desk::new(
-        alloc, book, annals, seats, entries, swept,
-    );
-    let Ok((desk, seats)) = made else {
-        panic!(rt; "no memory for a desk");
-    };
+    let (desk, seats) = opened::<E, S, R>(rt, alloc, book, annals, seats, entries, swept);
     day.spend(rt, alloc, desk, seats);
 }
 
@@ -66,7 +95,7 @@ pub fn open_and_spend<D: DeskDay, R: Threads + Wait + Abort + Sync>(
 )
     requires { (1 ≤ seats) × (seats ≤ 64) }
 {
-    let annals = BlankAnnals::of(alloc, &book).ok().expect(rt, "memory");
+    let annals = annals_of(rt, alloc, &book);
     let parts = seats as u64 + 1;
     spend_from::<D, Brand, Brand, R>(
         rt,
