@@ -1,7 +1,8 @@
 //! Values of words: numbers, names, keys, sides, lots, prices, days and workers.
 
-ghost use Rattle.std.specs.Prelude.{◌≡◌, ◌≢◌, ℕ, ℤ, MatchOption};
+ghost use Rattle.std.specs.Prelude.{◌≡◌, ◌≢◌, ◌≤◌, ℕ, ℤ, MatchOption, length};
 ghost use Rattle.std.specs.Option.{option_map};
+ghost use Rattle.std.specs.Str.Parse.{AllDigits, digits_value};
 ghost use Rattle.gu_terms.specs.Days.{WritesDay};
 ghost use Rattle.gu_terms.specs.NumberText.{MeansLots, MeansPrice};
 ghost use Rattle.gu_terms.specs.declared.alloc_reject.AllocReject.{AllocReject as RejectOf};
@@ -9,40 +10,44 @@ ghost use Rattle.gu_terms.specs.declared.day.Day.{Day as DayOf};
 ghost use Rattle.gu_terms.specs.declared.side.Side.{Side as SideOf};
 ghost use Rattle.gu_text.specs.ScriptForms.{worker_said, WritesReject};
 ghost use Rattle.gu_text.specs.Scripts.{side_word};
-ghost use Rattle.gu_text.specs.SheetLines.{is_number, key_said, number_of, offer_no_of, name_of};
+ghost use Rattle.gu_text.specs.SheetLines.{key_said, number_of, offer_no_of, name_of};
 
 use gu_terms::{
-    AllocReject, Day, LimitKey, Lots, Name, OfferNo, Price, Side, are_digits, read_lots,
-    read_price, value_of,
+    AllocReject, Day, LimitKey, Lots, Name, OfferNo, Price, Side, read_lots, read_price,
 };
 use gu_world::Worker;
 
 /// The most digits in a whole number.
 const MOST_DIGITS: usize = 12;
 
-/// The highest number with this many digits.
-const MOST: u64 = 999_999_999_999;
-
 /// The last worker that scripts can name.
 const LAST_WORKER: u64 = 62;
 
-/// Returns whether a word is one to twelve digits.
-fn is_number(word: &[u8]) -> bool
-    ensures { result ≡ is_number word.now }
+/// Returns the value of a word of at most twelve bytes, or None if one of them isn't a digit. It reads each byte once.
+#[inline(always)]
+fn digits_said(word: &[u8]) -> Option<u64>
+    requires { length word.now ≤ 12 }
+    ensures { MatchOption result (¬ AllDigits 10 word.now) (λ n. AllDigits 10 word.now × (n ≡ digits_value 10 word.now)) }
 {
-    !word.is_empty() && word.len() <= MOST_DIGITS && are_digits(word)
+    let mut value = 0;
+    for place in 0..word.len() {
+        let byte = word[place];
+        if !byte.is_ascii_digit() {
+            return None;
+        }
+        value = 10 * value + u64::from(byte - b'0');
+    }
+    Some(value)
 }
 
 /// Returns the whole number in a word.
-#[tactic(auto, using(crate::proofs::NumberLemmas::number_digits))]
 pub(crate) fn number_of(word: &[u8]) -> Option<u64>
     ensures { result ≡ number_of word.now }
 {
-    if is_number(word) {
-        value_of(word, MOST)
-    } else {
-        None
+    if word.is_empty() || MOST_DIGITS < word.len() {
+        return None;
     }
+    digits_said(word)
 }
 
 /// Returns the offer number in a word.

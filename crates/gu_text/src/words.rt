@@ -1,6 +1,6 @@
 //! The words of a line.
 
-ghost use Rattle.std.specs.Prelude.{◌≡◌, ◌≢◌, ◌<◌, ◌≤◌, ◌==◌, ◌↔◌, ◌∷◌, [], ℕ, true, false, if◌then◌else◌, length, slice_index_or, IfSome, IsTrue, MatchOption};
+ghost use Rattle.std.specs.Prelude.{◌≡◌, ◌≢◌, ◌+◌, ◌<◌, ◌≤◌, ◌==◌, ◌↔◌, ◌∷◌, [], ℕ, true, false, if◌then◌else◌, length, slice_index_or, IfSome, IsTrue, MatchOption};
 ghost use Rattle.std.specs.Int.{trailing_zeros, w64};
 ghost use Rattle.std.specs.List.{position};
 ghost use Rattle.gu_text.specs.Words.{is_blank, is_blank_at, is_ragged, words_of};
@@ -51,19 +51,6 @@ fn without_blanks(text: &[u8]) -> &[u8]
     }
 }
 
-/// Returns the position of the first space, looking byte by byte.
-#[inline(never)]
-fn any_blank_place(text: &[u8]) -> Option<usize>
-    ensures { result ≡ position is_blank text.now }
-{
-    for place in 0..text.len() {
-        if text[place] == b' ' {
-            return Some(place);
-        }
-    }
-    None
-}
-
 /// Returns the index of the lowest set bit, or 8 if none is set.
 #[inline(always)]
 fn lowest_bit(mask: u64) -> usize
@@ -76,15 +63,48 @@ fn lowest_bit(mask: u64) -> usize
     }
 }
 
-/// Returns how many of the first eight bytes come before the first space, comparing all eight at once.
+/// Returns how many of the eight bytes from a position on come before the first space among them, comparing all eight at once.
 #[inline(always)]
-fn run_in_eight(text: &[u8]) -> usize
-    requires { 8 ≤ length text.now }
-    ensures before { (k : ℕ) → k < result → is_blank (slice_index_or text.now k 0) ≡ false }
-    ensures stops { result < 8 → is_blank (slice_index_or text.now result 0) ≡ true }
+fn run_in_eight(text: &[u8], place: usize) -> usize
+    requires { place + 8 ≤ length text.now }
+    ensures before { (k : ℕ) → place ≤ k → k < place + result → is_blank (slice_index_or text.now k 0) ≡ false }
+    ensures stops { result < 8 → is_blank (slice_index_or text.now (place + result) 0) ≡ true }
+    ensures within { result ≤ 8 }
 {
-    let blanks = u8x8::from_slice(text).simd_eq(u8x8::splat(b' '));
+    let blanks = u8x8::from_slice(&text[place..]).simd_eq(u8x8::splat(b' '));
     lowest_bit(blanks.to_bitmask())
+}
+
+/// Returns the position of the first space in a short text.
+#[inline(never)]
+fn short_blank_place(text: &[u8]) -> Option<usize>
+    ensures { result ≡ position is_blank text.now }
+{
+    for place in 0..text.len() {
+        if text[place] == b' ' {
+            return Some(place);
+        }
+    }
+    None
+}
+
+/// Returns the position of the first space in a text of eight bytes or more, eight bytes at a time. The last eight may overlap those before.
+#[inline(never)]
+fn long_blank_place(text: &[u8]) -> Option<usize>
+    requires { 8 ≤ length text.now }
+    ensures { result ≡ position is_blank text.now }
+{
+    let last = text.len() - 8;
+    let mut place = 0;
+    'eights: while place < last {
+        let run = run_in_eight(text, place);
+        if run < 8 {
+            return Some(place + run);
+        }
+        place += 8;
+    }
+    let run = run_in_eight(text, last);
+    if run < 8 { Some(last + run) } else { None }
 }
 
 /// Returns the position of the first space. Most words have fewer than eight bytes, which are compared at once.
@@ -92,13 +112,14 @@ fn run_in_eight(text: &[u8]) -> usize
 fn blank_place(text: &[u8]) -> Option<usize>
     ensures { result ≡ position is_blank text.now }
 {
-    if text.len() >= 8 {
-        let run = run_in_eight(text);
-        if run < 8 {
-            return Some(run);
-        }
+    if text.len() < 8 {
+        return short_blank_place(text);
     }
-    any_blank_place(text)
+    let run = run_in_eight(text, 0);
+    if run < 8 {
+        return Some(run);
+    }
+    long_blank_place(text)
 }
 
 #[tactic(auto, using(crate::proofs::WordLemmas::word_in_front, crate::proofs::WordLemmas::word_alone))]

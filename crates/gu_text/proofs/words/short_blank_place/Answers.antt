@@ -1,7 +1,7 @@
 use Rattle.std.proofs.Common.{ap, arith}
 use Rattle.gu_text.specs.Words.{is_blank}
 use Rattle.gu_text.proofs.FirstBytes.{first_place, no_place}
-use Rattle.gu_text.proofs.words.any_blank_place.Goals as goal
+use Rattle.gu_text.proofs.words.short_blank_place.Goals as goal
 
 pub returns-then-text-place-eq32 : goal.returns-then-text-place-eq32
 returns-then-text-place-eq32 c =
