@@ -336,33 +336,23 @@ impl<E: EntryLedger> Annals<E> {
         *front = self.front(count);
     }
 
-    /// Adds the entry of a command, and extends a front to the whole history, which then has this number of entries.
-    pub(crate) fn asked(
-        &mut self,
-        front: &mut Front<E>,
-        command: &Command,
-        reply: &Reply,
-        count: usize,
-    )
+    /// Adds the entry of a command, and returns the whole history, which then has this number of entries, as a front.
+    pub(crate) fn asked(&mut self, command: &Command, reply: &Reply, count: usize) -> Front<E>
         requires { count ≡ length self.old + 1 }
-        ensures begins { IsPrefix front.old self.old }
-        ensures front { front.new ≡ self.new }
+        ensures front { result ≡ self.new }
         ensures added { self.new ≡ self.old ++ Entry.Asked command.now reply.now ∷ [] }
     {
-        self.compare(front);
         self.add_asked::<Brand>(command, reply);
-        *front = self.front(count);
+        self.front(count)
     }
 
-    /// Adds the entry of a proposal's sweep, and extends a front to the whole history, which then has this number of entries.
-    pub(crate) fn swept(&mut self, front: &mut Front<E>, proposal: &Proposal, count: usize)
+    /// Adds the entry of a proposal's sweep, and returns the whole history, which then has this number of entries, as a front.
+    pub(crate) fn swept(&mut self, proposal: &Proposal, count: usize) -> Front<E>
         requires { count ≡ length self.old + 1 }
-        ensures begins { IsPrefix front.old self.old }
-        ensures front { front.new ≡ self.new }
+        ensures front { result ≡ self.new }
         ensures added { self.new ≡ self.old ++ Entry.Swept (sweep_of proposal.now) ∷ [] }
     {
-        self.compare(front);
         self.add_sweep::<Brand>(proposal);
-        *front = self.front(count);
+        self.front(count)
     }
 }

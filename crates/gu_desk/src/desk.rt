@@ -17,8 +17,8 @@ ghost use Rattle.gu_desk.specs.Sweeps.{IsSweepRefused, IsViewBefore, Sweeps};
 
 use crate::annals::BlankAnnals;
 use crate::error::{CloseFault, SweepError};
-use crate::gate::Gate;
-use crate::ledger::{EntryLedger, LotLedger};
+use crate::gate::{Gate, SweepPlan};
+use crate::ledger::{DeskLedger, EntryLedger, LotLedger};
 use crate::locked_book::{Entered, LockedBook};
 use crate::seat::Seat;
 use gu_book::{
@@ -132,7 +132,12 @@ impl<E: EntryLedger, S: LotLedger> Desk<E, S> {
             );
             places.push_reserved(seat);
         }
-        let book = LockedBook::opened(book, annals, entries, swept, own, own_swept);
+        let entries = DeskLedger { book: entries, own };
+        let swept = DeskLedger {
+            book: swept,
+            own: own_swept,
+        };
+        let book = LockedBook::opened(book, annals, entries, swept);
         let desk = Desk {
             locked: Mutex::new(book),
             board,
@@ -260,66 +265,52 @@ impl<E: EntryLedger, S: LotLedger> Desk<E, S> {
         Ok((number, held.informs(number)))
     }
 
-    /// Sweeps the group of a view as the seat sees it: publishes the view, has the gate propose from a copy of it, and commits the
-    /// proposal. It may wait for the lock and to publish.
-    fn sweep_view<R: Wait, G: Gate>(
+    /// Publishes a view, for which it may wait, and has a gate propose from a copy of it.
+    fn propose<R: Wait, G: Gate>(
+        &self,
+        rt: &R,
+        view: View,
+        gate: &G,
+    ) -> Result<(ViewToken, Proposal), AllocError>
+        requires { IsNested view }
+        ensures here { IfOk result (λ r. Shows self.now.board r.0) }
+        ensures view { IfOk result (λ r. (r.0.value ≡ view) × (r.1.view ≡ view)) }
+    {
+        let Ok(token) = self.board.publish(rt, view) else {
+            return Err(AllocError);
+        };
+        let view = self.board.read(&token).copy()?;
+        let Ok(proposal) = gate.propose(self.alloc, view) else {
+            return Err(AllocError);
+        };
+        Ok((token, proposal))
+    }
+
+    /// Tries a sweep once, as `sweep_once` does, and returns the committed sweep.
+    fn try_sweep<R: Wait, G: Gate>(
         &self,
         rt: &R,
         seat: &mut Seat<E, S>,
-        view: View,
-        gate: &G,
-    ) -> Result<Committed, SeenError>
-        requires known { is_group E.reference view.group ≡ true }
-        requires seen { view ≡ group_view E.reference seat.old.front view.group }
-        requires nested { IsNested view }
-        ensures sweeps { IfOk result (λ c. Sweeps view.group c.receipt.entry) }
+        plan: &SweepPlan<'_, G>,
+    ) -> Result<Committed, SweepError>
+        ensures sweeps { IfOk result (λ c. Sweeps plan.now.group c.receipt.entry) }
         ensures entered { IfOk result (λ c. Enters E.reference seat.old c.receipt seat.new) }
         ensures later { IfOk result (λ c. length E.opening + seat.old.entries < c.receipt.number) }
         ensures informs { IfOk result (λ c. HoldsInformed (book_seen E.reference seat.new) c.receipt.number c.informs) }
         ensures here { IfOk result (λ c. Shows self.now.board c.view) }
-        ensures view { IfOk result (λ c. c.view.value ≡ view) }
         ensures before { IfOk result (λ c. IsViewBefore E.reference seat.new.front c.view.value) }
-        ensures refused { IfErr result (λ why.
-            IsSweepRefused E.reference seat.old view.group (refusal_of_second_hold why) seat.new) }
+        ensures group { IfOk result (λ c. c.view.value.group ≡ plan.now.group) }
+        ensures unknown { IsErrOf result SweepError.UnknownGroup ↔ (is_group E.reference plan.now.group ≡ false) }
+        ensures refused { IfErr result (λ why. IsSweepRefused E.reference seat.old plan.now.group why seat.new) }
     {
-        let Ok(token) = self.board.publish(rt, view) else {
-            return Err(SeenError::Memory);
-        };
-        let view = self.board.read(&token).copy()?;
-        let Ok(proposal) = gate.propose(self.alloc, view) else {
-            return Err(SeenError::Memory);
-        };
+        let view = self.view(rt, seat, &plan.group)?;
+        let (token, proposal) = self.propose(rt, view, plan.gate)?;
         let (number, informs) = self.commit(rt, seat, &proposal)?;
         Ok(Committed {
             receipt: swept_receipt(number, proposal),
             informs,
             view: token,
         })
-    }
-
-    /// Sweeps a group once, as `sweep_once` does, and returns the committed sweep.
-    fn try_sweep<R: Wait, G: Gate>(
-        &self,
-        rt: &R,
-        seat: &mut Seat<E, S>,
-        group: &Group,
-        gate: &G,
-    ) -> Result<Committed, SweepError>
-        ensures sweeps { IfOk result (λ c. Sweeps group.now c.receipt.entry) }
-        ensures entered { IfOk result (λ c. Enters E.reference seat.old c.receipt seat.new) }
-        ensures later { IfOk result (λ c. length E.opening + seat.old.entries < c.receipt.number) }
-        ensures informs { IfOk result (λ c. HoldsInformed (book_seen E.reference seat.new) c.receipt.number c.informs) }
-        ensures here { IfOk result (λ c. Shows self.now.board c.view) }
-        ensures before { IfOk result (λ c. IsViewBefore E.reference seat.new.front c.view.value) }
-        ensures group { IfOk result (λ c. c.view.value.group ≡ group.now) }
-        ensures unknown { IsErrOf result SweepError.UnknownGroup ↔ (is_group E.reference group.now ≡ false) }
-        ensures refused { IfErr result (λ why. IsSweepRefused E.reference seat.old group.now why seat.new) }
-    {
-        let view = self.view(rt, seat, group)?;
-        match self.sweep_view(rt, seat, view, gate) {
-            Ok(committed) => Ok(committed),
-            Err(why) => Err(SweepError::from(why)),
-        }
     }
 
     /// Sweeps a group: takes its view in one hold of the lock and publishes it, has the gate propose from a copy while no lock is held, and
@@ -338,21 +329,23 @@ impl<E: EntryLedger, S: LotLedger> Desk<E, S> {
         ensures unknown { IsErrOf result SweepError.UnknownGroup ↔ (is_group E.reference group ≡ false) }
         ensures refused { IfErr result (λ why. IsSweepRefused E.reference seat.old group why seat.new) }
     {
-        Ok(receipt_of(self.try_sweep(rt, seat, &group, gate)?))
+        let plan = SweepPlan {
+            group,
+            tries: 1,
+            gate,
+        };
+        Ok(receipt_of(self.try_sweep(rt, seat, &plan)?))
     }
 
-    /// Sweeps a group, trying again as long as the answer is Stale, at most `tries` times in all, and returns the committed sweep. It may
-    /// wait as `sweep_once` does.
+    /// Sweeps a group, trying again as long as the answer is Stale, and returns the committed sweep. It may wait as `sweep_once` does.
     pub fn sweep<R: Wait, G: Gate>(
         &self,
         rt: &R,
         seat: &mut Seat<E, S>,
-        group: &Group,
-        tries: u32,
-        gate: &G,
+        plan: &SweepPlan<'_, G>,
     ) -> Result<Committed, SweepError>
-        requires { (1 ≤ tries) × (tries ≤ 1000) }
-        ensures sweeps { IfOk result (λ c. Sweeps group.now c.receipt.entry) }
+        requires { (1 ≤ plan.now.tries) × (plan.now.tries ≤ 1000) }
+        ensures sweeps { IfOk result (λ c. Sweeps plan.now.group c.receipt.entry) }
         ensures entered { IfOk result (λ c. Enters E.reference seat.old c.receipt seat.new) }
         ensures later { IfOk result (λ c. length E.opening + seat.old.entries < c.receipt.number) }
         ensures informs { IfOk result (λ c. HoldsInformed (book_seen E.reference seat.new) c.receipt.number c.informs) }
@@ -360,17 +353,17 @@ impl<E: EntryLedger, S: LotLedger> Desk<E, S> {
         // The view is on this desk's board, and is the group's by the history before the sweep.
         ensures here { IfOk result (λ c. Shows self.now.board c.view) }
         ensures before { IfOk result (λ c. IsViewBefore E.reference seat.new.front c.view.value) }
-        ensures group { IfOk result (λ c. c.view.value.group ≡ group.now) }
-        ensures unknown { IsErrOf result SweepError.UnknownGroup ↔ (is_group E.reference group.now ≡ false) }
-        ensures refused { IfErr result (λ why. IsSweepRefused E.reference seat.old group.now why seat.new) }
+        ensures group { IfOk result (λ c. c.view.value.group ≡ plan.now.group) }
+        ensures unknown { IsErrOf result SweepError.UnknownGroup ↔ (is_group E.reference plan.now.group ≡ false) }
+        ensures refused { IfErr result (λ why. IsSweepRefused E.reference seat.old plan.now.group why seat.new) }
     {
-        for _again in 1..tries {
-            match self.try_sweep(rt, seat, group, gate) {
+        for _again in 1..plan.tries {
+            match self.try_sweep(rt, seat, plan) {
                 Err(SweepError::Stale { .. }) => {}
                 answer => return answer,
             }
         }
-        self.try_sweep(rt, seat, group, gate)
+        self.try_sweep(rt, seat, plan)
     }
 
     /// Sweeps a group, trying again as long as the answer is Stale, at most `tries` times in all. It may wait as `sweep_once` does.
@@ -389,7 +382,8 @@ impl<E: EntryLedger, S: LotLedger> Desk<E, S> {
         ensures unknown { IsErrOf result SweepError.UnknownGroup ↔ (is_group E.reference group ≡ false) }
         ensures refused { IfErr result (λ why. IsSweepRefused E.reference seat.old group why seat.new) }
     {
-        Ok(receipt_of(self.sweep(rt, seat, &group, tries, gate)?))
+        let plan = SweepPlan { group, tries, gate };
+        Ok(receipt_of(self.sweep(rt, seat, &plan)?))
     }
 
     /// Closes the desk and returns its book, once all seats are back.

@@ -5,6 +5,7 @@ ghost use Rattle.gu_flow.specs.Proposals.{IsSound};
 ghost use Rattle.gu_view.specs.View.{IsNested};
 
 use gu_flow::{Proposal, propose};
+use gu_terms::Group;
 use gu_view::View;
 use std::alloc::{AllocError, Global};
 
@@ -25,4 +26,12 @@ impl Gate for Direct {
     fn propose(&self, alloc: Global, view: View) -> Result<Proposal, (AllocError, View)> {
         propose(alloc, view)
     }
+}
+
+/// A plan for a sweep: its group, the most tries, and the gate that proposes.
+#[derive(Drop)]
+pub struct SweepPlan<'g, G: Gate> {
+    pub group: Group,
+    pub tries: u32,
+    pub gate: &'g G,
 }

@@ -1,7 +1,7 @@
 //! The history and ledgers that a desk's type names.
 
 use std::marker::Brand;
-use std::sync::ledger::Ledger;
+use std::sync::ledger::{Book, Ledger, Share};
 
 /// The ledger of the entries made from a desk's seats. It also names the desk's reference, its one history, and the entries that this
 /// history has when the desk is opened.
@@ -40,4 +40,11 @@ pub trait LotLedger: Ledger {
 
 impl LotLedger for Brand {
     ghost opening = { 0 };
+}
+
+/// A ledger of a desk. One part of it stays with the desk, so that the seats never have all parts before the desk is closed.
+#[derive(Drop)]
+pub(crate) struct DeskLedger<L: Ledger> {
+    pub(crate) book: Book<L>,
+    pub(crate) own: Share<L>,
 }

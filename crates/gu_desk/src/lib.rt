@@ -20,7 +20,7 @@ pub use annals::{BlankAnnals, Front};
 pub use auditing::{audit, audit_kept};
 pub use desk::{Committed, Desk};
 pub use error::{AuditFault, CloseFault, SweepError};
-pub use gate::{Direct, Gate};
+pub use gate::{Direct, Gate, SweepPlan};
 pub use gu_book::{Answer, AskError, FirmFilter, FirmPlace, SeenError};
 pub use kept_receipts::KeptReceipts;
 pub use ledger::{EntryLedger, LotLedger};

@@ -18,7 +18,7 @@ ghost use Rattle.gu_desk.specs.Sweeps.{IsSweepRefused};
 
 use crate::annals::{Annals, Front};
 use crate::copying::copy_entries;
-use crate::ledger::{EntryLedger, LotLedger};
+use crate::ledger::{DeskLedger, EntryLedger, LotLedger};
 use crate::question::Question;
 use crate::seat::{Seat, gather};
 use gu_book::{Answer, AskError, Book, EnterError, FirmFilter, SeenError};
@@ -27,7 +27,6 @@ use gu_terms::{Command, Entry, FirmId, Group, KeptSweep, Query, Reply, Stretch};
 use gu_view::View;
 use std::alloc::AllocError;
 use std::marker::Model;
-use std::sync::ledger::{Book as LedgerBook, Share};
 
 /// The number of an entry and its reply, a set that holds every firm notified of it, and a batch of notices, if one was asked for.
 #[derive(Drop)]
@@ -40,17 +39,14 @@ pub struct Entered {
 
 /// The contents of a desk's lock, for the holder of the lock. To a contract it is the desk's one history so far.
 ///
-/// Its ledgers total the entries made and the lots swept since the desk was opened. One part of each ledger stays here, so that the seats
-/// never have all parts before the desk is closed.
+/// Its ledgers total the entries made and the lots swept since the desk was opened.
 pub struct LockedBook<E: EntryLedger, S: LotLedger> {
     book: Book,
     annals: Annals<E>,
     /// The history that the desk was opened with.
     opening: Front<E>,
-    entries: LedgerBook<E>,
-    swept: LedgerBook<S>,
-    own: Share<E>,
-    own_swept: Share<S>,
+    entries: DeskLedger<E>,
+    swept: DeskLedger<S>,
 }
 
 // By hand, so that each exit of a caller drops it with one call.
@@ -62,16 +58,12 @@ impl<E: EntryLedger, S: LotLedger> Drop for LockedBook<E, S> {
             opening,
             entries,
             swept,
-            own,
-            own_swept,
         } = self;
         drop(book);
         drop(annals);
         drop(opening);
         drop(entries);
         drop(swept);
-        drop(own);
-        drop(own_swept);
     }
 }
 
@@ -87,9 +79,9 @@ impl<E: EntryLedger, S: LotLedger> Model for LockedBook<E, S> {
     // The book is for the desk's reference; its history is the one that the keeper knows; it has as many entries, and as many swept lots,
     // as the desk was opened with plus those that the ledgers count.
     ghost invariant = { λ b. (b.book.reference ≡ E.reference) × (b.annals ≡ b.book.history) × (b.opening ≡ E.opening)
-        × (length b.book.history ≡ length E.opening + b.entries.total)
-        × (lots_swept b.book.history ≡ S.opening + b.swept.total)
-        × (b.own.parts ≡ 1) × (b.own.amount ≡ 0) × (b.own_swept.parts ≡ 1) × (b.own_swept.amount ≡ 0) };
+        × (length b.book.history ≡ length E.opening + b.entries.book.total)
+        × (lots_swept b.book.history ≡ S.opening + b.swept.book.total)
+        × (b.entries.own.parts ≡ 1) × (b.entries.own.amount ≡ 0) × (b.swept.own.parts ≡ 1) × (b.swept.own.amount ≡ 0) };
 }
 
 impl<E: EntryLedger, S: LotLedger> LockedBook<E, S> {
@@ -97,16 +89,14 @@ impl<E: EntryLedger, S: LotLedger> LockedBook<E, S> {
     pub(crate) fn opened(
         mut book: Book,
         mut annals: Annals<E>,
-        entries: LedgerBook<E>,
-        swept: LedgerBook<S>,
-        own: Share<E>,
-        own_swept: Share<S>,
+        entries: DeskLedger<E>,
+        swept: DeskLedger<S>,
     ) -> Self
         requires told { annals ≡ book.history }
         requires reference { book.reference ≡ E.reference }
         requires opening { (book.history ≡ E.opening) × (lots_swept book.history ≡ S.opening) }
-        requires entries { (entries.total ≡ 0) × (own.amount ≡ 0) × (own.parts ≡ 1) }
-        requires swept { (swept.total ≡ 0) × (own_swept.amount ≡ 0) × (own_swept.parts ≡ 1) }
+        requires entries { (entries.book.total ≡ 0) × (entries.own.amount ≡ 0) × (entries.own.parts ≡ 1) }
+        requires swept { (swept.book.total ≡ 0) × (swept.own.amount ≡ 0) × (swept.own.parts ≡ 1) }
     {
         // Records the recipients of the opening's entries before there is a lock to hold.
         let _ = book.note_recipients();
@@ -117,8 +107,6 @@ impl<E: EntryLedger, S: LotLedger> LockedBook<E, S> {
             opening,
             entries,
             swept,
-            own,
-            own_swept,
         }
     }
 
@@ -128,7 +116,7 @@ impl<E: EntryLedger, S: LotLedger> LockedBook<E, S> {
         ensures front { seat.new.front ≡ self.old }
         ensures same { self.new ≡ self.old }
     {
-        self.entries.audit(&mut seat.entries);
+        self.entries.book.audit(&mut seat.entries);
         let seen = self.book.history().len();
         self.annals.complete(&mut seat.front, seen);
     }
@@ -148,7 +136,7 @@ impl<E: EntryLedger, S: LotLedger> LockedBook<E, S> {
         ensures refused { IfErr result (λ why. IsRefused E.reference seat.old why seat.new) }
         ensures same { OnErr result (self.new ≡ self.old) }
     {
-        self.entries.audit(&mut seat.entries);
+        self.entries.book.audit(&mut seat.entries);
         let reply = match self.book.reply_to(command) {
             Ok(reply) => reply,
             Err(EnterError::Memory) => return Err(EnterError::Memory),
@@ -158,8 +146,10 @@ impl<E: EntryLedger, S: LotLedger> LockedBook<E, S> {
             }
         };
         let number = self.book.history().len();
-        self.annals.asked(&mut seat.front, command, &reply, number);
-        self.entries.add(&mut seat.entries, 1);
+        let front = &mut seat.front;
+        self.annals.compare(front);
+        *front = self.annals.asked(command, &reply, number);
+        self.entries.book.add(&mut seat.entries, 1);
         Ok((number as u64, reply))
     }
 
@@ -313,7 +303,7 @@ impl<E: EntryLedger, S: LotLedger> LockedBook<E, S> {
             IsSweepRefused E.reference seat.old proposal.now.view.group (refusal_of_second_hold why) seat.new) }
         ensures same { OnErr result (self.new ≡ self.old) }
     {
-        self.entries.audit(&mut seat.entries);
+        self.entries.book.audit(&mut seat.entries);
         self.annals.compare(&mut seat.front);
         // Shows the prover: the history is legal.
         let _ = self.book.history();
@@ -324,10 +314,9 @@ impl<E: EntryLedger, S: LotLedger> LockedBook<E, S> {
                 return Err(why);
             }
         };
-        self.annals
-            .swept(&mut seat.front, proposal, number as usize);
-        self.entries.add(&mut seat.entries, 1);
-        self.swept.add(&mut seat.swept, proposal.lots());
+        seat.front = self.annals.swept(proposal, number as usize);
+        self.entries.book.add(&mut seat.entries, 1);
+        self.swept.book.add(&mut seat.swept, proposal.lots());
         // Shows the prover: the history is legal.
         let _ = self.book.history();
         Ok(number)
@@ -355,21 +344,20 @@ impl<E: EntryLedger, S: LotLedger> LockedBook<E, S> {
     }
 
     /// Appends copies of the entries after a front to a list, at most `most`, and extends the front by those copied, even if an allocation
-    /// fails. `place` is the number of entries in the front.
+    /// fails.
     pub fn entries_from(
         &mut self,
         front: &mut Front<E>,
-        place: usize,
         most: usize,
         entries: &mut Vec<Entry>,
     ) -> Result<(), AllocError>
-        requires { place ≡ length front.old }
         ensures grown { (more : List EntryOf) × (front.new ≡ front.old ++ more) × (entries.new.items ≡ entries.old.items ++ more) }
-        ensures all { OnOk result (front.new ≡ take (place + most) self.new) }
-        ensures whole { OnOk result (length front.new < place + most → front.new ≡ self.new) }
+        ensures all { OnOk result (front.new ≡ take (length front.old + most) self.new) }
+        ensures whole { OnOk result (length front.new < length front.old + most → front.new ≡ self.new) }
         ensures within { length front.new ≤ 1000000 }
         ensures same { self.new ≡ self.old }
     {
+        let place = front.count();
         self.annals.compare(front);
         let history = self.book.history();
         let end = place + most.min(history.len() - place);
@@ -394,12 +382,10 @@ impl<E: EntryLedger, S: LotLedger> LockedBook<E, S> {
             mut opening,
             mut entries,
             mut swept,
-            mut own,
-            mut own_swept,
         } = self;
-        gather(&mut annals, &mut own, &mut own_swept, seats);
-        entries.audit(&mut own);
-        swept.audit(&mut own_swept);
+        gather(&mut annals, &mut entries.own, &mut swept.own, seats);
+        entries.book.audit(&mut entries.own);
+        swept.book.audit(&mut swept.own);
         annals.compare(&mut opening);
         book
     }

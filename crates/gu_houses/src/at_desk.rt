@@ -6,10 +6,10 @@ ghost use Rattle.gu_houses.specs.SeatHouse.{SeatAnswers, SeatTells, failure_of};
 
 use crate::informs::Informs;
 use crate::orders::Orders;
-use crate::seat_receipts::SeatReceipts;
+use crate::seat_receipts::{DeskAccess, SeatReceipts};
 use crate::tally::Tally;
 use gu_book::{Answer, AskError, EnterError};
-use gu_desk::{Desk, EntryLedger, FirmMessage, LotLedger, Origin, Question};
+use gu_desk::{EntryLedger, FirmMessage, LotLedger, Origin, Question};
 use gu_engine::{Answered, Ask, House};
 use gu_msgs::Request;
 use gu_session::{Failure, Outcome};
@@ -54,14 +54,19 @@ fn origin_of(connection: u64, asking: Asking) -> Origin
     }
 }
 
+/// What a seat works with: access to its desk, the counts of what is done there, and what informs firms of its entries.
+#[derive(Drop)]
+pub struct DeskTools<'a, E: EntryLedger, S: LotLedger, R, I> {
+    pub access: DeskAccess<'a, E, S, R>,
+    pub tally: &'a Tally,
+    pub informs: &'a I,
+}
+
 /// A seat at a desk, as a house. To a contract it is the seat.
 ///
 /// The notices that follow a command are fetched with it, in one hold of the lock. After the hold, other firms are informed of the entry.
 pub struct AtDesk<'a, 'o, E: EntryLedger, S: LotLedger, R: Wait, I: Informs> {
-    rt: &'a R,
-    desk: &'a Desk<E, S>,
-    tally: &'a Tally,
-    informs: &'a I,
+    tools: DeskTools<'a, E, S, R, I>,
     /// The connection that it answers.
     connection: u64,
     seat: SeatReceipts<E, S>,
@@ -85,23 +90,17 @@ impl<'a, 'o, E: EntryLedger, S: LotLedger, R: Wait, I: Informs> Model
 }
 
 impl<'a, 'o, E: EntryLedger, S: LotLedger, R: Wait, I: Informs> AtDesk<'a, 'o, E, S, R, I> {
-    /// Returns the house of a seat at a desk, which informs firms of its entries through `informs` and counts its give-ups towards these
-    /// orders. It answers connection 0 until it resumes another.
+    /// Returns the house of a seat at a desk, which counts its give-ups towards these orders. It answers connection 0 until it resumes
+    /// another.
     pub fn new(
-        rt: &'a R,
-        desk: &'a Desk<E, S>,
-        tally: &'a Tally,
-        informs: &'a I,
+        tools: DeskTools<'a, E, S, R, I>,
         seat: SeatReceipts<E, S>,
         orders: Orders<'o>,
     ) -> Self
         ensures { result ≡ seat }
     {
         AtDesk {
-            rt,
-            desk,
-            tally,
-            informs,
+            tools,
             connection: 0,
             seat,
             orders,
@@ -113,10 +112,7 @@ impl<'a, 'o, E: EntryLedger, S: LotLedger, R: Wait, I: Informs> AtDesk<'a, 'o, E
         ensures { result ≡ self.entry }
     {
         let AtDesk {
-            rt: _,
-            desk: _,
-            tally: _,
-            informs: _,
+            tools: _,
             connection: _,
             seat,
             orders,
@@ -147,7 +143,7 @@ impl<'a, 'o, E: EntryLedger, S: LotLedger, R: Wait, I: Informs> AtDesk<'a, 'o, E
 
     /// Returns the runtime.
     pub(crate) fn rt(&self) -> &'a R {
-        self.rt
+        self.tools.access.rt
     }
 
     /// Puts a question to the book, as the seat sees it then. The desk's lock is held meanwhile.
@@ -156,7 +152,7 @@ impl<'a, 'o, E: EntryLedger, S: LotLedger, R: Wait, I: Informs> AtDesk<'a, 'o, E
         ensures sees { OnOk result (Sees E.reference self.old self.new) }
         ensures refused { OnErr result (self.new ≡ self.old) }
     {
-        self.seat.put(self.rt, self.desk, question)
+        self.seat.put(&self.tools.access, question)
     }
 
     /// Sends the order for the last entry, if it is due.
@@ -164,7 +160,7 @@ impl<'a, 'o, E: EntryLedger, S: LotLedger, R: Wait, I: Informs> AtDesk<'a, 'o, E
         ensures { self.new ≡ self.old }
     {
         if let Some(receipt) = self.seat.last() {
-            self.orders.note(self.rt, receipt);
+            self.orders.note(self.tools.access.rt, receipt);
         }
     }
 
@@ -173,14 +169,14 @@ impl<'a, 'o, E: EntryLedger, S: LotLedger, R: Wait, I: Informs> AtDesk<'a, 'o, E
         ensures outcome { SeatAnswers E.reference self.old (Request.Enter command) result.outcome self.new }
         ensures told { IfSome result.stretch (λ stretch. SeatTells E.reference self.new asking.firm from stretch self.new) }
     {
-        match self
-            .seat
-            .enter(self.rt, self.desk, command, Some((asking.firm, from)))
-        {
+        let tell = Some((asking.firm, from));
+        match self.seat.enter(&self.tools.access, command, tell) {
             Ok(entered) => {
-                self.tally.add_entry();
+                self.tools.tally.add_entry();
                 let origin = origin_of(self.connection, asking);
-                self.informs.inform(entered.number, entered.informs, origin);
+                self.tools
+                    .informs
+                    .inform(entered.number, entered.informs, origin);
                 self.order();
                 Answered {
                     outcome: Outcome::Replied(entered.reply),
@@ -201,7 +197,7 @@ impl<'a, 'o, E: EntryLedger, S: LotLedger, R: Wait, I: Informs> AtDesk<'a, 'o, E
         let Query::Positions { .. } = query else {
             return Ok(Outcome::Positions(None));
         };
-        match self.seat.ask(self.rt, self.desk, query) {
+        match self.seat.ask(&self.tools.access, query) {
             Ok(Answer::Positions(rows)) => Ok(Outcome::Positions(rows)),
             Err(AskError::Memory) => Err(AllocError),
             Ok(_) | Err(AskError::UnknownGroup) => Ok(Outcome::Positions(None)),
@@ -233,6 +229,6 @@ impl<'a, 'o, E: EntryLedger, S: LotLedger, R: Wait, I: Informs> House
     }
 
     fn notices(&mut self, firm: &FirmId, from: u64) -> Result<Stretch, AllocError> {
-        self.seat.stretch(self.rt, self.desk, *firm, from)
+        self.seat.stretch(&self.tools.access, *firm, from)
     }
 }

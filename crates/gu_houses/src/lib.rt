@@ -10,11 +10,11 @@ mod shares;
 mod tally;
 mod within_shares;
 
-pub use at_desk::AtDesk;
+pub use at_desk::{AtDesk, DeskTools};
 pub use informs::Informs;
 pub use orders::{OpenOrders, Orders};
 pub use over_book::OverBook;
-pub use seat_receipts::{SeatReceipts, SeatSweep};
+pub use seat_receipts::{DeskAccess, SeatReceipts, SeatSweep};
 pub use shares::{Part, Quota, Shares};
 pub use tally::{Counts, Tally};
 pub use within_shares::WithinShares;

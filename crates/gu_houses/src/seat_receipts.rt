@@ -16,17 +16,31 @@ ghost use Rattle.gu_houses.specs.Receipts.{HasReceipts};
 
 use gu_book::{Answer, AskError, EnterError};
 use gu_desk::{
-    Committed, Desk, Entered, EntryLedger, FirmFilter, Gate, KeptReceipts, LotLedger, Question,
-    Seat, SweepError,
+    Committed, Desk, Entered, EntryLedger, FirmFilter, Gate, KeptReceipts, LockedBook, LotLedger,
+    Question, Seat, SweepError, SweepPlan,
 };
 use gu_terms::{Command, Entry, FirmId, Group, Query, Receipt, Reply, Stretch};
 use gu_view::ViewToken;
 use std::alloc::{AllocError, Global};
 use std::marker::Model;
-use std::sync::Wait;
+use std::sync::{MutexGuard, Wait};
 
 /// The most tries of a sweep.
 const TRIES: u32 = 3;
+
+/// Access to a desk, for a thread that may wait for its lock.
+#[derive(Drop)]
+pub struct DeskAccess<'a, E: EntryLedger, S: LotLedger, R> {
+    pub rt: &'a R,
+    pub desk: &'a Desk<E, S>,
+}
+
+impl<E: EntryLedger, S: LotLedger, R: Wait> DeskAccess<'_, E, S, R> {
+    /// Takes the desk's lock, as `Desk::hold` does.
+    fn hold(&self) -> MutexGuard<'_, LockedBook<E, S>> {
+        self.desk.hold(self.rt)
+    }
+}
 
 /// A seat that keeps a receipt for each entry made from it. To a contract it is the seat.
 #[derive(Drop)]
@@ -113,8 +127,7 @@ impl<E: EntryLedger, S: LotLedger> SeatReceipts<E, S> {
     /// notices of the entries from a number on, including this one, if that was asked for.
     pub fn enter<R: Wait>(
         &mut self,
-        rt: &R,
-        desk: &Desk<E, S>,
+        access: &DeskAccess<'_, E, S, R>,
         command: Command,
         tell: Option<(FirmId, u64)>,
     ) -> Result<Entered, EnterError>
@@ -128,7 +141,7 @@ impl<E: EntryLedger, S: LotLedger> SeatReceipts<E, S> {
         if self.receipts.reserve().is_err() {
             return Err(EnterError::Memory);
         }
-        let entered = desk.hold(rt).enter(&mut self.seat, &command, tell)?;
+        let entered = access.hold().enter(&mut self.seat, &command, tell)?;
         self.receipts
             .push_reserved(receipt_of(entered.number, command, &entered.reply));
         Ok(entered)
@@ -137,8 +150,7 @@ impl<E: EntryLedger, S: LotLedger> SeatReceipts<E, S> {
     /// Sweeps a group with a gate's proposals, if there is room for the receipt, and keeps the receipt.
     pub fn sweep<R: Wait, G: Gate>(
         &mut self,
-        rt: &R,
-        desk: &Desk<E, S>,
+        access: &DeskAccess<'_, E, S, R>,
         group: Group,
         gate: &G,
     ) -> Result<SeatSweep, SweepError>
@@ -147,13 +159,18 @@ impl<E: EntryLedger, S: LotLedger> SeatReceipts<E, S> {
         ensures informs { IfOk result (λ s. HoldsInformed (book_seen E.reference self.new) s.number s.informs) }
 
         // The view is on the desk's board, and is the group's by the history before the sweep.
-        ensures here { IfOk result (λ s. Shows desk.now.board s.view) }
+        ensures here { IfOk result (λ s. Shows access.now.desk.now.board s.view) }
         ensures before { IfOk result (λ s. IsViewBefore E.reference self.new.front s.view.value) }
         ensures group { IfOk result (λ s. s.view.value.group ≡ group) }
         ensures refused { IfErr result (λ why. IsSweepRefused E.reference self.old group why self.new) }
     {
         self.receipts.reserve()?;
-        let committed = desk.sweep(rt, &mut self.seat, &group, TRIES, gate)?;
+        let plan = SweepPlan {
+            group,
+            tries: TRIES,
+            gate,
+        };
+        let committed = access.desk.sweep(access.rt, &mut self.seat, &plan)?;
         let number = committed.receipt.number;
         let lots = lots_of(&committed.receipt);
         let Committed {
@@ -173,8 +190,7 @@ impl<E: EntryLedger, S: LotLedger> SeatReceipts<E, S> {
     /// Answers a query, as the seat then sees the book.
     pub fn ask<R: Wait>(
         &mut self,
-        rt: &R,
-        desk: &Desk<E, S>,
+        access: &DeskAccess<'_, E, S, R>,
         query: Query,
     ) -> Result<Answer, AskError>
         ensures answered { IfOk result (IsAnswer (book_seen E.reference self.new) query) }
@@ -182,28 +198,26 @@ impl<E: EntryLedger, S: LotLedger> SeatReceipts<E, S> {
         ensures unknown { IsErrOf result AskError.UnknownGroup ↔ IsUnknown E.reference query }
         ensures refused { OnErr result (self.new ≡ self.old) }
     {
-        desk.hold(rt).ask(&mut self.seat, query)
+        access.hold().ask(&mut self.seat, query)
     }
 
     /// Puts a question to the book, as the seat sees it then. The desk's lock is held meanwhile.
     pub fn put<R: Wait, Q: Question>(
         &mut self,
-        rt: &R,
-        desk: &Desk<E, S>,
+        access: &DeskAccess<'_, E, S, R>,
         question: &mut Q,
     ) -> Result<(), AllocError>
         ensures tells { OnOk result (Q.tells question.old (book_seen E.reference self.new) question.new) }
         ensures sees { OnOk result (Sees E.reference self.old self.new) }
         ensures refused { OnErr result (self.new ≡ self.old) }
     {
-        desk.hold(rt).put(&mut self.seat, question)
+        access.hold().put(&mut self.seat, question)
     }
 
     /// Returns a batch of a firm's notices of the entries from a number on, as the seat then sees them.
     pub fn stretch<R: Wait>(
         &mut self,
-        rt: &R,
-        desk: &Desk<E, S>,
+        access: &DeskAccess<'_, E, S, R>,
         firm: FirmId,
         from: u64,
     ) -> Result<Stretch, AllocError>
@@ -211,7 +225,7 @@ impl<E: EntryLedger, S: LotLedger> SeatReceipts<E, S> {
         ensures sees { OnOk result (Sees E.reference self.old self.new) }
         ensures refused { OnErr result (self.new ≡ self.old) }
     {
-        desk.hold(rt).stretch(&mut self.seat, firm, from)
+        access.hold().stretch(&mut self.seat, firm, from)
     }
 
     /// Returns the receipt for the last entry, unless something was refused since. To a contract it is one of those kept: a seat's value

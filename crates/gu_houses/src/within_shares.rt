@@ -17,7 +17,7 @@ use gu_session::{Failure, Outcome};
 use gu_terms::{Command, FirmId, Stretch};
 use std::alloc::AllocError;
 use std::marker::Model;
-use std::sync::Wait;
+use std::sync::{Mutex, Wait};
 
 /// A seat at a desk, as a house whose firms may have shares. To a contract it is the seat, and whether they have shares.
 ///
@@ -171,19 +171,22 @@ impl<'a, 'o, E: EntryLedger, S: LotLedger, R: Wait, I: Informs> WithinShares<'a,
         }
     }
 
+    /// Returns the share of a firm, if it has one.
+    fn share_of(&self, firm: &FirmId) -> Option<&'a Mutex<FirmShare>> {
+        self.shares?.of(firm)
+    }
+
     /// Enters a command requested by a message, if its firm may make the entry and its offers.
-    fn enter_by(
-        &mut self,
-        share: &mut FirmShare,
-        command: Command,
-        asking: Asking,
-        from: u64,
-    ) -> Answered
+    fn enter(&mut self, command: Command, asking: Asking, from: u64) -> Answered
         ensures outcome { AnswersByShare E.reference self.old.seat (Request.Enter command) result.outcome self.new.seat }
         ensures told { IfSome result.stretch (λ stretch. SeatTells E.reference self.new.seat asking.firm from stretch self.new.seat) }
         ensures shares { self.new.has_shares ≡ self.old.has_shares }
     {
-        match self.look(share, &command) {
+        let Some(share) = self.share_of(&asking.firm) else {
+            return self.house.enter(command, asking, from);
+        };
+        let mut share = share.lock(self.house.rt());
+        match self.look(&mut share, &command) {
             Ok(()) => {
                 let answered = self.house.enter(command, asking, from);
                 if let Outcome::Replied(reply) = &answered.outcome {
@@ -193,23 +196,8 @@ impl<'a, 'o, E: EntryLedger, S: LotLedger, R: Wait, I: Informs> WithinShares<'a,
             }
             Err(why) => {
                 drop(command);
-                self.withhold(share, why)
+                self.withhold(&mut share, why)
             }
-        }
-    }
-
-    /// Enters a command requested by a message, if its firm may make the entry and its offers.
-    fn enter(&mut self, shares: &Shares, command: Command, asking: Asking, from: u64) -> Answered
-        ensures outcome { AnswersByShare E.reference self.old.seat (Request.Enter command) result.outcome self.new.seat }
-        ensures told { IfSome result.stretch (λ stretch. SeatTells E.reference self.new.seat asking.firm from stretch self.new.seat) }
-        ensures shares { self.new.has_shares ≡ self.old.has_shares }
-    {
-        match shares.of(&asking.firm) {
-            Some(share) => {
-                let mut share = share.lock(self.house.rt());
-                self.enter_by(&mut share, command, asking, from)
-            }
-            None => self.house.enter(command, asking, from),
         }
     }
 }
@@ -221,7 +209,7 @@ impl<'a, 'o, E: EntryLedger, S: LotLedger, R: Wait, I: Informs> House
     ghost rules = { rules_within E.reference };
 
     fn answer(&mut self, ask: Ask, from: u64) -> Result<Answered, AllocError> {
-        let Some(shares) = self.shares else {
+        let Some(_) = self.shares else {
             return self.house.answer(ask, from);
         };
         match ask {
@@ -230,7 +218,7 @@ impl<'a, 'o, E: EntryLedger, S: LotLedger, R: Wait, I: Informs> House
                 number,
                 now,
                 request: Request::Enter(command),
-            } => Ok(self.enter(shares, command, Asking { now, firm, number }, from)),
+            } => Ok(self.enter(command, Asking { now, firm, number }, from)),
             ask => self.house.answer(ask, from),
         }
     }

@@ -112,9 +112,8 @@ impl<E: EntryLedger, K: Sink> Keeper<E, K> {
         ensures kept { kept_entries self.new.chain self.new.front ≡ kept_entries self.old.chain self.old.front }
     {
         let most = wanted.saturating_sub(self.waiting.len());
-        let place = self.chain.count() + self.waiting.len();
         desk.hold(rt)
-            .entries_from(&mut self.front, place, most, &mut self.waiting)
+            .entries_from(&mut self.front, most, &mut self.waiting)
     }
 
     /// Makes a batch of the first waiting entries, as many as it has room for. Returns its text, the chain after it, and their number.

@@ -12,6 +12,6 @@ returns-clause-refused g c =
     let reference = g.E.EntryLedger.reference in
     let mid = c.loop-again.seat in
     let new = c.try_sweep-2.new.seat in
-    let group = c.args.group.now in
+    let group = c.args.plan.now.group in
     if_err {P = λ why. IsSweepRefused reference mid group why new} {Q = λ why. IsSweepRefused reference c.args.seat.now group why new} c.try_sweep-2.result
     (λ (why : SweepError) is. refused_after reference c.args.seat.now mid new group why c.loop-again.invariant is) c.try_sweep-2.ensures.refused

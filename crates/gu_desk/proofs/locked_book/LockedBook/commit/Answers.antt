@@ -53,7 +53,7 @@ invariant_of-seat-2 g c =
     let i = c.self.invariant in
     let old = c.self.inside.book.history in
     let entry = Swept (sweep_of c.args.proposal.now) in
-    let size : length c.swept.new.front ≡ length old + 1 =
+    let size : length c.swept.result ≡ length old + 1 =
     ap {A = List Entry} length (c.swept.ensures.front ∙ told g c ∙ c.in-Ok.ensures.entered) ∙ length-append old (entry ∷ []) in (
       c.add.ensures.parts ∙ c.audit.ensures.parts ∙ c.seat.invariant.0,
       c.add-2.ensures.parts ∙ c.seat.invariant.1,

@@ -7,11 +7,11 @@ pub returns-clause-grown : goal.returns-clause-grown
 returns-clause-grown g c =
     let history = c.history-history.result.now in
     let front = c.args.front.now in
-    let place = c.args.place in
+    let place = c.count-place.result in
     let next = c.copy_entries-copied.new.place in
     let known : c.self.inside.annals ≡ history = c.self.invariant.1 ∙ sym c.history-history.ensures.history in
     let begins = subst (IsPrefix front) known c.compare.ensures.begins in
-    let first : take place history ≡ front = ap (λ n. take n history) c.requires ∙ first_entries front history begins in
+    let first : take place history ≡ front = ap (λ n. take n history) c.count-place.ensures ∙ first_entries front history begins in
     let on : next ≡ place + (next - place) = omega (arith, c.copy_entries-copied.ensures.within.0) in (
       take (next - place) (drop place history),
       c.cut.ensures.front

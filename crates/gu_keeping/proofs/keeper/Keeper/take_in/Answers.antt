@@ -1,11 +1,6 @@
-use Rattle.gu_keeping.proofs.Words.{◌++◌, ◌∙◌, List, ap, sym, subst, arith, Entry, IsChainOf, kept_entries}
-use Rattle.gu_keeping.proofs.Keepers.{front_length, kept_stays, parts_more}
+use Rattle.gu_keeping.proofs.Words.{◌++◌, ◌∙◌, List, ap, sym, subst, Entry, IsChainOf, kept_entries}
+use Rattle.gu_keeping.proofs.Keepers.{kept_stays, parts_more}
 use Rattle.gu_keeping.proofs.keeper.Keeper.take_in.Goals as goal
-
-pub entries_from-requires : goal.entries_from-requires
-entries_from-requires g c =
-    let self = c.args.self.now in
-    omega (arith, front_length self.chain self.front self.waiting.items self.parts self.chained, self.waiting.ok.0, c.count.ensures, c.len-2.ensures)
 
 pub invariant_of-self : goal.invariant_of-self
 invariant_of-self g c =
