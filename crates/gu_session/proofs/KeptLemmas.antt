@@ -1,8 +1,8 @@
 -- Kept messages after new ones.
-use Rattle.gu_session.proofs.Words.{◌≡◌, ℕ, ◌+◌, ◌-◌, ◌≤◌, ◌<◌, List, [], ◌∷◌, ◌++◌, Option, None, Some, length, take, drop, slice_get, get_or, refl, ap, sym, ◌∙◌, append_assoc, add-one, arith, option_map_or, option_to_list, is_some, if◌then◌else◌, append-nil, length-append, length-drop, filter_map-append, Buffer, buffer, keep_last, Outbound, IsReady, IsSoundState, seen, new_of, sent_by, sent_in, HasRoom, IsSound, extended, SessionState, Sent, Plan, LoggedOn}
+use Rattle.gu_session.proofs.Words.{◌≡◌, ℕ, ◌+◌, ◌-◌, ◌≤◌, ◌<◌, List, [], ◌∷◌, ◌++◌, Option, None, Some, length, take, drop, slice_get, get_or, refl, false, subst, unanswered, FirmId, Waiting, AreWithin, IfSome, behind, numbered, firm_of, one_message, ap, sym, ◌∙◌, append_assoc, add-one, arith, option_map_or, option_to_list, is_some, if◌then◌else◌, append-nil, length-append, length-drop, filter_map-append, Buffer, buffer, keep_last, Outbound, IsReady, IsSoundState, seen, new_of, sent_by, sent_in, HasRoom, IsSound, extended, SessionState, Sent, Plan, LoggedOn}
 use Rattle.std.specs.List.{filter_map}
 use Rattle.std.proofs.Math.Seq.{take-suc}
-use Rattle.std.proofs.lemmas.Option.{get_or_from_slice_get, slice_get_within}
+use Rattle.std.proofs.lemmas.Option.{get_or_from_slice_get, none-some, same_Some, slice_get_within}
 use Rattle.gu_session.specs.declared.ready.Ready.{Ready}
 use Rattle.gu_session.specs.declared.state.State.{State}
 use Rattle.gu_session.proofs.Ascending.{within-append, within-drop, within-numbered}
@@ -80,3 +80,44 @@ committed_sound s now plan ready is sound =
       ascending = within-drop (length (s.kept.items ++ sent) - 4096) 1 (s.next + length plan.messages) (s.kept.items ++ sent)
           (within-append 1 s.next (s.next + length plan.messages) s.kept.items sent sound.ascending (within-numbered plan.after.firm now s.next plan.messages));
     }
+
+-- one more message is kept in the room that there is
+pub kept_one : (kept : Buffer Sent) (message : Outbound) → kept.capacity ≡ 4096 →
+    extended kept (option_to_list (sent_in message)) ≡ buffer (keep_last 4096 (kept.items ++ filter_map sent_in (message ∷ []))) 4096
+kept_one kept message room =
+    ap (extended kept) (sym (filter_map-one message (sent_in message) refl))
+    ∙ ap (λ (n : ℕ). buffer (keep_last n (kept.items ++ filter_map sent_in (message ∷ []))) n) room
+
+-- the new message with the next number
+pub numbered_one : (firm : FirmId) (next : ℕ) (message : Outbound) → Some firm ≡ Some message.firm → message.msg_seq_num ≡ next → message.orig_sending_time ≡ None →
+    numbered firm message.sending_time next (message.body ∷ []) ≡ message ∷ []
+numbered_one firm next message same number first = rw (same_Some firm message.firm same, ← number, ← first) refl
+
+-- the session after one message
+pub sent_alone : (s : State) (at : Option LoggedOn) (message : Outbound) (answered : Option ℕ) (kept : Buffer Sent) (waiting : List Waiting) → s.at ≡ at → HasRoom at s.kept →
+    firm_of at ≡ Some message.firm → message.msg_seq_num ≡ s.next → message.orig_sending_time ≡ None → s.is_closed ≡ false →
+    kept ≡ extended s.kept (option_to_list (sent_in message)) → waiting ≡ unanswered answered s.waiting.items →
+    IfSome at (λ at. record (seen s) { next = s.next + 1; sent_at = message.sending_time; kept = kept.items; waiting = waiting }
+    ≡ behind (seen s) message.sending_time (one_message at message.body answered))
+sent_alone s None message answered kept waiting is has firm number first is_open kept_is waiting_is = tt
+sent_alone s (Some at) message answered kept waiting is has firm number first is_open kept_is waiting_is =
+    let items = ap (λ (k : Buffer Sent). k.items) (kept_is ∙ kept_one s.kept message has)
+    ∙ ap (λ (ms : List Outbound). keep_last 4096 (s.kept.items ++ filter_map sent_in ms)) (sym (numbered_one at.firm s.next message firm number first)) in
+    rw (is, is_open, waiting_is, items, append-nil s.waiting.items) refl
+
+-- a session is sound after one message
+pub sent_sound : (at : Option LoggedOn) (next : ℕ) (before kept : Buffer Sent) (message : Outbound) → IsSound at next before → firm_of at ≡ Some message.firm →
+    message.msg_seq_num ≡ next → message.orig_sending_time ≡ None → next ≤ 1000000000 → kept ≡ extended before (option_to_list (sent_in message)) → IsSound at (next + 1) kept
+sent_sound None next before kept message sound firm number first most is = absurd (none-some message.firm firm)
+sent_sound (Some at) next before kept message sound firm number first most is =
+    let sent = filter_map sent_in (message ∷ []) in
+    let within = subst (λ (ms : List Outbound). AreWithin next (next + 1) (filter_map sent_in ms)) (numbered_one at.firm next message firm number first)
+    (within-numbered at.firm message.sending_time next (message.body ∷ [])) in
+    rw (is, kept_one before message sound.room) (record {
+      some = omega (arith, sound.some);
+      most = omega (arith, most);
+      room = refl;
+      few = omega (arith, length-drop (length (before.items ++ sent) - 4096) (before.items ++ sent));
+      ascending = within-drop (length (before.items ++ sent) - 4096) 1 (next + 1) (before.items ++ sent)
+          (within-append 1 next (next + 1) before.items sent sound.ascending within);
+    })

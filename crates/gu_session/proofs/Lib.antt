@@ -10,6 +10,7 @@ mod Ascending
 mod Places
 mod KeptLemmas
 mod OntoLemmas
+mod InTurn
 mod Serving
 mod Ending
 mod InOrder

@@ -1,6 +1,7 @@
 -- Messages appended to a text.
-use Rattle.gu_session.proofs.Words.{◌≡◌, inr, ◌<◌, ◌+◌, ◌^◌, ◌||◌, ℕ, Bool, true, false, List, [], ◌∷◌, ◌++◌, Option, None, Some, Result, Ok, Err, Vec, map, length, take, slice_get, refl, ap, sym, ◌∙◌, append_assoc, arith, OnErr, flat_map, list_any, option_to_list, Global, append-nil, length-append, filter_map-append, Outbound, FollowText, FollowsText, AreOutputs, Closes, Sends, Follows, FollowsOnto, asked_in, end_outputs, handed_outputs, StepsOnto, bytes_in, handed_in, is_close, IsReady, sent_with, behind, closed, ending_of, given_by, is_over, new_of, numbered, SessionState, IsCourse, responses_of, session_after, Input, Output, Course, Go, Plan}
+use Rattle.gu_session.proofs.Words.{◌≡◌, inr, ◌<◌, ◌+◌, ◌^◌, ◌||◌, ℕ, Bool, true, false, List, [], ◌∷◌, ◌++◌, Option, None, Some, Result, Ok, Err, Vec, map, length, take, slice_get, refl, ap, sym, ◌∙◌, append_assoc, arith, OnErr, flat_map, list_any, option_to_list, Global, append-nil, length-append, filter_map-append, IfSome, Body, LoggedOn, ◌≤◌, one_message, one_message_course, subst, sent_by, Outbound, FollowText, FollowsText, AreOutputs, Closes, Sends, Follows, FollowsOnto, asked_in, end_outputs, handed_outputs, StepsOnto, bytes_in, handed_in, is_close, IsReady, sent_with, behind, closed, ending_of, given_by, is_over, new_of, numbered, SessionState, IsCourse, responses_of, session_after, Input, Output, Course, Go, Plan}
 use Rattle.std.specs.List.{filter_map}
+use Rattle.std.proofs.lemmas.Bool.{le-ltb, lt-ltb}
 use Rattle.std.proofs.lemmas.Grind.{flat_map-append}
 use Rattle.std.proofs.lemmas.List.Folds.{list_any-append}
 use Rattle.gu_session.specs.declared.output.Asked.{Asked}
@@ -94,17 +95,17 @@ plan_given old new now plan ready outputs taken is suffice are handed ends behin
   leaves = rw suffice behind_is;
 }
 
--- a plan is carried out, with its messages appended to a text
-pub plan_followed : (old new : SessionState) (now : ℕ) (plan : Plan) (ready : Ready) (before after : List ℕ) (taken : Taken) → IsReady old now plan ready →
-    is_over old.next plan ≡ false → FollowText (sent_with plan ready old.next now) before after →
-    taken.handed ≡ asked_in plan.handed → taken.is_closed ≡ plan.ends →
+-- a plan is carried out, with the messages that it sends appended to a text
+pub sent_followed : (old new : SessionState) (now : ℕ) (plan : Plan) (before after : List ℕ) (taken : Taken) → is_over old.next plan ≡ false →
+    FollowText (sent_by old now plan) before after → taken.handed ≡ asked_in plan.handed → taken.is_closed ≡ plan.ends →
     new ≡ behind old now plan → FollowsOnto old (Go plan) now before after taken new
-plan_followed old new now plan ready before after taken is suffice follow handed ends behind_is =
+sent_followed old new now plan before after taken suffice follow handed ends behind_is =
     let ending = handed_outputs taken.handed ++ end_outputs taken.is_closed in
-    let messages = sent_with plan ready old.next now in
+    let messages = sent_by old now plan in
     record {
       outputs = follow.outputs ++ ending;
-      are_outputs = rw suffice (plan_outputs old now plan ready follow.outputs taken is follow.are_outputs handed ends);
+      are_outputs = rw (suffice, handed, ends)
+          (AreOutputs-append (map Sends messages) (ending_of plan.handed plan.ends) follow.outputs _ follow.are_outputs (ending_is_given plan.handed plan.ends));
       leaves = rw suffice behind_is;
       text = follow.text ∙ ap (λ (t : List ℕ). before ++ t)
           (sym (append-nil (flat_map bytes_in follow.outputs)) ∙ ap (λ (t : List ℕ). flat_map bytes_in follow.outputs ++ t) (sym (ending_bytes taken.handed taken.is_closed))
@@ -114,6 +115,14 @@ plan_followed old new now plan ready before after taken is suffice follow handed
       close = sym (list_any-append is_close follow.outputs ending ∙ ap (λ (b : Bool). b || list_any is_close ending) (none_closes messages follow.outputs follow.are_outputs)
           ∙ ending_closes taken.handed taken.is_closed);
     }
+
+-- a prepared plan is carried out, with its messages appended to a text
+pub plan_followed : (old new : SessionState) (now : ℕ) (plan : Plan) (ready : Ready) (before after : List ℕ) (taken : Taken) → IsReady old now plan ready →
+    is_over old.next plan ≡ false → FollowText (sent_with plan ready old.next now) before after →
+    taken.handed ≡ asked_in plan.handed → taken.is_closed ≡ plan.ends →
+    new ≡ behind old now plan → FollowsOnto old (Go plan) now before after taken new
+plan_followed old new now plan ready before after taken is suffice follow handed ends behind_is =
+    sent_followed old new now plan before after taken suffice (subst (λ (ms : List Outbound). FollowText (ms ++ new_of old now plan) before after) is.again follow) handed ends behind_is
 
 -- a session that leaves ends, and no bytes are appended
 pub leaving_followed : (old new : SessionState) (course : Course) (now : ℕ) (text : List ℕ) (taken : Taken) → responses_of old now course ≡ Closes ∷ [] →
@@ -141,3 +150,24 @@ followed_steps old new input course now before after taken is_open is follows = 
   handed = follows.handed;
   close = follows.close;
 }
+
+-- a message needs a number above the greatest
+pub one_over : (s new : SessionState) (at : LoggedOn) (body : Body) (answered : Option ℕ) (now : ℕ) (text : List ℕ) (taken : Taken) → s.at ≡ Some at → 1000000000 < s.next →
+    new ≡ closed s → taken.handed ≡ None → taken.is_closed ≡ true → FollowsOnto s (one_message_course s.at body answered) now text text taken new
+one_over s new at body answered now text taken is most leaves handed close =
+    let over : is_over s.next (one_message at body answered) ≡ true = lt-ltb 1000000001 (s.next + 1) (omega (arith, most)) in
+    subst (λ (o : Option LoggedOn). FollowsOnto s (one_message_course o body answered) now text text taken new) (sym is)
+    (leaving_followed s new (Go (one_message at body answered)) now text taken (rw over refl) (rw over refl) leaves handed close)
+
+-- a message is sent
+pub one_followed : (v : Vec ℕ Global) (s new : SessionState) (at : LoggedOn) (body : Body) (answered : Option ℕ) (now : ℕ) (before : List ℕ) (taken : Taken) → s.at ≡ Some at →
+    s.next ≤ 1000000000 → FollowsText (record { firm = at.firm; msg_seq_num = s.next; sending_time = now; orig_sending_time = None; body = body }) before v.items →
+    taken.handed ≡ None → taken.is_closed ≡ false → IfSome s.at (λ at. new ≡ behind s now (one_message at body answered)) →
+    FollowsOnto s (one_message_course s.at body answered) now before v.items taken new
+one_followed v s new at body answered now before taken is most pushed handed close behind_is =
+    let plan = one_message at body answered in
+    let message : Outbound = record { firm = at.firm; msg_seq_num = s.next; sending_time = now; orig_sending_time = None; body = body } in
+    let suffice : is_over s.next plan ≡ false = le-ltb 1000000001 (s.next + 1) (omega (arith, most)) in
+    let after = subst (λ (o : Option LoggedOn). IfSome o (λ at. new ≡ behind s now (one_message at body answered))) is behind_is in
+    subst (λ (o : Option LoggedOn). FollowsOnto s (one_message_course o body answered) now before v.items taken new) (sym is)
+    (sent_followed s new now plan before v.items taken suffice (follow-more v (message ∷ []) 0 message before before refl (follow-none before) pushed) handed close after)

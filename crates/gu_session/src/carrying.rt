@@ -80,7 +80,7 @@ pub fn keep(kept: &mut SentRing, plan: &Plan<'_>, first: u64, now: Moment)
 }
 
 /// Removes what was answered.
-fn forget(waiting: &mut Vec<Waiting>, answered: Option<AskRef>)
+pub fn forget(waiting: &mut Vec<Waiting>, answered: Option<AskRef>)
     ensures { waiting.new.items ≡ unanswered answered waiting.old.items }
 {
     if let Some(reference) = answered {

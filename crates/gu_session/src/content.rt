@@ -31,7 +31,7 @@ pub fn is_sender(firm: &FirmId, sender: &Option<FirmId>) -> bool
 }
 
 /// Returns the tag of the first wrong party, if there is one.
-fn wrong_party(firm: &FirmId, heading: &Heading) -> Option<u32>
+pub fn wrong_party(firm: &FirmId, heading: &Heading) -> Option<u32>
     ensures { result ≡ wrong_party firm.now heading.now }
 {
     if !is_sender(firm, &heading.sender) {

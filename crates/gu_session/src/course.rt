@@ -28,7 +28,7 @@ use std::alloc::{AllocError, Global};
 use std::slice;
 
 /// Returns the session's state after a frame arrives.
-fn at_frame(at: &LoggedOn, now: Moment) -> LoggedOn
+pub fn at_frame(at: &LoggedOn, now: Moment) -> LoggedOn
     ensures { result ≡ at_frame at.now now }
 {
     LoggedOn {
@@ -39,7 +39,7 @@ fn at_frame(at: &LoggedOn, now: Moment) -> LoggedOn
 }
 
 /// Returns what the session does on a frame with this content.
-fn heard_course(
+pub fn heard_course(
     alloc: Global,
     firms: &[FirmId],
     at: &Option<LoggedOn>,

@@ -54,7 +54,11 @@ impl Pen {
     }
 
     /// Appends a message.
-    fn push(&mut self, output: &mut Vec<u8>, message: &OutboundRef<'_>) -> Result<(), AllocError>
+    pub fn push(
+        &mut self,
+        output: &mut Vec<u8>,
+        message: &OutboundRef<'_>,
+    ) -> Result<(), AllocError>
         ensures pushed { OnOk result (FollowsText (outbound_of message.now) output.old.items output.new.items) }
         ensures refused { OnErr result (output.new.items ≡ output.old.items) }
     {

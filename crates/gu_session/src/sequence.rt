@@ -1,10 +1,11 @@
 //! Frames by number: expected, too high or too low.
 
-ghost use Rattle.std.specs.Prelude.{◌≡◌, ◌+◌, codes, IfOk};
+ghost use Rattle.std.specs.Prelude.{◌≡◌, ◌+◌, codes, IfOk, IfSome};
 ghost use Rattle.gu_session.specs.FrameRules.{again_in, by_number, frame_plan, on_number, on_reset, reject, reset_to, too_high, too_low};
+ghost use Rattle.gu_session.specs.Following.{IsInTurn};
 ghost use Rattle.gu_session.specs.Hearing.{is_given};
 
-use crate::content::as_expected;
+use crate::content::{as_expected, wrong_party};
 use crate::heard::{Heading, Heard};
 use crate::logged_on::LoggedOn;
 use crate::messages::Messages;
@@ -86,6 +87,20 @@ fn too_low(alloc: Global, at: &LoggedOn, heading: &Heading) -> Result<Plan<'stat
         return Ok(Plan::quiet(at));
     }
     Plan::leaves_with(alloc, at, Body::Logout(Some(LogoutReason::SeqTooLow)))
+}
+
+/// Returns the number of a frame, if it was expected and the parties are right.
+#[inline(always)]
+pub fn in_turn(at: &Option<LoggedOn>, heading: &Heading) -> Option<SeqNum>
+    ensures { IfSome result (λ number. IsInTurn at.now heading.now number) }
+{
+    let (Some(at), Some(number)) = (at, heading.number) else {
+        return None;
+    };
+    if number.get() != at.expected || wrong_party(&at.firm, heading).is_some() {
+        return None;
+    }
+    Some(number)
 }
 
 /// Returns the plan for a frame that isn't a reset.

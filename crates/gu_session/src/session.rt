@@ -1,30 +1,38 @@
 //! A session.
 
-ghost use Rattle.std.specs.Prelude.{◌≡◌, [], ◌∷◌, List, ℕ, IfOk, OnOk, OnErr};
+ghost use Rattle.std.specs.Prelude.{◌≡◌, [], ◌∷◌, List, ℕ, false, IfOk, OnOk, OnErr};
 ghost use Rattle.std.specs.Option.{option_map};
 ghost use Rattle.gu_session.specs.Dues.{ActsAt, RestsUntil, expected_of};
 ghost use Rattle.gu_session.specs.Encoded.{AreOutputs, Closes};
-ghost use Rattle.gu_session.specs.Following.{Follows, FollowsOnto};
+ghost use Rattle.gu_session.specs.Following.{Follows, FollowsOnto, one_message_course, request_course};
 ghost use Rattle.gu_session.specs.Outputs.{StepsOnto};
 ghost use Rattle.gu_session.specs.Sending.{closed};
 ghost use Rattle.gu_session.specs.States.{new_session};
-ghost use Rattle.gu_session.specs.Steps.{StepsWith};
+ghost use Rattle.gu_session.specs.Steps.{StepsWith, frame_course};
 ghost use Rattle.gu_session.specs.declared.plan.Course.TheVariants.{Go};
 ghost use Rattle.gu_session.specs.declared.logged_on.LoggedOn.{LoggedOn as LoggedOnOf};
 
+use crate::answer::Answer;
 use crate::answers::answer_to;
 use crate::ask_ref::AskRef;
 use crate::carrying::is_over;
-use crate::course::{answer_course, close_course, frame_course, message_course, tick_course};
+use crate::course::{
+    answer_course, at_frame, close_course, frame_course, heard_course, message_course, tick_course,
+};
+use crate::heard::Heard;
 use crate::hearing::Reader;
 use crate::heartbeat::due_at;
 use crate::input::{Input, Outcome};
+use crate::logged_on::LoggedOn;
 use crate::output::{Output, Taken};
 use crate::plan::{Course, Plan};
 use crate::sending::{Pen, close, push_taken};
+use crate::seq_num::{GREATEST, SeqNum};
+use crate::sequence::in_turn;
 use crate::state::State;
 use gu_fix::Frame;
-use gu_msgs::notice_body;
+use gu_msgs::outbound::Body;
+use gu_msgs::{Asking, Inbound, OutboundRef, notice_body};
 use gu_terms::{FirmId, Moment, Notice};
 use std::alloc::{AllocError, Global};
 use std::marker::Model;
@@ -228,6 +236,102 @@ impl Session {
         }
     }
 
+    /// Sends a message once a firm is logged on. It may answer a request.
+    fn send(
+        &mut self,
+        body: &Body,
+        answered: Option<AskRef>,
+        now: Moment,
+        output: &mut Vec<u8>,
+    ) -> Result<Taken, AllocError>
+        requires { self.old.is_closed ≡ false }
+        ensures done { IfOk result (λ taken. FollowsOnto self.old (one_message_course self.old.at body.now answered) now output.old.items output.new.items taken self.new) }
+        ensures refused { OnErr result (self.new ≡ self.old) }
+        ensures kept { OnErr result (output.new.items ≡ output.old.items) }
+    {
+        let Some(at) = &self.state.at else {
+            return Ok(Taken::nothing());
+        };
+        if self.state.next > GREATEST {
+            return Ok(self.state.close());
+        }
+        let message = OutboundRef {
+            firm: at.firm,
+            msg_seq_num: self.state.next,
+            sending_time: now,
+            orig_sending_time: None,
+            body,
+        };
+        self.pen.push(output, &message)?;
+        self.state.note_sent(&message, answered);
+        Ok(Taken::nothing())
+    }
+
+    /// Hands out the request in a message with the expected number. Nothing is sent.
+    fn hand_out(&mut self, number: SeqNum, asking: Asking, now: Moment) -> Result<Taken, AllocError>
+        requires { self.old.is_closed ≡ false }
+        ensures done { IfOk result (λ taken. (text : List ℕ) → FollowsOnto self.old (request_course self.old.at number asking now) now text text taken self.new) }
+        ensures refused { OnErr result (self.new ≡ self.old) }
+    {
+        let Some(at) = &self.state.at else {
+            return Ok(Taken::nothing());
+        };
+        let after = LoggedOn {
+            expected: number.get() + 1,
+            ..at_frame(at, now)
+        };
+        self.state.waiting.reserve(1)?;
+        Ok(self.state.hand_out(&after, number, asking))
+    }
+
+    /// Carries out what a frame with this content asks for, and appends the bytes to send.
+    #[inline(never)]
+    fn take_any(
+        &mut self,
+        heard: Heard,
+        now: Moment,
+        output: &mut Vec<u8>,
+    ) -> Result<Taken, AllocError>
+        ensures done { IfOk result (λ taken. FollowsOnto self.old (frame_course self.old.firms self.old.at heard now) now output.old.items output.new.items taken self.new) }
+        ensures refused { OnErr result (self.new ≡ self.old) }
+        ensures kept { OnErr result (output.new.items ≡ output.old.items) }
+    {
+        let course = heard_course(self.alloc, &self.state.firms, &self.state.at, heard, now)?;
+        self.follow(course, now, output)
+    }
+
+    /// Does the same. Most frames bring a request whose number was expected, which is handed out without a plan.
+    #[inline(always)]
+    fn take_in(
+        &mut self,
+        heard: Heard,
+        now: Moment,
+        output: &mut Vec<u8>,
+    ) -> Result<Taken, AllocError>
+        requires { self.old.is_closed ≡ false }
+        ensures done { IfOk result (λ taken. FollowsOnto self.old (frame_course self.old.firms self.old.at heard now) now output.old.items output.new.items taken self.new) }
+        ensures refused { OnErr result (self.new ≡ self.old) }
+        ensures kept { OnErr result (output.new.items ≡ output.old.items) }
+    {
+        let Some(number) = in_turn(&self.state.at, &heard.heading) else {
+            return self.take_any(heard, now, output);
+        };
+        let Heard { heading, content } = heard;
+        match content {
+            Ok(Inbound::TradeCaptureReport(m)) => Ok(self.hand_out(
+                number,
+                Asking::Report(m),
+                now,
+            )?),
+            Ok(Inbound::AllocationInstruction(m)) => Ok(self.hand_out(
+                number,
+                Asking::GiveUp(m),
+                now,
+            )?),
+            content => self.take_any(Heard { heading, content }, now, output),
+        }
+    }
+
     /// Takes a frame at a moment as `step` does, and appends the bytes to send. If an allocation fails, the session and the output are
     /// unchanged.
     pub fn frame_onto(
@@ -244,8 +348,8 @@ impl Session {
         if state.is_closed {
             return Ok(Taken::nothing());
         }
-        let course = frame_course(&mut self.reader, &state.firms, &state.at, frame, now)?;
-        self.follow(course, now, output)
+        let heard = self.reader.hear(frame)?;
+        self.take_in(heard, now, output)
     }
 
     /// Takes a notice in the same way.
@@ -264,8 +368,7 @@ impl Session {
             return Ok(Taken::nothing());
         }
         let body = notice_body(notice);
-        let course = message_course(&state.at, &body);
-        self.follow(course, now, output)
+        self.send(&body, None, now, output)
     }
 
     /// Takes the answer to the request with this reference in the same way.
@@ -285,8 +388,13 @@ impl Session {
             return Ok(Taken::nothing());
         }
         let answer = answer_to(self.alloc, &state.waiting, reference, outcome)?;
-        let course = answer_course(&state.at, reference, &answer);
-        self.follow(course, now, output)
+        match &answer {
+            Answer::One(body) => self.send(body, Some(reference), now, output),
+            _ => {
+                let course = answer_course(&self.state.at, reference, &answer);
+                self.follow(course, now, output)
+            }
+        }
     }
 
     /// Takes a tick in the same way.

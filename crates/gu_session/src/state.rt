@@ -1,17 +1,22 @@
 //! The state of a session between its inputs.
 
-ghost use Rattle.std.specs.Prelude.{◌≡◌, ◌<◌, [], true, false, None, vec_len, vec_capacity, IfOk};
+ghost use Rattle.std.specs.Prelude.{◌≡◌, ◌<◌, ◌≤◌, ℕ, [], true, false, None, Some, vec_len, vec_capacity, IfOk, IfSome, IsSome};
+ghost use Rattle.gu_session.specs.Following.{firm_of, one_message};
 ghost use Rattle.gu_session.specs.Given.{asked_in};
+ghost use Rattle.gu_session.specs.Plans.{hands};
 ghost use Rattle.gu_session.specs.Readiness.{IsReady, IsSoundState, seen};
 ghost use Rattle.gu_session.specs.Sending.{behind, closed, is_over};
 ghost use Rattle.gu_session.specs.States.{new_session};
 
-use crate::carrying::{keep, move_to, repeats, room_for, sent_at_after, settle};
+use crate::ask_ref::AskRef;
+use crate::carrying::{forget, keep, move_to, repeats, room_for, sent_at_after, settle};
 use crate::logged_on::{LoggedOn, Waiting};
 use crate::output::{Asked, Taken};
 use crate::plan::{Handed, Plan};
 use crate::ready::Ready;
 use crate::sent_ring::SentRing;
+use crate::seq_num::SeqNum;
+use gu_msgs::{Asking, OutboundRef};
 use gu_terms::{FirmId, Moment};
 use std::alloc::{AllocError, Global};
 
@@ -132,6 +137,52 @@ impl State {
         Taken {
             handed: asked_in(handed),
             is_closed: ends,
+        }
+    }
+
+    /// Changes as a plan with this message alone does, after the message was sent. It allocates nothing.
+    pub fn note_sent(&mut self, message: &OutboundRef<'_>, answered: Option<AskRef>)
+        requires sound { IsSoundState self.old }
+        requires number { message.now.msg_seq_num ≡ self.old.next }
+        requires most { self.old.next ≤ 1000000000 }
+        requires first { message.now.orig_sending_time ≡ None }
+        requires firm { firm_of self.old.at ≡ Some message.now.firm }
+        requires is_open { self.old.is_closed ≡ false }
+        ensures behind { IfSome self.old.at (λ at. seen self.new ≡ behind (seen self.old) message.now.sending_time (one_message at message.now.body.now answered)) }
+        ensures sound { IsSoundState self.new }
+    {
+        self.sent_at = message.sending_time;
+        self.kept.keep(message);
+        forget(&mut self.waiting, answered);
+        self.next += 1;
+    }
+
+    /// Changes as a plan that hands out a request does, and returns the request. It allocates nothing.
+    pub fn hand_out(&mut self, after: &LoggedOn, number: SeqNum, asking: Asking) -> Taken
+        requires place { vec_len self.old.waiting < vec_capacity self.old.waiting }
+        requires sound { IsSoundState self.old }
+        requires logged_on { IsSome self.old.at }
+        requires is_open { self.old.is_closed ≡ false }
+        ensures behind { (now : ℕ) → seen self.new ≡ behind (seen self.old) now (hands after.now number asking) }
+        ensures sound { IsSoundState self.new }
+        ensures handed { result.handed ≡ asked_in (hands after.now number asking).handed }
+        ensures close { result.is_closed ≡ false }
+    {
+        let reference = AskRef::new(number);
+        let question = asking.question();
+        self.waiting.push_reserved(Waiting {
+            reference,
+            question,
+        });
+        self.at = Some(*after);
+        let handed = Handed {
+            firm: after.firm,
+            reference,
+            asking,
+        };
+        Taken {
+            handed: Some(handed.into_asked()),
+            is_closed: false,
         }
     }
 }
