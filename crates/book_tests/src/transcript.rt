@@ -263,6 +263,14 @@ pub fn follow(
     }
 }
 
+/// Returns the world of a file with more rows, or why there is none.
+fn try_world(alloc: Global, file: &str, rows: &str) -> Result<World, RefFault> {
+    match reference_of(alloc, file, rows) {
+        Ok(reference) => Ok(World::new(alloc, reference)),
+        Err(fault) => Err(fault),
+    }
+}
+
 /// Returns a world of a file with more rows, read at the second try if memory is refused to the first.
 pub fn world_of(
     rt: &impl Abort,
@@ -271,16 +279,15 @@ pub fn world_of(
     rows: &str,
     patience: Patience,
 ) -> World {
-    match reference_of(alloc, file, rows) {
-        Ok(reference) => World::new(alloc, reference),
-        Err(fault) => {
-            assert_eq!(rt; fault, RefFault::Memory);
-            assert!(rt; matches!(patience, Patience::Once));
-            let reference = reference_of(alloc, file, rows)
-                .ok()
-                .expect(rt, "a reference");
-            World::new(alloc, reference)
-        }
+    let fault = match try_world(alloc, file, rows) {
+        Ok(world) => return world,
+        Err(fault) => fault,
+    };
+    assert_eq!(rt; fault, RefFault::Memory);
+    assert!(rt; matches!(patience, Patience::Once));
+    match try_world(alloc, file, rows) {
+        Ok(world) => world,
+        Err(_) => panic!(rt; "no reference"),
     }
 }
 
