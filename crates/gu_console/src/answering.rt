@@ -47,7 +47,7 @@ pub(crate) fn enter<E: EntryLedger, S: LotLedger, R: Wait, O: Office, I: Informs
     ensures answered { OnOk result (AnswersCommand E.reference seat.old command text.new.items seat.new) }
     ensures goes_on { GoesOnFrom seat.old seat.new }
 {
-    match seat.enter(console.rt, console.desk, command, None) {
+    match seat.enter(&console.tools.access, command, None) {
         Ok(entered) => {
             let Entered {
                 number,
@@ -55,8 +55,9 @@ pub(crate) fn enter<E: EntryLedger, S: LotLedger, R: Wait, O: Office, I: Informs
                 informs,
                 stretch: _,
             } = entered;
-            console.tally.add_entry();
-            console.informs.inform(number, informs, console.origin());
+            console.tools.tally.add_entry();
+            let origin = console.origin();
+            console.tools.informs.inform(number, informs, origin);
             append_reply(text, number, &reply)
         }
         Err(why) => say_left_out(text, why),
@@ -75,7 +76,7 @@ pub(crate) fn ask<E: EntryLedger, S: LotLedger, R: Wait, O: Office, I: Informs>(
     ensures goes_on { GoesOnFrom seat.old seat.new }
 {
     let mut asked = BookAsked::new(console.alloc, question);
-    match seat.put(console.rt, console.desk, &mut asked) {
+    match seat.put(&console.tools.access, &mut asked) {
         Ok(()) => {
             swap(text, &mut asked.text);
             Ok(())

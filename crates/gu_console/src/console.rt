@@ -3,8 +3,8 @@
 ghost use Rattle.std.specs.Prelude.{◌≡◌, None};
 
 use crate::office::{Office, moment_of};
-use gu_desk::{Desk, EntryLedger, LotLedger, Origin};
-use gu_houses::{Informs, Tally};
+use gu_desk::{EntryLedger, LotLedger, Origin};
+use gu_houses::{DeskTools, Informs};
 use std::alloc::Global;
 use std::sync::Wait;
 
@@ -12,13 +12,8 @@ use std::sync::Wait;
 #[derive(Drop)]
 pub struct Console<'a, E: EntryLedger, S: LotLedger, R: Wait, O: Office, I: Informs> {
     pub alloc: Global,
-    pub rt: &'a R,
-    pub desk: &'a Desk<E, S>,
+    pub tools: DeskTools<'a, E, S, R, I>,
     pub office: &'a O,
-    /// What counts the entries, for whoever watches.
-    pub tally: &'a Tally,
-    /// Who is informed of entries as they are made.
-    pub informs: &'a I,
     /// Whether they may look and change nothing.
     pub is_watch: bool,
 }

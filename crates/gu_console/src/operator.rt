@@ -164,10 +164,7 @@ impl<'a, E: EntryLedger, S: LotLedger, R: Wait, O: Office, I: Informs> Operator<
     {
         let alloc = self.console.alloc;
         let mut copies = EntryCopies::after(alloc, self.shown);
-        let Ok(()) = self
-            .seat
-            .put(self.console.rt, self.console.desk, &mut copies)
-        else {
+        let Ok(()) = self.seat.put(&self.console.tools.access, &mut copies) else {
             return say_memory(text);
         };
         match stretch_of(alloc, self.today, &copies.entries) {

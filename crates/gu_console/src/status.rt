@@ -172,6 +172,6 @@ pub(crate) fn show_status<E: EntryLedger, S: LotLedger, R: Wait, O: Office, I: I
     ensures looks { Looks E.reference seat.old seat.new }
     ensures goes_on { GoesOnFrom seat.old seat.new }
 {
-    seat.put(console.rt, console.desk, counts)?;
+    seat.put(&console.tools.access, counts)?;
     status_of(console.alloc, console.office, counts)
 }

@@ -98,10 +98,12 @@ fn note_sweep<E: EntryLedger, S: LotLedger, R: Wait, O: Office, I: Informs>(
     console: &Console<'_, E, S, R, O, I>,
     swept: &SeatSweep,
 ) {
-    console.tally.add_sweep(swept.lots);
+    console.tools.tally.add_sweep(swept.lots);
+    let origin = console.origin();
     console
+        .tools
         .informs
-        .inform(swept.number, swept.informs, console.origin());
+        .inform(swept.number, swept.informs, origin);
 }
 
 /// Sweeps a group from a seat, and writes what came of it to an empty text. Others are informed of the entry.
@@ -115,10 +117,11 @@ pub(crate) fn sweep<E: EntryLedger, S: LotLedger, R: Wait, O: Office, I: Informs
     ensures answered { OnOk result (AnswersSweep E.reference seat.old group text.new.items seat.new) }
     ensures goes_on { GoesOnFrom seat.old seat.new }
 {
-    match seat.sweep(console.rt, console.desk, group, &Direct) {
+    let access = &console.tools.access;
+    match seat.sweep(access, group, &Direct) {
         Ok(swept) => {
             note_sweep(console, &swept);
-            say_sheet(console.desk, seat, &group, &swept, text)
+            say_sheet(access.desk, seat, &group, &swept, text)
         }
         Err(why) => say_unswept(text, why),
     }
