@@ -37,7 +37,8 @@ pub fn answer_to(report: &TradeCaptureReport, rejection: Option<Rejection>) -> B
 }
 
 /// Returns the acknowledgement of a report with these ids.
-fn report_ack(id: Id, match_id: Id, rejection: Option<Rejection>) -> Body
+#[inline(always)]
+pub fn report_ack(id: Id, match_id: Id, rejection: Option<Rejection>) -> Body
     ensures { result ≡ report_ack id match_id rejection }
 {
     Body::Application(Application::TradeCaptureReportAck(TradeCaptureReportAck {

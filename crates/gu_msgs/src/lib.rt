@@ -46,7 +46,7 @@ mod whole_number;
 mod writing;
 
 pub use alloc_status::AllocStatus;
-pub use answering::{answer_to, notice_body, positions_answer};
+pub use answering::{answer_to, notice_body, positions_answer, report_ack};
 pub use asking::{Asking, Question, Request};
 pub use boxed::Boxed;
 pub use coded_values::{AllocReportType, BusinessRejectReason, LogoutReason, PosReqResult};
@@ -70,5 +70,5 @@ pub use standard_header::{Header, HeaderRef};
 pub use tags::{NEW_SEQ_NO, SENDER_COMP_ID, TARGET_COMP_ID};
 pub use test_req_id::TestReqId;
 pub use type_code::TypeCode;
-pub use whole_number::{is_numeral, number_of};
+pub use whole_number::{is_numeral, number_of, short_number};
 pub use writing::{write, write_over};

@@ -6,7 +6,7 @@ ghost use Rattle.std.specs.Str.Parse.{digits_value};
 ghost use Rattle.gu_msgs.specs.Groups.{entries_begun, entries_by};
 ghost use Rattle.gu_msgs.specs.Shape.{count_fault, counted_fault, entries_fault, fault_at, group_fault, groups_fault, missing, repeated, shape_fault, tags_fault};
 ghost use Rattle.gu_msgs.specs.Standings.{AreStandings, IsStanding, IsTable};
-ghost use Rattle.gu_msgs.specs.Tables.{body_rows, outer_rows};
+ghost use Rattle.gu_msgs.specs.Tables.{body_rows, entry_rows, outer_rows};
 ghost use Rattle.gu_msgs.specs.Values.{is_numeral};
 
 use crate::allocation_instruction::{NO_ALLOCS_ROW, NO_EXECS_ROW};
@@ -18,7 +18,7 @@ use crate::row::Row;
 use crate::run::Run;
 use crate::standings::{NONE_STANDS, Standings, missing, standings, value_numbered};
 use crate::tables::{entry_rows, outer_rows};
-use crate::tags::{NO_ALLOCS, NO_EXECS, NO_SIDES};
+use crate::tags::{ACCOUNT, NO_ALLOCS, NO_EXECS, NO_SIDES, SIDE};
 use crate::trade_capture_report::NO_SIDES_ROW;
 use crate::whole_number::{is_numeral, number_of};
 
@@ -116,6 +116,28 @@ fn counted_fault(counter: u32, text: &[u8], group: &Run<'_>, rows: &[Row]) -> Op
     }
 }
 
+/// Returns whether a group is a side and its account, and is counted as one, as in nearly every report.
+#[inline(always)]
+fn is_one_side(text: &[u8], group: &Run<'_>) -> bool
+    ensures { IsTrue result → counted_fault (entry_rows NO_SIDES) NO_SIDES (Some text.now) (entries_begun (entry_rows NO_SIDES) group.now) ≡ None }
+{
+    if text.len() != 1 {
+        return false;
+    }
+    if text[0] != b'1' {
+        return false;
+    }
+    if group.len() != 2 {
+        return false;
+    }
+    let side = group.get(0);
+    let account = group.get(1);
+    if side.tag != SIDE {
+        return false;
+    }
+    account.tag == ACCOUNT
+}
+
 /// Returns the first fault of the group with this counter, given the number of the counter's first field.
 #[inline(always)]
 fn group_fault(fields: &Run<'_>, msg_type: MsgType, counter: u32, number: usize) -> Option<Fault>
@@ -127,7 +149,13 @@ fn group_fault(fields: &Run<'_>, msg_type: MsgType, counter: u32, number: usize)
         return None;
     }
     match value_numbered(fields, number) {
-        Some(text) => counted_fault(counter, text, &group_after(fields, msg_type, number), rows),
+        Some(text) => {
+            let group = group_after(fields, msg_type, number);
+            if counter == NO_SIDES && is_one_side(text, &group) {
+                return None;
+            }
+            counted_fault(counter, text, &group, rows)
+        }
         None => None,
     }
 }

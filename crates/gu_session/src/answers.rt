@@ -1,6 +1,6 @@
 //! Answers to requests handed out.
 
-ghost use Rattle.std.specs.Prelude.{◌≡◌, IfOk};
+ghost use Rattle.std.specs.Prelude.{◌≡◌, ◌∷◌, [], IfOk, IfSome, Some};
 ghost use Rattle.std.specs.Option.{option_copied};
 ghost use Rattle.gu_session.specs.AnswerRules.{answer_messages, asked_by, command_messages, entered, messages_to};
 ghost use Rattle.gu_session.specs.Given.{messages_in};
@@ -10,7 +10,8 @@ use crate::answer::Answer;
 use crate::ask_ref::AskRef;
 use crate::input::{Failure, Outcome};
 use crate::logged_on::Waiting;
-use gu_msgs::{Question, Rejection, positions_answer};
+use gu_msgs::outbound::Body;
+use gu_msgs::{Question, Rejection, positions_answer, report_ack};
 use gu_terms::Reply;
 use std::alloc::{AllocError, Global};
 
@@ -85,6 +86,23 @@ fn asked_by(reference: AskRef, waiting: &[Waiting]) -> Option<&Waiting>
         }
     }
     None
+}
+
+/// Returns the acknowledgement that answers the request with this reference, if that is a report and the outcome is of its kind.
+#[inline(always)]
+pub fn report_answer(waiting: &[Waiting], reference: AskRef, outcome: &Outcome) -> Option<Body>
+    ensures { IfSome result (λ body. messages_to waiting.now reference outcome.now ≡ Some (body ∷ [])) }
+{
+    let Some(one) = asked_by(reference, waiting) else {
+        return None;
+    };
+    let Question::Report { id, match_id } = &one.question else {
+        return None;
+    };
+    let Some(why) = entered(&one.question, outcome) else {
+        return None;
+    };
+    Some(report_ack(*id, *match_id, why))
 }
 
 /// Returns the messages that answer the request with this reference, given its outcome.

@@ -11,7 +11,7 @@ use crate::seq_num::SeqNum;
 use gu_fix::{FieldFault, Fields, Frame, fields_over, into_fields};
 use gu_msgs::{
     Fault, HeaderRef, ReadMessage, SessionRejectReason, TypeCode, header_in, is_numeral, number_of,
-    read_with_header,
+    read_with_header, short_number,
 };
 use gu_terms::FirmId;
 use std::alloc::{AllocError, Global};
@@ -19,19 +19,30 @@ use std::alloc::{AllocError, Global};
 /// The house's name as a target.
 const HOUSE: &[u8] = b"GIVEUP";
 
-/// Returns the number in a text, if a message can have it.
-fn number_in(text: Option<&[u8]>) -> Option<SeqNum>
-    ensures { IsNumberIn (option_map (λ bytes. bytes.now) text.entry) result }
+/// Returns the number in a text of any length, if a message can have it.
+#[inline(never)]
+fn number_in_any(text: &[u8]) -> Option<SeqNum>
+    ensures { IsNumberIn (Some text.now) result }
 {
-    let Some(text) = text else {
-        return None;
-    };
     if !is_numeral(text) {
         return None;
     }
     match number_of(text) {
         Some(number) => SeqNum::new(number),
         None => None,
+    }
+}
+
+/// Returns the number in a text, if a message can have it. Most are short.
+fn number_in(text: Option<&[u8]>) -> Option<SeqNum>
+    ensures { IsNumberIn (option_map (λ bytes. bytes.now) text.entry) result }
+{
+    let Some(text) = text else {
+        return None;
+    };
+    match short_number(text) {
+        Some(number) => SeqNum::new(number),
+        None => number_in_any(text),
     }
 }
 

@@ -13,7 +13,7 @@ ghost use Rattle.gu_session.specs.declared.plan.Course.TheVariants.{Go};
 ghost use Rattle.gu_session.specs.declared.logged_on.LoggedOn.{LoggedOn as LoggedOnOf};
 
 use crate::answer::Answer;
-use crate::answers::answer_to;
+use crate::answers::{answer_to, report_answer};
 use crate::ask_ref::AskRef;
 use crate::carrying::is_over;
 use crate::course::{
@@ -371,7 +371,31 @@ impl Session {
         self.send(&body, None, now, output)
     }
 
-    /// Takes the answer to the request with this reference in the same way.
+    /// Sends the messages that answer the request with this reference.
+    #[inline(never)]
+    fn answer_any(
+        &mut self,
+        reference: AskRef,
+        outcome: &Outcome,
+        now: Moment,
+        output: &mut Vec<u8>,
+    ) -> Result<Taken, AllocError>
+        requires { self.old.is_closed ≡ false }
+        ensures steps { IfOk result (λ taken. StepsOnto self.old (Input.Answer reference outcome.now) now output.old.items output.new.items taken self.new) }
+        ensures refused { OnErr result (self.new ≡ self.old) }
+        ensures kept { OnErr result (output.new.items ≡ output.old.items) }
+    {
+        let answer = answer_to(self.alloc, &self.state.waiting, reference, outcome)?;
+        match &answer {
+            Answer::One(body) => self.send(body, Some(reference), now, output),
+            _ => {
+                let course = answer_course(&self.state.at, reference, &answer);
+                self.follow(course, now, output)
+            }
+        }
+    }
+
+    /// Takes the answer to the request with this reference in the same way. Most acknowledge a report.
     pub fn answer_onto(
         &mut self,
         reference: AskRef,
@@ -387,13 +411,9 @@ impl Session {
         if state.is_closed {
             return Ok(Taken::nothing());
         }
-        let answer = answer_to(self.alloc, &state.waiting, reference, outcome)?;
-        match &answer {
-            Answer::One(body) => self.send(body, Some(reference), now, output),
-            _ => {
-                let course = answer_course(&self.state.at, reference, &answer);
-                self.follow(course, now, output)
-            }
+        match report_answer(&state.waiting, reference, outcome) {
+            Some(body) => self.send(&body, Some(reference), now, output),
+            None => self.answer_any(reference, outcome, now, output),
         }
     }
 
