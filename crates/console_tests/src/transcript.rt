@@ -10,7 +10,7 @@ use crate::opening::{annals_of, desk_of};
 use gu_book::Book;
 use gu_console::{Console, Operator, Said};
 use gu_desk::{BlankAnnals, Desk, EntryLedger, LotLedger};
-use gu_houses::{SeatReceipts, Tally};
+use gu_houses::{DeskAccess, DeskTools, SeatReceipts, Tally};
 use std::alloc::Global;
 use std::marker::Brand;
 use std::process::Abort;
@@ -35,13 +35,19 @@ pub fn operator_of<'a, E: EntryLedger, S: LotLedger, R: Wait>(
     seat: SeatReceipts<E, S>,
     is_watch: bool,
 ) -> Operator<'a, E, S, R, TestOffice, Heard> {
-    let console = Console {
-        alloc: room.alloc,
+    let access = DeskAccess {
         rt: room.rt,
         desk: room.desk,
-        office: room.office,
+    };
+    let tools = DeskTools {
+        access,
         tally: room.tally,
         informs: room.heard,
+    };
+    let console = Console {
+        alloc: room.alloc,
+        tools,
+        office: room.office,
         is_watch,
     };
     Operator::new(console, seat)

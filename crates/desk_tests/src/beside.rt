@@ -9,7 +9,7 @@ use crate::sample::{A_TRADE, book_of, command_of, group_of};
 use gu_book::Book;
 use gu_desk::{BlankAnnals, Desk, EntryLedger, Gate, LotLedger, Seat, SweepError};
 use gu_flow::{Proposal, propose};
-use gu_houses::SeatReceipts;
+use gu_houses::{DeskAccess, SeatReceipts};
 use gu_terms::{Entry, Group};
 use gu_view::View;
 use std::alloc::{AllocError, Global};
@@ -179,7 +179,7 @@ fn sweep_with_receipts<E: EntryLedger, S: LotLedger, R: Wait>(
     group: Group,
     gate: &AfterLines<'_>,
 ) -> (Result<(u64, u64), SweepError>, u64) {
-    let swept = match seat.sweep(rt, desk, group, gate) {
+    let swept = match seat.sweep(&DeskAccess { rt, desk }, group, gate) {
         Ok(swept) => Ok((swept.number, swept.lots)),
         Err(error) => Err(error),
     };

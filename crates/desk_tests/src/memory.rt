@@ -217,7 +217,7 @@ fn reader_after<E: EntryLedger, S: LotLedger, R: Wait>(
         Err(_) => held.enter(seat, &command, None).ok()?,
     };
     let Entered { number, reply, .. } = entered;
-    let reader = Reader::new(alloc, &mut *held, seat, number);
+    let reader = Reader::new(alloc, &mut *held, seat);
     let entry = Entry::Asked { command, reply };
     Some((Receipt { number, entry }, reader))
 }

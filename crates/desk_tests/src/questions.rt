@@ -5,7 +5,7 @@ use crate::sample::{SEVEN_LOTS, book_of, command_of, group_of};
 use gu_book::Book;
 use gu_desk::{
     Committed, Desk, Direct, Entered, EntryLedger, FirmFilter, FirmPlace, LotLedger, Question,
-    Seat, SweepError,
+    Seat, SweepError, SweepPlan,
 };
 use gu_terms::FirmId;
 use std::alloc::{AllocError, Global};
@@ -74,7 +74,12 @@ fn sweep<E: EntryLedger, S: LotLedger, R: Wait + Abort>(
     seat: &mut Seat<E, S>,
 ) {
     let group = group_of("G1").expect(rt, "a group");
-    let swept = desk.sweep(rt, seat, &group, 3, &Direct);
+    let plan = SweepPlan {
+        group,
+        tries: 3,
+        gate: &Direct,
+    };
+    let swept = desk.sweep(rt, seat, &plan);
     let Committed {
         receipt,
         informs,
@@ -92,8 +97,12 @@ fn refuse<E: EntryLedger, S: LotLedger, R: Wait + Abort>(
     seat: &mut Seat<E, S>,
     count: &mut Count,
 ) {
-    let unknown = group_of("G9").expect(rt, "a name");
-    let refused = desk.sweep(rt, seat, &unknown, 3, &Direct);
+    let unknown = SweepPlan {
+        group: group_of("G9").expect(rt, "a name"),
+        tries: 3,
+        gate: &Direct,
+    };
+    let refused = desk.sweep(rt, seat, &unknown);
     assert_eq!(rt; refused.err(), Some(SweepError::UnknownGroup));
     count.is_refused = true;
     assert!(rt; desk.hold(rt).put(seat, count).is_err());

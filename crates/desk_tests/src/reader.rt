@@ -1,7 +1,5 @@
 //! A reader of a desk's one history.
 
-ghost use Rattle.std.specs.Prelude.{◌≡◌, length};
-
 use gu_book::Book;
 use gu_desk::{EntryLedger, Front, LockedBook, LotLedger, Seat};
 use gu_terms::Entry;
@@ -11,37 +9,27 @@ use std::process::Abort;
 /// What was read of a desk's history from a front on, and the front after it.
 pub struct Reader<E: EntryLedger> {
     front: Front<E>,
-    place: usize,
     entries: Vec<Entry>,
-    ghost here: { place ≡ length front },
 }
 
 // By hand, so that each exit of a caller drops a reader by one call.
 impl<E: EntryLedger> Drop for Reader<E> {
     fn drop(self) {
-        let Reader {
-            front,
-            place: _,
-            entries,
-        } = self;
+        let Reader { front, entries } = self;
         drop(front);
         drop(entries);
     }
 }
 
 impl<E: EntryLedger> Reader<E> {
-    /// Creates a reader that goes on after the entry of this number, the last one that a seat has seen.
+    /// Creates a reader that goes on after the last entry that a seat has seen.
     pub fn new<S: LotLedger>(
         alloc: Global,
         held: &mut LockedBook<E, S>,
         seat: &mut Seat<E, S>,
-        number: u64,
-    ) -> Self
-        requires { number ≡ length seat.old.front }
-    {
+    ) -> Self {
         Reader {
             front: held.front(seat),
-            place: number as usize,
             entries: Vec::new(alloc),
         }
     }
@@ -52,10 +40,7 @@ impl<E: EntryLedger> Reader<E> {
         held: &mut LockedBook<E, S>,
         most: usize,
     ) -> Result<(), AllocError> {
-        let before = self.entries.len();
-        let read = held.entries_from(&mut self.front, self.place, most, &mut self.entries);
-        self.place += self.entries.len() - before;
-        read
+        held.entries_from(&mut self.front, most, &mut self.entries)
     }
 
     /// Has a seat see what was read, and all that came since.
@@ -65,7 +50,7 @@ impl<E: EntryLedger> Reader<E> {
 
     /// Returns the number of the last entry that was read.
     pub fn number(&self) -> usize {
-        self.place
+        self.front.count()
     }
 
     /// Returns how many entries are kept.
@@ -81,8 +66,8 @@ impl<E: EntryLedger> Reader<E> {
     /// Compares the entries that were read with the last ones of a book.
     pub fn compare(&self, rt: &impl Abort, book: &Book) {
         let history = book.history();
-        assert_eq!(rt; self.place, history.len());
-        let mut number = (self.place as u64)
+        assert_eq!(rt; self.number(), history.len());
+        let mut number = (self.number() as u64)
             .checked_sub(self.entries.len() as u64)
             .expect(rt, "as many entries");
         for entry in &self.entries {

@@ -4,7 +4,7 @@ use crate::opening::{DeskDay, closed, open_and_spend};
 use crate::reader::Reader;
 use crate::sample::{A_TRADE, book_of, command_of};
 use gu_book::Book;
-use gu_desk::{Answer, Desk, Entered, EntryLedger, LotLedger, Seat};
+use gu_desk::{Answer, Desk, EntryLedger, LotLedger, Seat};
 use gu_terms::{FirmId, Query};
 use std::alloc::Global;
 use std::process::Abort;
@@ -47,10 +47,8 @@ fn reader_after<E: EntryLedger, S: LotLedger, R: Wait + Abort>(
 ) -> Reader<E> {
     let command = command_of(alloc, line).expect(rt, "a command");
     let mut held = desk.hold(rt);
-    let Ok(Entered { number, .. }) = held.enter(seat, &command, None) else {
-        panic!(rt; "no entry");
-    };
-    Reader::new(alloc, &mut *held, seat, number)
+    assert!(rt; held.enter(seat, &command, None).is_ok());
+    Reader::new(alloc, &mut *held, seat)
 }
 
 /// A line that is entered from another seat, at most how many entries are read then, and how many there are.

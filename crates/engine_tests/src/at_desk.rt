@@ -5,7 +5,7 @@ use crate::desks::{Asking, open_and_ask};
 use gu_book::Book;
 use gu_desk::{Desk, EntryLedger, FirmFilter, FirmMessage, LotLedger, Origin};
 use gu_engine::{Ask, House};
-use gu_houses::{AtDesk, Informs, OpenOrders, Orders, SeatReceipts, Tally};
+use gu_houses::{AtDesk, DeskAccess, DeskTools, Informs, OpenOrders, Orders, SeatReceipts, Tally};
 use gu_msgs::Request;
 use gu_terms::{AccountId, FirmId, Moment, Query};
 use gu_text::Line;
@@ -143,7 +143,12 @@ impl Asking for EachMessage {
         };
         let seat = seats.pop().expect(rt, "a seat");
         let orders = Orders::new(&to, &open, 0);
-        let mut house = AtDesk::new(rt, desk, &tally, &heard, seat, orders);
+        let tools = DeskTools {
+            access: DeskAccess { rt, desk },
+            tally: &tally,
+            informs: &heard,
+        };
+        let mut house = AtDesk::new(tools, seat, orders);
         ask_all(rt, alloc, &mut house, &heard);
         assert_eq!(rt; house.into_seat().seen(), 4);
         drop(from);

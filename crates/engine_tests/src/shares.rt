@@ -6,7 +6,8 @@ use gu_book::Book;
 use gu_desk::{Desk, Direct, EntryLedger, FirmFilter, LotLedger, Origin};
 use gu_engine::{Ask, House};
 use gu_houses::{
-    AtDesk, Informs, OpenOrders, Orders, Part, Quota, SeatReceipts, Shares, Tally, WithinShares,
+    AtDesk, DeskAccess, DeskTools, Informs, OpenOrders, Orders, Part, Quota, SeatReceipts, Shares,
+    Tally, WithinShares,
 };
 use gu_msgs::Request;
 use gu_session::{Failure, Outcome};
@@ -133,7 +134,7 @@ fn sweep<E: EntryLedger, S: LotLedger, R: Wait + Abort>(
     want: &str,
 ) {
     let group = Group::new(b"G1").expect(rt, "a group");
-    let swept = sweeper.sweep(rt, desk, group, &Direct);
+    let swept = sweeper.sweep(&DeskAccess { rt, desk }, group, &Direct);
     let lots = swept.ok().expect(rt, "a sweep").lots;
     assert_eq!(rt; Some(lots), want.parse::<u64>().ok(), "a sweep");
 }
@@ -179,7 +180,12 @@ impl Asking for EachWithin {
         let mut sweeper = seats.pop().expect(rt, "a seat");
         let orders = Orders::new(&to, &open, 0);
         let nobody = Nobody;
-        let house = AtDesk::new(rt, desk, &tally, &nobody, seat, orders);
+        let tools = DeskTools {
+            access: DeskAccess { rt, desk },
+            tally: &tally,
+            informs: &nobody,
+        };
+        let house = AtDesk::new(tools, seat, orders);
         let mut house = WithinShares::new(house, Some(&self.shares));
         ask_all(rt, alloc, desk, &mut house, &mut sweeper);
         drop(house);

@@ -53,11 +53,8 @@ fn console_of<'s, E: EntryLedger, S: LotLedger, R: Wait + Clock>(
 ) -> Console<'s, E, S, R, Floor<'s, E, S, R>, OperatorInformer<'s, R>> {
     Console {
         alloc: floor.alloc,
-        rt: floor.rt,
-        desk: floor.desk,
+        tools: floor.tools(floor.operator_informer),
         office: floor,
-        tally: floor.tally,
-        informs: floor.operator_informer,
         is_watch,
     }
 }

@@ -8,7 +8,7 @@ use crate::informer::{Informer, OperatorInformer};
 use crate::kept_bell::KeptBell;
 use crate::service::Service;
 use gu_desk::{Desk, EntryLedger, LotLedger};
-use gu_houses::{OpenOrders, Shares, Tally};
+use gu_houses::{DeskAccess, DeskTools, OpenOrders, Shares, Tally};
 use gu_lease::{Clocks, Gate};
 use gu_log::{Event, EventLog};
 use gu_posts::Posts;
@@ -76,6 +76,18 @@ impl<'a, E: EntryLedger, S: LotLedger, R> Floor<'a, E, S, R> {
             admission: self.firm_places,
             posts: self.posts,
             gate: self.gate,
+        }
+    }
+
+    /// Returns what a seat works with, given what informs firms of its entries.
+    pub fn tools<I>(&self, informs: &'a I) -> DeskTools<'a, E, S, R, I> {
+        DeskTools {
+            access: DeskAccess {
+                rt: self.rt,
+                desk: self.desk,
+            },
+            tally: self.tally,
+            informs,
         }
     }
 

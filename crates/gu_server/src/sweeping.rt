@@ -51,14 +51,15 @@ fn sweep<E: EntryLedger, S: LotLedger, R: Wait + Clock>(
         return;
     };
     let gate = CountingGate::new();
-    match seat.sweep(floor.rt, floor.desk, group, &gate) {
+    let tools = floor.tools(floor.informer);
+    match seat.sweep(&tools.access, group, &gate) {
         Ok(swept) => {
             let origin = Origin {
                 moment,
                 message: None,
             };
-            floor.tally.add_sweep(swept.lots);
-            floor.informer.inform(swept.number, swept.informs, origin);
+            tools.tally.add_sweep(swept.lots);
+            tools.informs.inform(swept.number, swept.informs, origin);
             floor.note(Event::Swept(CommittedSweep {
                 group,
                 entry: swept.number,

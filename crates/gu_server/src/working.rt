@@ -110,7 +110,7 @@ fn work<E: EntryLedger, S: LotLedger, R: Wait + Clock>(
         settings: settings_of(floor, number),
     };
     let due = Orders::new(&orders, floor.open_orders, floor.every);
-    let desk = AtDesk::new(floor.rt, floor.desk, floor.tally, floor.informer, seat, due);
+    let desk = AtDesk::new(floor.tools(floor.informer), seat, due);
     let shared = WithinShares::new(desk, floor.shares);
     let house = DeskHouse::new(shared, floor.rt, floor.log);
     Some(turn_all(floor, house, bench).into_seat())
